@@ -1,0 +1,2 @@
+pub mod LawsLayout
+pub mod LawsRecords

@@ -1,0 +1,42 @@
+-- Document 01, 'The program file': what it is for bytes to be a program file. A file can be read exactly when this holds of its
+-- bytes and some program (`program_file`, proofs/Theorem.antt). Assumes nothing.
+use mathlib.Core.Path.{_≡_}
+use mathlib.Core.Bool.{true}
+use mathlib.Core.List.{List}
+use Prim.Native.Nat.{ℕ, _≤_}
+use lib.ListN.{length}
+use Rattle.oat.specs.Tables.{Tables, fileOf}
+use Rattle.oat.specs.TypeRules.{typesRight}
+use Rattle.oat.specs.TableRules.{tablesRight}
+use Rattle.oat.specs.Syntax.{Decl, sizeDecls, depthDecls}
+use Rattle.oat.specs.Nodes.{DeclsStand}
+
+-- the two limits: a type's parts, and the depth of nodes. Document 01 has 200 and 100.
+pub record Limits : Type 0 where
+  pub parts : ℕ
+  pub depth : ℕ
+
+-- a program: its sections, and the trees of its declarations
+pub record Program : Type 0 where
+  pub tables : Tables
+  pub declarations : List Decl
+
+-- each section has at most this many records
+pub record Counts (T : Tables) : Type 0 where
+  pub types : length (T .types) ≤ 512
+  pub list : length (T .list) ≤ 1024
+  pub fields : length (T .fields) ≤ 1024
+  pub structs : length (T .structs) ≤ 256
+  pub builtIns : length (T .builtIns) ≤ 128
+  pub nodes : length (T .nodes) ≤ 4096
+
+-- the bytes are a program file, that of p: the sections stand end to end, every record keeps its rule, and the trees of the
+-- declarations stand from node 0 on, use up the nodes and keep to the depth
+pub record IsFile (limits : Limits) (bytes : List ℕ) (p : Program) : Type 0 where
+  pub layout : bytes ≡ fileOf (p .tables)
+  pub counts : Counts (p .tables)
+  pub types : typesRight (limits .parts) (p .tables) ≡ true
+  pub tables : tablesRight (p .tables) ≡ true
+  pub stand : DeclsStand (p .tables) 0 (p .declarations)
+  pub used-up : sizeDecls (p .declarations) ≡ length (p .tables .nodes)
+  pub deep : depthDecls (p .declarations) ≤ limits .depth
