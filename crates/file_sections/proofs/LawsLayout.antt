@@ -117,7 +117,7 @@ pub record FrontStood (s : List ℕ) (S : Sections) : Type 0 where
   pub list-at : S .«list_at» ≡ list + 1
   pub fields-at : S .«fields_at» ≡ fields + 1
 
-then-good : (a : Section) (k : ℕ → ℕ → Reading) (S : Sections) → Good S ≡ thenSection a k → (n next : ℕ) × (a ≡ Counted n next) × (Good S ≡ k n next)
+pub then-good : (a : Section) (k : ℕ → ℕ → Reading) (S : Sections) → Good S ≡ thenSection a k → (n next : ℕ) × (a ≡ Counted n next) × (Good S ≡ k n next)
 then-good (Bad n) k S e = absurd (let z : _≡_ {A = ℕ} 0 1 = cc in omega arith)
 then-good (Counted n next) k S e = (n, next, refl, e)
 

@@ -1,2 +1,3 @@
+pub mod LawsFile
 pub mod LawsLayout
 pub mod LawsRecords

@@ -1,1 +1,2 @@
 pub mod LawsBasics
+pub mod LawsNodes
