@@ -278,7 +278,7 @@ accepted s at most size n next e h k l =
     rw (k, same) (counted s at most size (omega arith) n e h (rw (← same, ← k) l))
 
 -- where the sections of these tables stand
-abbrev pub sectionsFor : Tables → Sections
+unfoldable pub sectionsFor : Tables → Sections
 sectionsFor T =
     let list = 0 + (1 + length (T .types) * 4) in
     let fields = list + (1 + length (T .list) * 1) in
@@ -368,6 +368,7 @@ file-long T =
 
 -- the bytes of tables within their counts are accepted, and these tables are read back
 pub file-accepted : (T : Tables) → Counts T → (Good (sectionsFor T) ≡ sectionsOf (fileOf T)) × (tablesOf (fileOf T) (sectionsFor T) ≡ T)
+unfolding sectionsFor
 file-accepted T c =
     let a = all-found (fileOf T) T _ _ _ _ _ refl refl refl refl refl (record { at = λ j. ap (numberAt (fileOf T)) (zero-add j) ∙ number-of (numbersOf T) j }) in
     let long : length (fileOf T) ≡ (0 + (1 + length (T .types) * 4) + (1 + length (T .list) * 1) + (1 + length (T .fields) * 2) + (1 + length (T .structs) * 3) + (1 + length (T .builtIns) * 2) + (1 + length (T .nodes) * 4)) * 2 = omega (arith, bytes-long (numbersOf T), file-long T) in

@@ -47,7 +47,7 @@ unfolding allBelow
 all-more n p a b = rw (add-one, a, b)
 
 -- below n or n itself
-below-or-last : (P : ℕ → Type 0) (n i : ℕ) → i < suc n → (i < n → P i) → P n → P i
+pub below-or-last : (P : ℕ → Type 0) (n i : ℕ) → i < suc n → (i < n → P i) → P n → P i
 below-or-last P n i h f l = go (ltb i n) refl
   where
     go : (b : Bool) → ltb i n ≡ b → P i

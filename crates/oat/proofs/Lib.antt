@@ -1,2 +1,4 @@
 pub mod LawsBasics
 pub mod LawsNodes
+pub mod LawsTables
+pub mod LawsTypes

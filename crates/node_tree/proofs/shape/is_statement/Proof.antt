@@ -1,0 +1,12 @@
+-- `shape::is_statement` meets its contract. Assumes nothing.
+use borrow.Author.Needs.{needs}
+use Rattle.node_tree.proofs.LawsShape.{statement-from, statement-below}
+use Rattle.node_tree.proofs.shape.is_statement.Statement.{statement}
+use Rattle.node_tree.proofs.shape.is_statement.Tie as tie
+
+pub is-statement-spec : {M : Type 1} → statement M
+is-statement-spec =
+    tie.close
+    (tie.spec
+    (λ c. search (statement-from, needs))
+    (λ c. search (statement-below, needs)))

@@ -1,0 +1,3 @@
+// The rules on the node tree (number 5).
+pub mod shape;
+pub mod tree;

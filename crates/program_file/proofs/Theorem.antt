@@ -1,0 +1,131 @@
+-- A file is read exactly when its bytes are a program file, and then they are the file of one program alone (`readable`). Its
+-- tables are those that the readers of records give (`read-tables`). Assumes nothing.
+use mathlib.Core.Path.{_≡_, refl, ap, sym, _∙_, subst}
+use mathlib.Core.Bool.{Bool, true, false}
+use mathlib.Core.List.{List}
+use mathlib.Core.Logic.{_↔_}
+use Prim.Native.Nat.{ℕ, _<_}
+use native.Mathlib.Omega.{arith}
+use lib.ListN.{length, getD}
+use Rattle.oat.specs.Basics.{pick}
+use Rattle.oat.specs.Tables.{Tables, fileOf}
+use Rattle.oat.specs.TypeRules.{typesRight}
+use Rattle.oat.specs.TableRules.{tablesRight}
+use Rattle.oat.specs.Syntax.{Decl, sizeDecls, depthDecls}
+use Rattle.oat.specs.Nodes.{DeclsStand}
+use Rattle.oat.specs.ProgramFile.{Limits, Program, Counts, IsFile}
+use Rattle.oat.proofs.LawsNodes.{same-trees}
+use Rattle.file_sections.specs.declared.Sections.{Sections}
+use Rattle.file_sections.specs.declared.Reading.{Reading}
+use Rattle.file_sections.specs.declared.Reading.the-variants.{Refused, Good}
+use Rattle.file_sections.specs.Layout.{Laid, thenReading, sectionsOf, tablesOf}
+use Rattle.file_sections.proofs.LawsFile.{AllStood, all-stood, file-is, sectionsFor, file-accepted}
+use Rattle.file_sections.proofs.LawsRecords.{types-long, list-long, fields-long, structs-long, built-ins-long, nodes-long}
+use Rattle.node_tree.specs.Tree.{treesRight}
+use Rattle.node_tree.proofs.Accepted.{trees-accepted}
+use Rattle.node_tree.proofs.Found.{trees-found}
+use Rattle.program_file.specs.Reading.{readingOf}
+
+-- the list holds bytes
+pub record Bytes (s : List ℕ) : Type 0 where
+  pub each : (i : ℕ) → getD s i 0 < 256
+
+-- what an accepted reading says
+pub record Accepted (limits : Limits) (s : List ℕ) (S : Sections) : Type 0 where
+  pub sections : Good S ≡ sectionsOf s
+  pub types : typesRight (limits .parts) (tablesOf s S) ≡ true
+  pub tables : tablesRight (tablesOf s S) ≡ true
+  pub trees : treesRight (limits .depth) (tablesOf s S) ≡ true
+
+-- a test that was passed, or a refusal
+passed : (b : Bool) (r : Reading) (n : ℕ) (S : Sections) → pick b r (Refused n) ≡ Good S → (b ≡ true) × (r ≡ Good S)
+passed true r n S e = (refl, e)
+passed false r n S e = absurd (let z : _≡_ {A = ℕ} 0 1 = cc in omega arith)
+
+then-good : (r : Reading) (k : Sections → Reading) (S : Sections) → thenReading r k ≡ Good S → (F : Sections) × (r ≡ Good F) × (k F ≡ Good S)
+then-good (Refused n) k S e = absurd (let z : _≡_ {A = ℕ} 0 1 = cc in omega arith)
+then-good (Good F) k S e = (F, refl, e)
+
+accepted-at : (limits : Limits) (s : List ℕ) (S F : Sections) → sectionsOf s ≡ Good F → pick (typesRight (limits .parts) (tablesOf s F)) (pick (tablesRight (tablesOf s F)) (pick (treesRight (limits .depth) (tablesOf s F)) (Good F) (Refused 5)) (Refused 4)) (Refused 3) ≡ Good S → Accepted limits s S
+accepted-at limits s S F e k =
+    let (a, k3) = passed (typesRight (limits .parts) (tablesOf s F)) (pick (tablesRight (tablesOf s F)) (pick (treesRight (limits .depth) (tablesOf s F)) (Good F) (Refused 5)) (Refused 4)) 3 S k in
+    let (b, k4) = passed (tablesRight (tablesOf s F)) (pick (treesRight (limits .depth) (tablesOf s F)) (Good F) (Refused 5)) 4 S k3 in
+    let (c, k5) = passed (treesRight (limits .depth) (tablesOf s F)) (Good F) 5 S k4 in
+    let same : F ≡ S = cc in
+    subst (Accepted limits s) same (record { sections = sym e; types = a; tables = b; trees = c })
+
+pub accepted : (limits : Limits) (s : List ℕ) (S : Sections) → readingOf limits s ≡ Good S → Accepted limits s S
+unfolding readingOf
+accepted limits s S e = let (F, f, k) = then-good (sectionsOf s) _ S e in accepted-at limits s S F f k
+
+accepts : (limits : Limits) (s : List ℕ) (S : Sections) → Accepted limits s S → readingOf limits s ≡ Good S
+unfolding readingOf
+accepts limits s S a = rw (← a .sections, a .types, a .tables, a .trees)
+
+counts : (s : List ℕ) (S : Sections) → Laid s S → Counts (tablesOf s S)
+counts s S l = record {
+  types = rw types-long (l .types-most);
+  list = rw list-long (l .list-most);
+  fields = rw fields-long (l .fields-most);
+  structs = rw structs-long (l .structs-most);
+  builtIns = rw built-ins-long (l .built-ins-most);
+  nodes = rw nodes-long (l .nodes-most);
+}
+
+-- an accepted file is the file of a program
+pub program-of : (limits : Limits) (s : List ℕ) (S : Sections) → Bytes s → readingOf limits s ≡ Good S → (p : Program) × IsFile limits s p
+program-of limits s S b e =
+    let a = accepted limits s S e in
+    let w = all-stood s S (a .sections) in
+    let (ds, stand, used, deep) = trees-found (limits .depth) (tablesOf s S) (a .trees) in (
+      record { tables = tablesOf s S; declarations = ds },
+      record {
+        layout = file-is s S (b .each) w;
+        counts = counts s S (w .laid);
+        types = a .types;
+        tables = a .tables;
+        stand = stand;
+        used-up = used;
+        deep = deep;
+      },
+    )
+
+-- the file of a program is accepted, with the program's tables
+pub reading-of : (limits : Limits) (s : List ℕ) (p : Program) → IsFile limits s p → (readingOf limits s ≡ Good (sectionsFor (p .tables))) × (tablesOf s (sectionsFor (p .tables)) ≡ p .tables)
+reading-of limits s p f =
+    let T = p .tables in
+    let (good, back) = file-accepted T (f .counts) in
+    let trees = trees-accepted (limits .depth) T (p .declarations) (f .stand) (f .used-up) (f .deep) in
+    let a : Accepted limits (fileOf T) (sectionsFor T) =
+    record { sections = good; types = rw back (f .types); tables = rw back (f .tables); trees = rw back trees } in
+    subst (λ (z : List ℕ). (readingOf limits z ≡ Good (sectionsFor T)) × (tablesOf z (sectionsFor T) ≡ T)) (sym (f .layout))
+    (accepts limits (fileOf T) (sectionsFor T) a, back)
+
+-- the tables of a program are those that the readers of records give
+pub read-tables : (limits : Limits) (s : List ℕ) (S : Sections) (p : Program) → readingOf limits s ≡ Good S → IsFile limits s p → p .tables ≡ tablesOf s S
+read-tables limits s S p e f =
+    let (good, back) = reading-of limits s p f in
+    let same : sectionsFor (p .tables) ≡ S = cc in
+    sym back ∙ ap (tablesOf s) same
+
+same-program : (p q : Program) → p .tables ≡ q .tables → p .declarations ≡ q .declarations → p ≡ q
+same-program p q t d = λ i. record { tables = t i; declarations = d i }
+
+same-declarations : (T U : Tables) (ds es : List Decl) → T ≡ U → DeclsStand T 0 ds → DeclsStand U 0 es → sizeDecls ds ≡ length (T .nodes) → sizeDecls es ≡ length (U .nodes) → ds ≡ es
+same-declarations T U ds es e a b m n = same-trees U ds es (subst (λ (x : Tables). DeclsStand x 0 ds) e a) b (m ∙ ap (λ (x : Tables). length (x .nodes)) e) n
+
+-- the bytes are the file of one program alone
+pub one-program : (limits : Limits) (s : List ℕ) (p q : Program) → IsFile limits s p → IsFile limits s q → p ≡ q
+one-program limits s p q f g =
+    let tables : p .tables ≡ q .tables = read-tables limits s (sectionsFor (q .tables)) p (reading-of limits s q g .0) f ∙ reading-of limits s q g .1 in
+    same-program p q tables
+    (same-declarations (p .tables) (q .tables) (p .declarations) (q .declarations) tables (f .stand) (g .stand) (f .used-up) (g .used-up))
+
+-- A file is read exactly when its bytes are a program file, and then they are the file of one program alone.
+pub readable : (limits : Limits) (s : List ℕ) → Bytes s → ((S : Sections) × (readingOf limits s ≡ Good S)) ↔ ((p : Program) × IsFile limits s p × ((q : Program) → IsFile limits s q → q ≡ p))
+readable limits s b = (
+  λ read.
+      let (p, f) = program-of limits s (read .0) b (read .1) in
+      (p, f, λ q g. one-program limits s q p g f),
+  λ file. (sectionsFor (file .0 .tables), reading-of limits s (file .0) (file .1) .0),
+)

@@ -1,0 +1,3 @@
+pub mod LawsTypes
+pub mod LawsTables
+pub mod LawsParts
