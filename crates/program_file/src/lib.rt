@@ -12,7 +12,7 @@ pub fn read(file: &[u8]) -> Reading
 }
 
 // Reads a file within the limits on a type's parts and on the depth of nodes.
-pub fn read_within(file: &[u8], parts: usize, depth: usize) -> Reading
+fn read_within(file: &[u8], parts: usize, depth: usize) -> Reading
     requires { ⌜ parts ≤ 200 ⌝ }
     ensures { λ r. ⌜ r ≡ readingOf (limitsOf parts depth) (now (file .entry)) ⌝ }
 {

@@ -1,0 +1,380 @@
+//! Expressions: document 01, "Typing, and where the print is damaged", and
+//! document 001, section 4, up to the rule of unary operators. The order of
+//! premises is that of document 01, "Steps and the order of premises".
+
+use crate::file::{ARRAY, FUNCTION, Four, NULLABLE, STRUCT, VOID, listed, name_type};
+use crate::mutants::{Mutant::*, Rules};
+use crate::types::NONE;
+use crate::typing::{BUILTIN, Checker, Judged, fault};
+
+pub(crate) const INT: u16 = 0;
+pub(crate) const BOOL: u16 = 1;
+const STRING: u16 = 2;
+
+/// What a binary operator takes and gives.
+enum Operator {
+    /// Both operands of one fixed type, and the result.
+    Fixed(u16, u16),
+    /// `==` and `!=`: both subtype directions.
+    Equality,
+}
+
+impl<R: Rules> Checker<'_, R> {
+    /// Types the expression at `next` and moves past its tree.
+    pub(crate) fn expression(&mut self) -> Judged<u16> {
+        let at = self.next;
+        self.next += 1;
+        let n = self.file.node(at);
+        let t = match n.kind() {
+            11 | 12 => BOOL,
+            13 => INT,
+            14 => STRING,
+            15 => return self.name(at, n.x()),
+            10 => self.null(at, n.t())?,
+            16 => self.array_literal(at, n)?,
+            17 => self.default_array(at, n.t())?,
+            18 => self.filled_array(at, n)?,
+            19 => self.index(at)?,
+            20 => self.length(at)?,
+            21 => self.struct_literal(at, n)?,
+            23 => self.field(at, n.x())?,
+            24 => self.call(at, n, false)?,
+            25 => self.unary(at, n.x())?,
+            _ => self.binary(at, n.x())?,
+        };
+        self.rows[at] = [t, NONE];
+        Ok(t)
+    }
+
+    /// An expression that must be of one fixed type; if not, 10 at its parent.
+    pub(crate) fn expression_of(&mut self, t: u16, parent: usize) -> Judged<()> {
+        let child = self.next;
+        if self.expression()? != t {
+            return fault(10, if self.breaks(SortPlace) { child } else { parent });
+        }
+        Ok(())
+    }
+
+    fn name(&mut self, at: usize, x: u16) -> Judged<u16> {
+        let binder = self.find(x);
+        if binder == NONE {
+            return fault(8, at);
+        }
+        let t = self.type_of(binder);
+        let wrong = self.breaks(BuiltinBinderPlain) && binder >= BUILTIN;
+        self.rows[at] = [t, if wrong { binder - BUILTIN } else { binder }];
+        if self.breaks(NameBinderNone) && self.is_local(binder) {
+            self.rows[at][1] = NONE;
+        }
+        Ok(t)
+    }
+
+    /// A type that an expression mentions must be well-formed.
+    fn formed(&self, at: usize, t: u16, free: crate::mutants::Mutant) -> Judged<()> {
+        if self.types.well_formed(t) || self.breaks(free) { Ok(()) } else { fault(9, at) }
+    }
+
+    fn null(&mut self, at: usize, t: u16) -> Judged<u16> {
+        self.formed(at, t, NullTypeFree)?;
+        Ok(if self.breaks(NullResultPlain) { self.file.ty(t).a() } else { t })
+    }
+
+    /// Element type, all elements, all subtypes.
+    fn array_literal(&mut self, at: usize, n: Four) -> Judged<u16> {
+        let element = self.file.ty(n.t()).a();
+        self.formed(at, element, LiteralTypeFree)?;
+        let mut below = true;
+        for _ in 0..n.children() {
+            let t = self.expression()?;
+            below &= self.types.below(t, element);
+            if !below && self.breaks(ElementsOneByOne) {
+                break;
+            }
+        }
+        if !below && !self.breaks(ElementsFree) {
+            return fault(11, at);
+        }
+        Ok(if self.breaks(ArrayResultLowest) { self.types.lowest(n.t()) } else { n.t() })
+    }
+
+    /// Element type, length, then the element's default.
+    fn default_array(&mut self, at: usize, t: u16) -> Judged<u16> {
+        let element = self.file.ty(t).a();
+        if self.breaks(DefaultTypeLast) {
+            self.expression_of(INT, at)?;
+        }
+        self.formed(at, element, DefaultTypeFree)?;
+        let default = element == INT
+            || element == BOOL && !self.breaks(NoDefaultBool)
+            || self.file.kind_of(element) == NULLABLE && !self.breaks(NoDefaultNullable)
+            || element == STRING && self.breaks(DefaultString)
+            || self.file.kind_of(element) == ARRAY && self.breaks(DefaultArray);
+        if !default && self.breaks(DefaultBeforeLength) {
+            return fault(16, at);
+        }
+        if !self.breaks(DefaultTypeLast) {
+            self.expression_of(INT, at)?;
+        }
+        if default { Ok(t) } else { fault(16, at) }
+    }
+
+    /// Element type, length, fresh index name, value under it, subtype.
+    fn filled_array(&mut self, at: usize, n: Four) -> Judged<u16> {
+        let element = self.file.ty(n.t()).a();
+        self.formed(at, element, FilledTypeFree)?;
+        if self.breaks(FreshBeforeLength) {
+            self.fresh(at, n.x())?;
+        }
+        self.expression_of(INT, at)?;
+        if !self.breaks(IndexNameMayHide) {
+            self.fresh(at, n.x())?;
+        }
+        let scope = self.scope;
+        if !self.breaks(IndexNameUnbound) {
+            self.bind(n.x(), at);
+        }
+        let value = self.expression()?;
+        if !self.breaks(IndexNameStays) {
+            self.leave(scope);
+        }
+        if !self.types.below(value, element) && !self.breaks(FilledValueFree) {
+            return fault(11, at);
+        }
+        Ok(n.t())
+    }
+
+    /// The name is not in the scope.
+    pub(crate) fn fresh(&self, at: usize, name: u16) -> Judged<()> {
+        let binder = self.find(name);
+        let local = self.is_local(binder) || binder != NONE && self.breaks(FreshAgainstGlobals);
+        if local { fault(7, at) } else { Ok(()) }
+    }
+
+    fn index(&mut self, at: usize) -> Judged<u16> {
+        let array = self.array(at, !self.breaks(IndexSortLate))?;
+        if self.breaks(IndexFree) {
+            self.expression()?;
+        } else {
+            self.expression_of(INT, at)?;
+        }
+        if self.file.kind_of(array) != ARRAY {
+            return fault(10, at);
+        }
+        let element = self.file.ty(array).a();
+        Ok(if self.breaks(ElementLowest) { self.types.lowest(element) } else { element })
+    }
+
+    /// An expression of an array type, the sort tested directly after it.
+    fn array(&mut self, at: usize, test: bool) -> Judged<u16> {
+        let t = self.expression()?;
+        let kind = self.file.kind_of(t);
+        let inside = self.file.ty(t).a();
+        if kind == NULLABLE && self.breaks(NullableIndexed) && self.file.kind_of(inside) == ARRAY {
+            return Ok(inside);
+        }
+        if kind != ARRAY && test { fault(10, at) } else { Ok(t) }
+    }
+
+    fn length(&mut self, at: usize) -> Judged<u16> {
+        let t = self.array(at, false)?;
+        let string = t == STRING && self.breaks(LengthOfString);
+        if self.file.kind_of(t) != ARRAY && !string {
+            return fault(10, at);
+        }
+        Ok(INT)
+    }
+
+    /// Declared struct, names, values, subtypes.
+    fn struct_literal(&mut self, at: usize, n: Four) -> Judged<u16> {
+        let Some(record) = self.types.record(n.t()) else { return fault(9, at) };
+        let fields = self.file.fields_of(record);
+        if self.breaks(LiteralFieldsFormed) && !fields.iter().all(|f| self.types.well_formed(name_type(f).ty)) {
+            return fault(9, at);
+        }
+        let mut named = self.field_names(at, n.children(), fields);
+        if !self.breaks(NamesAfterValues) {
+            std::mem::replace(&mut named, Ok(()))?;
+        }
+        let mut below = true;
+        for _ in 0..n.children() {
+            let child = self.next;
+            self.next += 1;
+            let t = self.expression()?;
+            self.rows[child] = [if self.breaks(InitializerRowNone) { 0 } else { t }, NONE];
+            let field = self.work[child][0] as usize;
+            below &= fields.get(field).is_some_and(|f| self.types.below(t, name_type(f).ty));
+            if !below && self.breaks(InitializersOneByOne) {
+                return fault(11, at);
+            }
+        }
+        named?;
+        if below || self.breaks(InitializersFree) { Ok(n.t()) } else { fault(11, at) }
+    }
+
+    /// Every field is named once. Leaves each child's field in `work`. The
+    /// first field of a name counts, so a struct that declares a name twice
+    /// has a field that no child can name.
+    fn field_names(&mut self, at: usize, children: u16, fields: &[[u8; 4]]) -> Judged<()> {
+        let mut seen = [0u64; 16];
+        let mut child = self.next;
+        let fewer = self.breaks(FieldsMayMiss) && (children as usize) < fields.len();
+        if children as usize != fields.len() && !fewer {
+            return fault(12, at);
+        }
+        for k in 0..children as usize {
+            let x = self.file.node(child).x();
+            let by_name = |f: &[u8; 4]| name_type(f).name == x;
+            let place = if self.breaks(NoPermutation) && name_type(&fields[k]).name != x {
+                None
+            } else if self.breaks(DoubledFieldNamed) && name_type(&fields[k]).name == x {
+                Some(k)
+            } else {
+                fields.iter().position(by_name)
+            };
+            let Some(field) = place else {
+                return fault(if self.breaks(UnknownFieldIsEight) { 8 } else { 12 }, at);
+            };
+            let again = seen[field / 64] >> (field % 64) & 1 == 1;
+            if again && !self.breaks(FieldNamedTwice) {
+                return fault(12, at);
+            }
+            seen[field / 64] |= 1 << (field % 64);
+            self.work[child][0] = field as u16;
+            child = self.past_tree(child);
+        }
+        Ok(())
+    }
+
+    /// The first node after a tree.
+    fn past_tree(&self, root: usize) -> usize {
+        let (mut at, mut open) = (root, 1usize);
+        while open > 0 {
+            open += self.file.node(at).children() as usize;
+            open -= 1;
+            at += 1;
+        }
+        at
+    }
+
+    fn field(&mut self, at: usize, x: u16) -> Judged<u16> {
+        let t = self.expression()?;
+        let inside = self.file.ty(t).a();
+        let t = match self.file.kind_of(t) {
+            STRUCT => t,
+            NULLABLE if self.breaks(FieldOfNullable) && self.file.kind_of(inside) == STRUCT => inside,
+            _ => return fault(10, at),
+        };
+        let found =
+            self.types.record(t).and_then(|r| self.file.fields_of(r).iter().map(name_type).find(|f| f.name == x));
+        let Some(field) = found else {
+            return fault(if self.breaks(UnknownFieldIsTwelve) { 12 } else { 8 }, at);
+        };
+        Ok(if self.breaks(FieldLowest) { self.types.lowest(field.ty) } else { field.ty })
+    }
+
+    /// Callee, sort, void, count, arguments, subtypes: 24, and 34 with `void`.
+    pub(crate) fn call(&mut self, at: usize, n: Four, void: bool) -> Judged<u16> {
+        let f = self.callee(at)?;
+        let result = f.a();
+        let value_ok =
+            (result == VOID) == void || void && self.breaks(CallStatementOfValue) || !void && self.breaks(CallOfVoid);
+        let count_ok = f.c() == n.children() - 1;
+        if !value_ok && !self.breaks(VoidAfterCount) && !self.breaks(VoidAfterArguments) {
+            return fault(13, at);
+        }
+        let fewer_ok = self.breaks(FewerArguments) && f.c() > n.children() - 1;
+        if !count_ok && !fewer_ok && !self.breaks(CountAfterArguments) {
+            return fault(12, at);
+        }
+        if !value_ok && self.breaks(VoidAfterCount) {
+            return fault(13, at);
+        }
+        self.arguments(at, f, n.children() - 1)?;
+        if !value_ok {
+            return fault(13, at);
+        }
+        if !count_ok && !fewer_ok {
+            return fault(12, at);
+        }
+        Ok(if self.breaks(CallLowest) { self.types.lowest(result) } else { result })
+    }
+
+    fn callee(&mut self, at: usize) -> Judged<Four> {
+        let t = self.expression()?;
+        let f = self.file.ty(t);
+        match f.kind() {
+            FUNCTION => Ok(f),
+            NULLABLE if self.breaks(NullableCalled) && self.file.kind_of(f.a()) == FUNCTION => Ok(self.file.ty(f.a())),
+            _ => fault(10, at),
+        }
+    }
+
+    /// All arguments, then all subtypes.
+    fn arguments(&mut self, at: usize, f: Four, count: u16) -> Judged<()> {
+        let parameters = self.file.parameters(f);
+        let mut below = true;
+        for k in 0..count as usize {
+            let t = self.expression()?;
+            below &= parameters.get(k).is_none_or(|p| self.types.below(t, listed(p)));
+            if !below && self.breaks(ArgumentsOneByOne) {
+                break;
+            }
+        }
+        if below || self.breaks(ArgumentsFree) { Ok(()) } else { fault(11, at) }
+    }
+
+    fn unary(&mut self, at: usize, x: u16) -> Judged<u16> {
+        let t = match x {
+            1 => BOOL,
+            2 if self.breaks(BitNotOfBool) => BOOL,
+            _ => INT,
+        };
+        self.expression_of(t, at)?;
+        Ok(t)
+    }
+
+    fn operator(&self, x: u16) -> Operator {
+        match x {
+            5 if self.breaks(ShiftGivesBool) => Operator::Fixed(INT, BOOL),
+            9 if self.breaks(AtLeastGivesInt) => Operator::Fixed(INT, INT),
+            12 | 13 if self.breaks(AndTakesInts) => Operator::Fixed(INT, INT),
+            14 | 15 if self.breaks(BitAndTakesBools) => Operator::Fixed(BOOL, BOOL),
+            11 if self.breaks(UnequalTakesInts) => Operator::Fixed(INT, BOOL),
+            0..=5 | 14 | 15 => Operator::Fixed(INT, INT),
+            6..=9 => Operator::Fixed(INT, BOOL),
+            12 | 13 => Operator::Fixed(BOOL, BOOL),
+            _ => Operator::Equality,
+        }
+    }
+
+    fn binary(&mut self, at: usize, x: u16) -> Judged<u16> {
+        match self.operator(x) {
+            Operator::Equality => self.equality(at),
+            Operator::Fixed(takes, gives) => {
+                if self.breaks(SortsAfterBoth) {
+                    let (a, b) = (self.expression()?, self.expression()?);
+                    return if a == takes && b == takes { Ok(gives) } else { fault(10, at) };
+                }
+                self.expression_of(takes, at)?;
+                if self.breaks(SecondOperandFree) {
+                    self.expression()?;
+                } else {
+                    self.expression_of(takes, at)?;
+                }
+                Ok(gives)
+            }
+        }
+    }
+
+    /// Both children, then both directions.
+    fn equality(&mut self, at: usize) -> Judged<u16> {
+        let a = self.expression()?;
+        let b = self.expression()?;
+        let there = self.types.below(a, b) || self.breaks(EqualityBackOnly);
+        let back = self.types.below(b, a) || self.breaks(EqualityThereOnly);
+        if !there || !back {
+            return fault(if self.breaks(EqualityIsSort) { 10 } else { 11 }, at);
+        }
+        Ok(BOOL)
+    }
+}

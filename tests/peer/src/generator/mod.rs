@@ -1,0 +1,73 @@
+//! The generator: well-typed programs, near misses, damaged files and files of
+//! the largest sizes, from a seed.
+
+mod bodies;
+mod damage;
+mod large;
+mod misses;
+mod rng;
+mod tables;
+
+use crate::print::{pack, unpack};
+use crate::{check, node_count};
+use rng::Rng;
+
+/// The numbers asked for in turn; 0 stands more often.
+const WANTED: [u16; 20] = [0, 7, 8, 9, 10, 11, 12, 13, 14, 15, 16, 1, 2, 3, 4, 5, 0, 11, 8, 5];
+
+/// How often a file is changed before the number asked for is given up.
+const TRIES: usize = 400;
+
+/// Packed files of all kinds.
+pub fn programs(seed: u64, count: usize) -> Vec<u8> {
+    let mut rng = Rng::new(seed);
+    pack((0..count).map(|i| program(&mut rng, WANTED[i % WANTED.len()])))
+}
+
+/// Packed readable files with rich type tables and without nodes.
+pub fn type_tables(seed: u64, count: usize) -> Vec<u8> {
+    let mut rng = Rng::new(seed ^ 0x7479_7065);
+    pack((0..count).map(|_| tables::rich(&mut rng).bytes()))
+}
+
+/// One accepted file of each large sort.
+pub fn large_files() -> [Vec<u8>; 4] {
+    large::each()
+}
+
+/// How many packed files have each answer number from 0 to 16.
+pub fn tally(many: &[u8]) -> [usize; 17] {
+    let mut counts = [0; 17];
+    for file in unpack(many) {
+        counts[number(file) as usize] += 1;
+    }
+    counts
+}
+
+fn number(file: &[u8]) -> u16 {
+    let size = 2 * node_count(file);
+    check(file, &mut vec![0; size], &mut vec![0; size]).number
+}
+
+/// One file, with the number asked for if it can be had in some tries.
+fn program(rng: &mut Rng, wanted: u16) -> Vec<u8> {
+    if rng.below(250) == 0 {
+        return large::file(rng, wanted);
+    }
+    for _ in 0..TRIES {
+        let file = attempt(rng, wanted);
+        if number(&file) == wanted {
+            return file;
+        }
+    }
+    bodies::typed(rng).bytes()
+}
+
+fn attempt(rng: &mut Rng, wanted: u16) -> Vec<u8> {
+    let p = bodies::typed(rng);
+    match wanted {
+        0 => p.bytes(),
+        1..=5 => damage::damaged(rng, p, wanted),
+        _ => misses::near(rng, p, wanted),
+    }
+}

@@ -1,0 +1,69 @@
+//! The stored vectors hold what the peer prints, and catch every mutant.
+
+use oat_peer::mutants::{ALL, Part};
+use oat_peer::vectors::{QUESTIONS, Question, files, table};
+use oat_peer::{generator, print};
+use std::fs;
+use std::path::PathBuf;
+
+fn path(question: Question, end: &str) -> PathBuf {
+    let root = PathBuf::from(env!("CARGO_MANIFEST_DIR"));
+    root.join("../vectors").join(format!("{}.{end}", question.name()))
+}
+
+fn stored(question: Question) -> Vec<u8> {
+    fs::read(path(question, "bin")).expect("a stored vector")
+}
+
+#[test]
+fn stored_outputs() {
+    for question in QUESTIONS {
+        let packed = stored(question);
+        let shown: String = print::unpack(&packed).into_iter().map(|f| question.show(f)).collect();
+        let expected = fs::read_to_string(path(question, "txt")).expect("a stored output");
+        assert!(shown == expected, "{} differs", question.name());
+    }
+}
+
+#[test]
+fn stored_inputs_are_what_the_command_makes() {
+    for question in QUESTIONS {
+        assert!(files(question) == stored(question), "{} differs", question.name());
+    }
+}
+
+#[test]
+fn sizes() {
+    let size = |q, end| fs::metadata(path(q, end)).expect("a stored file").len();
+    let all: u64 = QUESTIONS.iter().map(|&q| size(q, "bin") + size(q, "txt")).sum();
+    assert!(all <= 3 << 20, "{all} bytes");
+    assert!(print::unpack(&stored(Question::Sub)).len() >= 300);
+}
+
+#[test]
+fn every_mutant_is_caught() {
+    let table = table(&QUESTIONS.map(stored));
+    let survivors: Vec<_> = table.iter().filter(|(_, _, counts)| counts.iter().sum::<usize>() == 0).collect();
+    assert!(survivors.is_empty(), "{survivors:?}");
+    assert!(ALL.len() >= 80);
+    assert!(ALL.iter().filter(|m| m.1 == Part::Reading).count() >= 20);
+    assert_eq!(ALL.iter().filter(|m| m.2.starts_with("slip: ")).count(), 5);
+}
+
+/// Each number but 6 has at least 2 % of the generator's files.
+#[test]
+fn generated_numbers() {
+    let many = generator::programs(11, 3000);
+    assert_eq!(many, generator::programs(11, 3000));
+    let counts = generator::tally(&many);
+    for number in (0..=5).chain(7..=16) {
+        assert!(counts[number] * 50 >= 3000, "{number}: {counts:?}");
+    }
+}
+
+/// Generated type tables can all be read.
+#[test]
+fn generated_tables() {
+    let many = generator::type_tables(12, 500);
+    assert!(print::unpack(&many).into_iter().all(|f| oat_peer::read(f) == 0));
+}
