@@ -1,4 +1,10 @@
 pub mod LawsBasics
+pub mod LawsBelow
+pub mod LawsFormed
 pub mod LawsNodes
+pub mod LawsOrder
+pub mod LawsSame
+pub mod LawsSubtyping
 pub mod LawsTables
 pub mod LawsTypes
+pub mod LawsWritten

@@ -1,7 +1,10 @@
 pub mod Basics
-pub mod Tables
-pub mod TypeRules
-pub mod TableRules
-pub mod Syntax
+pub mod Decide
 pub mod Nodes
 pub mod ProgramFile
+pub mod Subtyping
+pub mod Syntax
+pub mod TableRules
+pub mod Tables
+pub mod TypeRules
+pub mod Types

@@ -1,0 +1,103 @@
+// Reads packed files from standard input, each as 4 length bytes, low first, and then the file, and asks for every pair of its types
+// whether the first is below the second. It prints for each file a line for each type, with 1 for yes and 0 for no, and then a
+// line `--`. The types end where the question is refused under 17; any other refusal is printed.
+use subtyping::question::Answer;
+ghost use Prim.Native.Nat.{_<_};
+
+fn wide(x: u8) -> usize
+    ensures { λ r. ⌜ r < 256 ⌝ }
+{
+    x as usize
+}
+
+// The next four bytes as a length; 65536 where the input has ended.
+fn next_length() -> usize {
+    let mut head = [0u8; 4];
+    let got = io::read_full(0, &mut head);
+    if got < 4 {
+        return 65536;
+    }
+    wide(head[0]) + 256 * wide(head[1])
+}
+
+// Prints 1 or 0; false where the question is refused.
+fn pair(file: &[u8], a: usize, b: usize) -> bool {
+    let answer = subtyping::question::subtype(file, a, b);
+    match answer {
+        Answer::Refused(number) => {
+            if number != 17 {
+                io::print_decimal(1, number as u64);
+            }
+            false
+        }
+        Answer::Yes => {
+            io::write_all(1, b"1");
+            true
+        }
+        Answer::No => {
+            io::write_all(1, b"0");
+            true
+        }
+    }
+}
+
+// Prints the line of the type a; false where the file has no such type.
+fn row(file: &[u8], a: usize) -> bool {
+    let mut b = 0;
+    while b < 600 {
+        if !pair(file, a, b) {
+            break;
+        }
+        b += 1;
+    }
+    if b == 0 {
+        return false;
+    }
+    io::write_all(1, b"\n");
+    true
+}
+
+// Prints the lines of a file.
+fn table(file: &[u8]) {
+    let mut a = 0;
+    while a < 600 {
+        if !row(file, a) {
+            break;
+        }
+        a += 1;
+    }
+    io::write_all(1, b"--\n");
+}
+
+// Reads a file of this length from the input.
+fn read_one(file: &mut [u8], length: usize) {
+    if length <= file.len() {
+        io::read_full(0, &mut file[..length]);
+    }
+}
+
+// Answers a file of this length.
+fn answer_one(file: &[u8], length: usize) {
+    if length <= file.len() {
+        table(&file[..length]);
+    }
+}
+
+// Answers each file of the input, at most `most`.
+fn answer_each(file: &mut [u8], most: usize) {
+    let mut left = most;
+    while 0 < left {
+        let length = next_length();
+        if length == 65536 {
+            return;
+        }
+        read_one(&mut *file, length);
+        answer_one(&*file, length);
+        left -= 1;
+    }
+}
+
+fn main() {
+    let mut file = [0u8; 45200];
+    answer_each(&mut file, 100000);
+}

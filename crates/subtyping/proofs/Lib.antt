@@ -1,0 +1,3 @@
+pub mod LawsQuestion
+pub mod LawsStructs
+pub mod LawsTypesBelow

@@ -1,0 +1,19 @@
+-- `question::subtype` meets its contract. Assumes nothing.
+use borrow.Author.Needs.{needs}
+use Rattle.subtyping.proofs.LawsQuestion.{readable, not-read, first-lacks, second-lacks, both-there}
+use Rattle.subtyping.proofs.question.subtype.Statement.{statement}
+use Rattle.subtyping.proofs.question.subtype.Tie as tie
+
+pub subtype-spec : {M : Type 1} → statement M
+subtype-spec =
+    tie.close
+    (tie.spec
+    (λ c κs. search needs)
+    (λ c. search needs)
+    (λ c. search needs)
+    (λ c κs. search needs)
+    (λ c. search (not-read, needs))
+    (λ c. search (first-lacks, needs))
+    (λ c. search (second-lacks, needs))
+    (λ c κs. (search (readable, needs), search needs, search needs))
+    (λ c. search (both-there, needs)))

@@ -1,0 +1,3 @@
+// Subtyping on type numbers, and the subtype question.
+pub mod below;
+pub mod question;

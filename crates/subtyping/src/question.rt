@@ -1,0 +1,49 @@
+// The subtype question on a file: refused under 1 to 5 or 17, or yes or no.
+use crate::below::below;
+use file_sections::Reading;
+use file_sections::Sections;
+use type_index::index::index_types;
+ghost use mathlib.Core.Path.{_≡_};
+ghost use Prim.Native.Nat.{_<_};
+ghost use Rattle.oat.specs.Basics.{pick};
+ghost use Rattle.oat.specs.Types.{typeOf};
+ghost use Rattle.oat.specs.Decide.{below};
+ghost use Rattle.file_sections.specs.Layout.{tablesOf};
+ghost use Rattle.type_index.specs.Index.{declared, Readable};
+ghost use Rattle.subtyping.specs.Question.{subtypeOf};
+
+pub enum Answer {
+    Refused(u16),
+    Yes,
+    No,
+}
+
+// The question on a file that was read and has both types.
+fn ask(file: &[u8], sections: Sections, a: usize, b: usize) -> Answer
+    requires { ⌜ Readable (now file) sections × (a < sections .types) × (b < sections .types) ⌝ }
+    ensures { λ r. ⌜ r ≡ pick (below (declared (tablesOf (now (file .entry)) sections)) (typeOf (tablesOf (now (file .entry)) sections) a) (typeOf (tablesOf (now (file .entry)) sections) b)) Answer.Yes Answer.No ⌝ }
+{
+    let mut index = [0u16; 1536];
+    index_types(file, sections, &mut index);
+    if below(file, sections, &index, a, b) {
+        return Answer::Yes;
+    }
+    Answer::No
+}
+
+// Is the type a below the type b?
+pub fn subtype(file: &[u8], a: usize, b: usize) -> Answer
+    ensures { λ r. ⌜ r ≡ subtypeOf (now (file .entry)) a b ⌝ }
+{
+    let read = program_file::read(file);
+    let Reading::Good(sections) = read else {
+        return Answer::Refused(program_file::number(read));
+    };
+    if sections.types <= a {
+        return Answer::Refused(17);
+    }
+    if sections.types <= b {
+        return Answer::Refused(17);
+    }
+    ask(file, sections, a, b)
+}

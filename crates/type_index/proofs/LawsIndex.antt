@@ -1,0 +1,325 @@
+-- Laws of the index: the first number that passes a test, the struct that a name means, equal types under their lowest number, and
+-- an index with one type more. Assumes nothing.
+use mathlib.Core.Path.{_≡_, refl, ap, sym, subst, _∙_}
+use mathlib.Core.Bool.{Bool, true, false, not, false≢true}
+use mathlib.Core.List.{List}
+use mathlib.Core.Logic.{⊎-elim}
+use Prim.Native.Nat.{ℕ, zero, suc, _+_, _≤_, _<_}
+use native.Mathlib.Numerals.{add-one}
+use native.Mathlib.Nat.{not-suc-le-zero, le-of-suc-le-suc, eq-or-lt-of-le}
+use native.Mathlib.Omega.{arith}
+use lib.ListN.{length, getD, set, length-set}
+use lib.Seq.{getD-set-same, getD-set-other}
+use lib.Dec.{eqb, ltb}
+use borrow.Author.Count.{below-more}
+use borrow.Author.Tests.{ltb-true, ltb-false, eqb-true, eqb-false, eq-eqb, ne-eqb, not-true, not-false}
+use Rattle.oat.specs.Basics.{pick, allBelow, tabulate}
+use Rattle.oat.specs.Tables.{Tables, typeAt, structAt}
+use Rattle.oat.specs.TypeRules.{kindAt}
+use Rattle.oat.specs.Types.{Ty, Struct, found, missing, lookup, typeOf, structOf, structsOf}
+use Rattle.oat.specs.Decide.{sameTy, isFormed}
+use Rattle.oat.proofs.LawsBasics.{below-or-last, all-more, all-false}
+use Rattle.oat.proofs.LawsSame.{both-true, same-is, same-sound}
+use Rattle.file_sections.specs.declared.Sections.{Sections}
+use Rattle.file_sections.specs.Layout.{tablesOf}
+use Rattle.file_sections.proofs.LawsRecords.{structs-long}
+use Rattle.type_index.specs.Index.{declared, firstBelow, recordOf, structNamed, Indexed, Firsts, Readable}
+
+-- a loop that tests the numbers below n, one after another
+module _ (n : ℕ) (p : ℕ → Bool) (i : ℕ) where
+  pub loop-fails : (t : Bool) → i < n → not t ≡ true → t ≡ p i → false ≡ allBelow n p
+  loop-fails t h f e = sym (all-false n p i h (sym e ∙ not-true t f))
+
+  pub loop-goes : (t : Bool) → allBelow i p ≡ true → not t ≡ false → t ≡ p i → allBelow (i + 1) p ≡ true
+  loop-goes t a f e = all-more i p a (sym e ∙ not-false t f)
+
+  pub loop-done : i ≤ n → n ≤ i → allBelow i p ≡ true → true ≡ allBelow n p
+  loop-done h k a =
+      let e : i ≡ n = omega arith in
+      sym a ∙ rw e
+
+pub none-tested : (p : ℕ → Bool) → allBelow 0 p ≡ true
+unfolding allBelow
+none-tested p = refl
+
+-- the first number that passes
+module _ (p : ℕ → Bool) where
+  first-none : firstBelow 0 p ≡ 0
+  unfolding firstBelow
+  first-none = refl
+
+  first-more : (n : ℕ) → firstBelow n p ≡ n → p n ≡ false → firstBelow (n + 1) p ≡ n + 1
+  unfolding firstBelow
+  first-more n e f = rw (add-one, e, eq-eqb n n refl, f)
+
+  first-last : (n : ℕ) → firstBelow n p ≡ n → p n ≡ true → firstBelow (suc n) p ≡ n
+  unfolding firstBelow
+  first-last n e t = rw (e, eq-eqb n n refl, t)
+
+  first-before : (n i : ℕ) → firstBelow n p ≡ i → i < n → firstBelow (suc n) p ≡ i
+  unfolding firstBelow
+  first-before n i e h = rw (e, ne-eqb i n (λ x. omega arith))
+
+  first-at : (n i : ℕ) → i < n → firstBelow i p ≡ i → p i ≡ true → firstBelow n p ≡ i
+  first-at zero i h = absurd (not-suc-le-zero h)
+  first-at (suc n) i h =
+      below-or-last
+      (λ j. firstBelow j p ≡ j → p j ≡ true → firstBelow (suc n) p ≡ j)
+      n
+      i
+      h
+      (λ l e t. first-before n i (first-at n i l e t) l)
+      (first-last n)
+
+  pub first-most : (n : ℕ) → firstBelow n p ≤ n
+  unfolding firstBelow
+  first-most zero = omega arith
+  first-most (suc n) = go (eqb (firstBelow n p) n) (p n) (first-most n)
+    where
+      go : (a b : Bool) → firstBelow n p ≤ n → pick a (pick b n (suc n)) (firstBelow n p) ≤ suc n
+      go true true h = omega arith
+      go true false h = omega arith
+      go false b h = omega arith
+
+  pub first-passes : (n : ℕ) → firstBelow n p < n → p (firstBelow n p) ≡ true
+  unfolding firstBelow
+  first-passes zero h = absurd (not-suc-le-zero h)
+  first-passes (suc n) h = go (eqb (firstBelow n p) n) (p n) refl refl (first-passes n) h
+    where
+      go : (a b : Bool) → eqb (firstBelow n p) n ≡ a → p n ≡ b → (firstBelow n p < n → p (firstBelow n p) ≡ true) → pick a (pick b n (suc n)) (firstBelow n p) < suc n → p (pick a (pick b n (suc n)) (firstBelow n p)) ≡ true
+      go true true e f r l = f
+      go true false e f r l = absurd (omega arith)
+      go false b e f r l = r (⊎-elim (λ s. absurd (eqb-false _ n e s)) (λ s. s) (eq-or-lt-of-le (first-most n)))
+
+  pub first-fails : (n j : ℕ) → j < firstBelow n p → p j ≡ false
+  unfolding firstBelow
+  first-fails zero j h = absurd (not-suc-le-zero h)
+  first-fails (suc n) j h = go (eqb (firstBelow n p) n) (p n) refl refl (first-fails n j) h
+    where
+      go : (a b : Bool) → eqb (firstBelow n p) n ≡ a → p n ≡ b → (j < firstBelow n p → p j ≡ false) → j < pick a (pick b n (suc n)) (firstBelow n p) → p j ≡ false
+      go true true e f r l = r (omega (arith, eqb-true (firstBelow n p) n e))
+      go true false e f r l = below-or-last (λ k. p k ≡ false) n j l (λ s. r (omega (arith, eqb-true (firstBelow n p) n e))) f
+      go false b e f r l = r l
+
+-- the struct that a name means
+module _ (x : ℕ) where
+  lookup-at : (n : ℕ) (f : ℕ → Struct) (r : ℕ) → r < n → eqb (f r .name) x ≡ true → ((j : ℕ) → j < r → eqb (f j .name) x ≡ false) → lookup (tabulate n f) x ≡ found (f r .fields)
+  unfolding lookup tabulate
+  lookup-at zero f r h t g = absurd (not-suc-le-zero h)
+  lookup-at (suc n) f zero h t g = rw t
+  lookup-at (suc n) f (suc r) h t g =
+      rw (g 0 (omega arith)) (lookup-at n (λ i. f (suc i)) r (le-of-suc-le-suc h) t (λ j l. g (suc j) (omega arith)))
+
+  lookup-none : (n : ℕ) (f : ℕ → Struct) → ((j : ℕ) → j < n → eqb (f j .name) x ≡ false) → lookup (tabulate n f) x ≡ missing
+  unfolding lookup tabulate
+  lookup-none zero f g = refl
+  lookup-none (suc n) f g = rw (g 0 (omega arith)) (lookup-none n (λ i. f (suc i)) (λ j l. g (suc j) (omega arith)))
+
+pub lookup-is : (T : Tables) (x : ℕ) → lookup (declared T) x ≡ pick (ltb (recordOf T x) (length (T .structs))) (found (structOf T (recordOf T x) .fields)) missing
+unfolding recordOf structsOf structOf
+lookup-is T x = go (ltb (recordOf T x) (length (T .structs))) refl
+  where
+    named : ℕ → Bool
+    named i = eqb (structAt T i .name) x
+
+    go : (b : Bool) → ltb (recordOf T x) (length (T .structs)) ≡ b → lookup (declared T) x ≡ pick b (found (structOf T (recordOf T x) .fields)) missing
+    go true e =
+        let h = ltb-true (recordOf T x) (length (T .structs)) e in
+        lookup-at x (length (T .structs)) (structOf T) (recordOf T x) h (first-passes named (length (T .structs)) h) (first-fails named (length (T .structs)))
+    go false e =
+        lookup-none x (length (T .structs)) (structOf T) (λ j l. first-fails named (length (T .structs)) j (omega (arith, ltb-false (recordOf T x) (length (T .structs)) e)))
+
+-- equal types have the same first equal type
+module _ (t : ℕ → Ty) where
+  abbrev pub firstOf : ℕ → ℕ
+  firstOf i = firstBelow i (λ j. sameTy (t j) (t i))
+
+  first-type : (i : ℕ) → t (firstOf i) ≡ t i
+  first-type i =
+      ⊎-elim
+      (λ e. ap t e)
+      (λ l. same-sound (t (firstOf i)) (t i) (first-passes (λ j. sameTy (t j) (t i)) i l))
+      (eq-or-lt-of-le (first-most (λ j. sameTy (t j) (t i)) i))
+
+  first-least : (i j : ℕ) → t i ≡ t j → firstOf j ≤ firstOf i
+  first-least i j e = go (ltb (firstOf i) (firstOf j)) refl
+    where
+      go : (b : Bool) → ltb (firstOf i) (firstOf j) ≡ b → firstOf j ≤ firstOf i
+      go true l =
+          let f = first-fails (λ k. sameTy (t k) (t j)) j (firstOf i) (ltb-true (firstOf i) (firstOf j) l) in
+          let g = same-is (t (firstOf i)) (t j) .1 (first-type i ∙ e) in
+          absurd (false≢true (sym f ∙ g))
+      go false l = ltb-false (firstOf i) (firstOf j) l
+
+  pub firsts-same : (i j : ℕ) → eqb (firstOf i) (firstOf j) ≡ sameTy (t i) (t j)
+  firsts-same i j =
+      both-true
+      (eqb (firstOf i) (firstOf j))
+      (sameTy (t i) (t j))
+      (λ e. same-is (t i) (t j) .1 (sym (first-type i) ∙ ap t (eqb-true (firstOf i) (firstOf j) e) ∙ first-type j), λ s. eq-eqb (firstOf i) (firstOf j) (both i j (same-sound (t i) (t j) s)))
+    where
+      both : (i j : ℕ) → t i ≡ t j → firstOf i ≡ firstOf j
+      both i j e = omega (arith, first-least i j e, first-least j i (sym e))
+
+-- the record of a struct, found by a loop over the structs: the first n structs
+unfoldable pub recordBelow : Tables → ℕ → ℕ → ℕ
+recordBelow T x n = firstBelow n (λ i. eqb (structAt T i .name) x)
+
+pub no-record : (T : Tables) (x : ℕ) → recordBelow T x 0 ≡ 0
+unfolding recordBelow
+no-record T x = first-none _
+
+module _ (s : List ℕ) (S : Sections) (x : ℕ) where
+  pub record-found : (i y : ℕ) → i < S .structs → recordBelow (tablesOf s S) x i ≡ i → y ≡ structAt (tablesOf s S) i .name → y ≡ x → i ≡ recordOf (tablesOf s S) x
+  unfolding recordOf recordBelow
+  record-found i y h e f g =
+      sym (first-at _ (length (tablesOf s S .structs)) i (rw (structs-long s S) h) e (eq-eqb (structAt (tablesOf s S) i .name) x (omega arith)))
+
+  pub record-next : (i y : ℕ) → recordBelow (tablesOf s S) x i ≡ i → y ≡ structAt (tablesOf s S) i .name → (y ≡ x → ⊥) → recordBelow (tablesOf s S) x (i + 1) ≡ i + 1
+  unfolding recordBelow
+  record-next i y e f g = first-more _ i e (ne-eqb (structAt (tablesOf s S) i .name) x (λ n. g (omega arith)))
+
+  pub record-none : (i : ℕ) → i ≤ S .structs → S .structs ≤ i → recordBelow (tablesOf s S) x i ≡ i → S .structs ≡ recordOf (tablesOf s S) x
+  unfolding recordOf recordBelow
+  record-none i h k e =
+      let n : i ≡ S .structs = omega arith in
+      rw structs-long (sym (rw n at e))
+
+-- the struct that a type names
+module _ (s : List ℕ) (S : Sections) (i k : ℕ) (ek : k ≡ kindAt (tablesOf s S) i) where
+  pub names-struct : (a r : ℕ) → k ≡ 4 → a ≡ typeAt (tablesOf s S) i .a → r ≡ recordOf (tablesOf s S) a → r ≡ structNamed (tablesOf s S) i
+  unfolding structNamed
+  names-struct a r h ea e = rw (eq-eqb (kindAt (tablesOf s S) i) 4 (omega arith)) (e ∙ ap (recordOf (tablesOf s S)) ea)
+
+  pub names-none : (k ≡ 4 → ⊥) → S .structs ≡ structNamed (tablesOf s S) i
+  unfolding structNamed
+  names-none h = rw (ne-eqb (kindAt (tablesOf s S) i) 4 (λ e. h (omega arith))) (sym (structs-long s S))
+
+-- the first equal type, found by a loop over the lower types: the first n types
+unfoldable pub equalBelow : Tables → ℕ → ℕ → ℕ
+equalBelow T i n = firstBelow n (λ k. sameTy (typeOf T k) (typeOf T i))
+
+pub no-equal : (T : Tables) (i : ℕ) → equalBelow T i 0 ≡ 0
+unfolding equalBelow
+no-equal T i = first-none _
+
+module _ (T : Tables) (i j : ℕ) (e : equalBelow T i j ≡ j) where
+  pub lowest-found : (t : Bool) → j < i → t ≡ true → t ≡ sameTy (typeOf T j) (typeOf T i) → j ≡ firstBelow i (λ k. sameTy (typeOf T k) (typeOf T i))
+  unfolding equalBelow
+  lowest-found t h f g = sym (first-at _ i j h e (sym g ∙ f))
+
+  pub lowest-next : (t : Bool) → t ≡ false → t ≡ sameTy (typeOf T j) (typeOf T i) → equalBelow T i (j + 1) ≡ j + 1
+  unfolding equalBelow
+  lowest-next t f g = first-more _ j e (sym g ∙ f)
+
+  pub lowest-none : j ≤ i → i ≤ j → i ≡ firstBelow i (λ k. sameTy (typeOf T k) (typeOf T i))
+  unfolding equalBelow
+  lowest-none h k =
+      let n : j ≡ i = omega arith in
+      sym (subst (λ m. equalBelow T i m ≡ m) n e)
+
+-- the entries of the type i, stored
+module _ (index : List ℕ) (i e r m : ℕ) (long : 1536 ≤ length index) (low : i < 512) where
+  abbrev one : List ℕ
+  one = set index i e
+
+  abbrev two : List ℕ
+  two = set one (512 + i) r
+
+  abbrev stored : List ℕ
+  stored = set two (1024 + i) m
+
+  elsewhere : (j : ℕ) → (j ≡ i → ⊥) → (j ≡ 512 + i → ⊥) → (j ≡ 1024 + i → ⊥) → getD stored j 0 ≡ getD index j 0
+  elsewhere j x y z = getD-set-other two (1024 + i) j m 0 z ∙ getD-set-other one (512 + i) j r 0 y ∙ getD-set-other index i j e 0 x
+
+  module _ (k : ℕ) (l : k < i) where
+    kept-first : getD stored k 0 ≡ getD index k 0
+    kept-first = elsewhere k (λ x. omega arith) (λ x. omega arith) (λ x. omega arith)
+
+    kept-named : getD stored (512 + k) 0 ≡ getD index (512 + k) 0
+    kept-named = elsewhere (512 + k) (λ x. omega arith) (λ x. omega arith) (λ x. omega arith)
+
+    kept-formed : getD stored (1024 + k) 0 ≡ getD index (1024 + k) 0
+    kept-formed = elsewhere (1024 + k) (λ x. omega arith) (λ x. omega arith) (λ x. omega arith)
+
+  own-first : getD stored i 0 ≡ e
+  own-first = getD-set-other two (1024 + i) i m 0 (λ x. omega arith) ∙ getD-set-other one (512 + i) i r 0 (λ x. omega arith) ∙ getD-set-same index i e 0 (omega arith)
+
+  own-named : getD stored (512 + i) 0 ≡ r
+  own-named = getD-set-other two (1024 + i) (512 + i) m 0 (λ x. omega arith) ∙ getD-set-same one (512 + i) r 0 (simp length-set (omega arith))
+
+  own-formed : getD stored (1024 + i) 0 ≡ m
+  own-formed = getD-set-same two (1024 + i) m 0 (simp length-set (omega arith))
+
+marked : (b : Bool) → eqb (pick b 1 0) 1 ≡ b
+marked true = refl
+marked false = refl
+
+-- one type more
+module _ (s : List ℕ) (S : Sections) (index : List ℕ) (i e r m : ℕ) (R : Readable s S) (h : i < S .types) (F : Firsts index (tablesOf s S) i) (ee : e ≡ firstBelow i (λ j. sameTy (typeOf (tablesOf s S) j) (typeOf (tablesOf s S) i))) (I : Indexed index (tablesOf s S) i) where
+  below-512 : i < 512
+  below-512 = omega (arith, R .laid .types-most)
+
+  pub firsts-more : Firsts (set (set (set index i e) (512 + i) r) (1024 + i) m) (tablesOf s S) (i + 1)
+  firsts-more = record {
+    first = below-more
+        (λ k. getD (set (set (set index i e) (512 + i) r) (1024 + i) m) k 0 ≡ firstOf (typeOf (tablesOf s S)) k)
+        i
+        (λ k l. kept-first index i e r m (I .long) below-512 k l ∙ F .first k l)
+        (own-first index i e r m (I .long) below-512 ∙ ee);
+  }
+
+  pub indexed-more : (f : Bool) → r ≡ structNamed (tablesOf s S) i → f ≡ isFormed (declared (tablesOf s S)) (typeOf (tablesOf s S) i) → m ≡ pick f 1 0 → Indexed (set (set (set index i e) (512 + i) r) (1024 + i) m) (tablesOf s S) (i + 1)
+  indexed-more f er ef em = record {
+    long = simp length-set (I .long);
+    lowest = λ k l. rw (firsts-more .first k l) (first-most _ k);
+    same = λ j k l n. rw (firsts-more .first j l, firsts-more .first k n) (firsts-same (typeOf (tablesOf s S)) j k);
+    named = below-more
+        (λ k. getD (set (set (set index i e) (512 + i) r) (1024 + i) m) (512 + k) 0 ≡ structNamed (tablesOf s S) k)
+        i
+        (λ k l. kept-named index i e r m (I .long) below-512 k l ∙ I .named k l)
+        (own-named index i e r m (I .long) below-512 ∙ er);
+    formed = below-more
+        (λ k. eqb (getD (set (set (set index i e) (512 + i) r) (1024 + i) m) (1024 + k) 0) 1 ≡ isFormed (declared (tablesOf s S)) (typeOf (tablesOf s S) k))
+        i
+        (λ k l. ap (λ x. eqb x 1) (kept-formed index i e r m (I .long) below-512 k l) ∙ I .formed k l)
+        (ap (λ x. eqb x 1) (own-formed index i e r m (I .long) below-512 ∙ em) ∙ marked f ∙ ef);
+  }
+
+-- no type yet
+pub indexed-none : (index : List ℕ) (T : Tables) → 1536 ≤ length index → Indexed index T 0
+indexed-none index T h = record {
+  long = h;
+  lowest = λ i l. absurd (not-suc-le-zero l);
+  same = λ i j l k. absurd (not-suc-le-zero l);
+  named = λ i l. absurd (not-suc-le-zero l);
+  formed = λ i l. absurd (not-suc-le-zero l);
+}
+
+pub firsts-none : (index : List ℕ) (T : Tables) → Firsts index T 0
+firsts-none index T = record { first = λ i l. absurd (not-suc-le-zero l) }
+
+-- every type
+pub indexed-all : (index : List ℕ) (T : Tables) (i n : ℕ) → i ≤ n → n ≤ i → Indexed index T i → Indexed index T n
+indexed-all index T i n h k I =
+    let e : i ≡ n = omega arith in
+    rw e at I
+
+-- the numbers that are stored fit
+pub first-fits : (s : List ℕ) (S : Sections) (i e : ℕ) → Readable s S → i < S .types → e ≡ firstBelow i (λ j. sameTy (typeOf (tablesOf s S) j) (typeOf (tablesOf s S) i)) → e < 65536
+first-fits s S i e R h ee = omega (arith, first-most (λ j. sameTy (typeOf (tablesOf s S) j) (typeOf (tablesOf s S) i)) i, R .laid .types-most)
+
+record-most : (T : Tables) (x : ℕ) → recordOf T x ≤ length (T .structs)
+unfolding recordOf
+record-most T x = first-most _ _
+
+named-most : (T : Tables) (i : ℕ) → structNamed T i ≤ length (T .structs)
+unfolding structNamed
+named-most T i = go (eqb (kindAt T i) 4)
+  where
+    go : (b : Bool) → pick b (recordOf T (typeAt T i .a)) (length (T .structs)) ≤ length (T .structs)
+    go true = record-most T (typeAt T i .a)
+    go false = omega arith
+
+pub named-fits : (s : List ℕ) (S : Sections) (i r : ℕ) → Readable s S → r ≡ structNamed (tablesOf s S) i → r < 65536
+named-fits s S i r R er = omega (arith, named-most (tablesOf s S) i, structs-long s S, R .laid .structs-most)

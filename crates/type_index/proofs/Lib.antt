@@ -1,0 +1,3 @@
+pub mod LawsIndex
+pub mod LawsSameTypes
+pub mod LawsFormedTypes

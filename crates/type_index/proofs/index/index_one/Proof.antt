@@ -1,0 +1,28 @@
+-- `index::index_one` meets its contract. Assumes nothing.
+use native.Mathlib.Omega.{arith}
+use lib.ListN.{length-set}
+use borrow.Author.Needs.{needs}
+use Rattle.type_index.proofs.LawsIndex.{first-fits, named-fits, firsts-more, indexed-more}
+use Rattle.type_index.proofs.index.index_one.Statement.{statement}
+use Rattle.type_index.proofs.index.index_one.Tie as tie
+
+pub index-one-spec : {M : Type 1} → statement M
+index-one-spec =
+    tie.close
+    (tie.spec
+    (λ c κs. search needs)
+    (λ c κs. search needs)
+    (λ c κs. search needs)
+    (λ c. search (first-fits, needs))
+    (λ c. search needs)
+    (λ c. search needs)
+    (λ c. search (named-fits, needs))
+    (λ c. search needs)
+    (λ c. search needs)
+    (λ c. simp length-set (omega arith))
+    (λ c κs. search needs)
+    (λ c. search needs)
+    (λ c. search needs)
+    (λ c. simp length-set (omega arith))
+    (λ c. search needs)
+    (λ c. (search (indexed-more, needs), search (firsts-more, needs))))

@@ -1,0 +1,76 @@
+-- The index of a file's types: three numbers for each type i. At i the lowest number of an equal type, at 512 + i the first record of
+-- the struct that the type names, at 1024 + i 1 where the type is well-formed. Assumes nothing.
+use mathlib.Core.Path.{_≡_}
+use mathlib.Core.Bool.{Bool, true}
+use mathlib.Core.List.{List}
+use Prim.Native.Nat.{ℕ, zero, suc, _+_, _≤_, _<_}
+use lib.ListN.{length, getD}
+use lib.Dec.{eqb}
+use Rattle.oat.specs.Basics.{pick, allBelow}
+use Rattle.oat.specs.Tables.{Tables, typeAt, entryAt, structAt}
+use Rattle.oat.specs.TypeRules.{kindAt, typesRight}
+use Rattle.oat.specs.TableRules.{tablesRight}
+use Rattle.oat.specs.Types.{Struct, typeOf, structsOf}
+use Rattle.oat.specs.Decide.{sameTy, isFormed}
+use Rattle.file_sections.specs.declared.Sections.{Sections}
+use Rattle.file_sections.specs.Layout.{Laid, tablesOf}
+
+-- the structs that a file declares
+abbrev pub declared : Tables → List Struct
+declared T = structsOf T (length (T .structs))
+
+-- the first number below n at which the test passes, else n
+unfoldable pub firstBelow : ℕ → (ℕ → Bool) → ℕ
+firstBelow zero p = 0
+firstBelow (suc n) p = pick (eqb (firstBelow n p) n) (pick (p n) n (suc n)) (firstBelow n p)
+
+-- the first record of the struct x, or the number of structs
+unfoldable pub recordOf : Tables → ℕ → ℕ
+recordOf T x = firstBelow (length (T .structs)) (λ i. eqb (structAt T i .name) x)
+
+-- the same of the struct that the type i names; the number of structs where it names none
+unfoldable pub structNamed : Tables → ℕ → ℕ
+structNamed T i = pick (eqb (kindAt T i) 4) (recordOf T (typeAt T i .a)) (length (T .structs))
+
+-- the first n types are indexed
+pub record Indexed (index : List ℕ) (T : Tables) (n : ℕ) : Type 0 where
+  pub long : 1536 ≤ length index
+  pub lowest : (i : ℕ) → i < n → getD index i 0 ≤ i
+  pub same : (i j : ℕ) → i < n → j < n → eqb (getD index i 0) (getD index j 0) ≡ sameTy (typeOf T i) (typeOf T j)
+  pub named : (i : ℕ) → i < n → getD index (512 + i) 0 ≡ structNamed T i
+  pub formed : (i : ℕ) → i < n → eqb (getD index (1024 + i) 0) 1 ≡ isFormed (declared T) (typeOf T i)
+
+-- a file whose sections stand and whose tables keep the rules
+pub record Readable (s : List ℕ) (S : Sections) : Type 0 where
+  pub laid : Laid s S
+  pub types : typesRight 200 (tablesOf s S) ≡ true
+  pub tables : tablesRight (tablesOf s S) ≡ true
+
+-- every entry of the first n types is the first equal type
+pub record Firsts (index : List ℕ) (T : Tables) (n : ℕ) : Type 0 where
+  pub first : (i : ℕ) → i < n → getD index i 0 ≡ firstBelow i (λ j. sameTy (typeOf T j) (typeOf T i))
+
+-- `count` entries of the type list from the entry `first` on are in the file, each a type below 512
+pub record Listed (s : List ℕ) (S : Sections) (first count : ℕ) : Type 0 where
+  pub laid : Laid s S
+  pub room : first + count ≤ S .list
+  pub below : (j : ℕ) → j < count → entryAt (tablesOf s S) (first + j) < 512
+
+-- the file has a type i, whose operand a is below n
+pub record Operand (s : List ℕ) (S : Sections) (i n : ℕ) : Type 0 where
+  pub there : i < S .types
+  pub below : typeAt (tablesOf s S) i .a < n
+
+-- the file has a type i, and the `count` parameters that it names
+pub record Parameters (s : List ℕ) (S : Sections) (i count : ℕ) : Type 0 where
+  pub there : i < S .types
+  pub listed : Listed s S (typeAt (tablesOf s S) i .b) count
+
+-- `count` parameters from the entries p and q of the type list on have equal entries in the index
+unfoldable pub sameParams : List ℕ → Tables → ℕ → ℕ → ℕ → Bool
+sameParams index T p q count =
+    allBelow count (λ j. eqb (getD index (entryAt T (p + j)) 0) (getD index (entryAt T (q + j)) 0))
+
+-- `count` parameters from the entry `first` of the type list on are well-formed, as the index has it
+unfoldable pub paramsFormed : List ℕ → Tables → ℕ → ℕ → Bool
+paramsFormed index T first count = allBelow count (λ j. eqb (getD index (1024 + entryAt T (first + j)) 0) 1)

@@ -1,0 +1,105 @@
+// Well-formed types. The entry 512 + i of the index is the first record of the struct that the type i names, or the number of
+// structs; the entry 1024 + i is 1 where the type i is well-formed, else 0.
+use crate::same::entry;
+use file_sections::Sections;
+use file_sections::records::list_entry;
+use file_sections::records::struct_name;
+use file_sections::records::type_a;
+use file_sections::records::type_b;
+use file_sections::records::type_c;
+use file_sections::records::type_kind;
+ghost use mathlib.Core.Path.{_≡_};
+ghost use Prim.Native.Nat.{_+_, _<_, _≤_};
+ghost use lib.Dec.{eqb};
+ghost use lib.ListN.{length, getD};
+ghost use Rattle.oat.specs.TypeRules.{kindAt};
+ghost use Rattle.oat.specs.Types.{typeOf};
+ghost use Rattle.oat.specs.Decide.{isFormed};
+ghost use Rattle.file_sections.specs.Layout.{Laid, Has, tablesOf};
+ghost use Rattle.type_index.specs.Index.{declared, recordOf, structNamed, paramsFormed, Indexed, Listed, Readable};
+
+// The first record of the struct with this name, or the number of structs.
+fn record_of(file: &[u8], sections: Sections, name: usize) -> usize
+    requires { ⌜ Laid (now file) sections ⌝ }
+    ensures { λ r. ⌜ r ≡ recordOf (tablesOf (now (file .entry)) sections) name ⌝ }
+{
+    let mut i = 0;
+    while i < sections.structs {
+        if struct_name(file, sections, i) == name {
+            return i;
+        }
+        i += 1;
+    }
+    sections.structs
+}
+
+// The first record of the struct that the type i names, or the number of structs.
+pub fn struct_of(file: &[u8], sections: Sections, i: usize) -> usize
+    requires { ⌜ Has (now file) sections i (sections .types) ⌝ }
+    ensures { λ r. ⌜ r ≡ structNamed (tablesOf (now (file .entry)) sections) i ⌝ }
+{
+    if type_kind(file, sections, i) == 4 {
+        return record_of(file, sections, type_a(file, sections, i));
+    }
+    sections.structs
+}
+
+// The type i is well-formed, as a return type.
+pub fn is_formed(index: &[u16], i: usize) -> bool
+    requires { ⌜ 1024 + i < length (now index) ⌝ }
+    ensures { λ r. ⌜ r ≡ eqb (getD (now (index .entry)) (1024 + i) 0) 1 ⌝ }
+{
+    entry(index, 1024 + i) == 1
+}
+
+// `count` parameters from the entry `first` of the type list on are well-formed.
+fn params_formed(file: &[u8], sections: Sections, index: &[u16], first: usize, count: usize) -> bool
+    requires { ⌜ Listed (now file) sections first count × (1536 ≤ length (now index)) ⌝ }
+    ensures { λ r. ⌜ r ≡ paramsFormed (now (index .entry)) (tablesOf (now (file .entry)) sections) first count ⌝ }
+{
+    let mut j = 0;
+    while j < count {
+        if !is_formed(index, list_entry(file, sections, first + j)) {
+            return false;
+        }
+        j += 1;
+    }
+    true
+}
+
+// The function type i is well-formed, where lower types are indexed.
+fn function_formed(file: &[u8], sections: Sections, index: &[u16], i: usize) -> bool
+    requires { ⌜ Readable (now file) sections × (i < sections .types) × Indexed (now index) (tablesOf (now file) sections) i ⌝ }
+    requires { ⌜ kindAt (tablesOf (now file) sections) i ≡ 6 ⌝ }
+    ensures { λ r. ⌜ r ≡ isFormed (declared (tablesOf (now (file .entry)) sections)) (typeOf (tablesOf (now (file .entry)) sections) i) ⌝ }
+{
+    if !params_formed(
+        file,
+        sections,
+        index,
+        type_b(file, sections, i),
+        type_c(file, sections, i),
+    ) {
+        return false;
+    }
+    is_formed(index, type_a(file, sections, i))
+}
+
+// The type i is well-formed, where lower types are indexed and the struct that it names is declared at `declared_at`.
+pub fn formed_lower(
+    file: &[u8],
+    sections: Sections,
+    index: &[u16],
+    i: usize,
+    declared_at: usize,
+) -> bool
+    requires { ⌜ Readable (now file) sections × (i < sections .types) × Indexed (now index) (tablesOf (now file) sections) i × («declared_at» ≡ structNamed (tablesOf (now file) sections) i) ⌝ }
+    ensures { λ r. ⌜ r ≡ isFormed (declared (tablesOf (now (file .entry)) sections)) (typeOf (tablesOf (now (file .entry)) sections) i) ⌝ }
+{
+    match type_kind(file, sections, i) {
+        4 => declared_at < sections.structs,
+        5 | 7 => is_formed(index, type_a(file, sections, i)),
+        6 => function_formed(file, sections, index, i),
+        _ => true,
+    }
+}

@@ -1,0 +1,4 @@
+// An index of a file's types, so that equal types, the struct that a type names and well-formedness are found at once.
+pub mod formed;
+pub mod index;
+pub mod same;

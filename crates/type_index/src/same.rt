@@ -1,0 +1,138 @@
+// Equal types under their lowest number. The entry i of the index is the lowest number of a type equal to the type i.
+use file_sections::Sections;
+use file_sections::records::list_entry;
+use file_sections::records::type_a;
+use file_sections::records::type_b;
+use file_sections::records::type_c;
+use file_sections::records::type_kind;
+ghost use mathlib.Core.Path.{_≡_};
+ghost use Prim.Native.Nat.{_+_, _<_, _≤_};
+ghost use lib.Dec.{eqb};
+ghost use lib.ListN.{length, getD};
+ghost use Rattle.oat.specs.Tables.{typeAt};
+ghost use Rattle.oat.specs.TypeRules.{kindAt};
+ghost use Rattle.oat.specs.Types.{typeOf};
+ghost use Rattle.oat.specs.Decide.{sameTy};
+ghost use Rattle.file_sections.specs.Layout.{Laid, tablesOf};
+ghost use Rattle.type_index.specs.Index.{firstBelow, sameParams, Indexed, Listed, Operand, Parameters, Readable};
+
+// The entry i of the index.
+pub fn entry(index: &[u16], i: usize) -> usize
+    requires { ⌜ i < length (now index) ⌝ }
+    ensures { λ r. ⌜ (r ≡ getD (now (index .entry)) i 0) × (r < 65536) ⌝ }
+{
+    wide(index[i])
+}
+
+fn wide(x: u16) -> usize
+    ensures { λ r. ⌜ (r ≡ x) × (r < 65536) ⌝ }
+{
+    x as usize
+}
+
+// The types a and b are equal as written out.
+pub fn same(index: &[u16], a: usize, b: usize) -> bool
+    requires { ⌜ (a < length (now index)) × (b < length (now index)) ⌝ }
+    ensures { λ r. ⌜ r ≡ eqb (getD (now (index .entry)) a 0) (getD (now (index .entry)) b 0) ⌝ }
+{
+    entry(index, a) == entry(index, b)
+}
+
+// `count` parameters from the entries p and q of the type list on are equal, one by one.
+fn same_params(
+    file: &[u8],
+    sections: Sections,
+    index: &[u16],
+    p: usize,
+    q: usize,
+    count: usize,
+) -> bool
+    requires { ⌜ Listed (now file) sections p count × Listed (now file) sections q count × (1536 ≤ length (now index)) ⌝ }
+    ensures { λ r. ⌜ r ≡ sameParams (now (index .entry)) (tablesOf (now (file .entry)) sections) p q count ⌝ }
+{
+    let mut j = 0;
+    while j < count {
+        if !same(
+            index,
+            list_entry(file, sections, p + j),
+            list_entry(file, sections, q + j),
+        ) {
+            return false;
+        }
+        j += 1;
+    }
+    true
+}
+
+// The `count` parameters of two function types are equal, one by one.
+fn same_parameters(
+    file: &[u8],
+    sections: Sections,
+    index: &[u16],
+    a: usize,
+    b: usize,
+    count: usize,
+) -> bool
+    requires { ⌜ Parameters (now file) sections a count × Parameters (now file) sections b count × (1536 ≤ length (now index)) ⌝ }
+    ensures { λ r. ⌜ r ≡ sameParams (now (index .entry)) (tablesOf (now (file .entry)) sections) (typeAt (tablesOf (now (file .entry)) sections) a .b) (typeAt (tablesOf (now (file .entry)) sections) b .b) count ⌝ }
+{
+    let p = type_b(file, sections, a);
+    let q = type_b(file, sections, b);
+    same_params(file, sections, index, p, q, count)
+}
+
+// The types that two types have for their operand a are equal: elements, references or return types.
+fn same_operands(file: &[u8], sections: Sections, index: &[u16], a: usize, b: usize) -> bool
+    requires { ⌜ Laid (now file) sections × Operand (now file) sections a (length (now index)) × Operand (now file) sections b (length (now index)) ⌝ }
+    ensures { λ r. ⌜ r ≡ eqb (getD (now (index .entry)) (typeAt (tablesOf (now (file .entry)) sections) a .a) 0) (getD (now (index .entry)) (typeAt (tablesOf (now (file .entry)) sections) b .a) 0) ⌝ }
+{
+    same(index, type_a(file, sections, a), type_a(file, sections, b))
+}
+
+// Two function types are equal, where lower types are indexed.
+fn same_function(file: &[u8], sections: Sections, index: &[u16], a: usize, b: usize) -> bool
+    requires { ⌜ Readable (now file) sections × (a < b) × (b < sections .types) × Indexed (now index) (tablesOf (now file) sections) b ⌝ }
+    requires { ⌜ (kindAt (tablesOf (now file) sections) a ≡ 6) × (kindAt (tablesOf (now file) sections) b ≡ 6) ⌝ }
+    ensures { λ r. ⌜ r ≡ sameTy (typeOf (tablesOf (now (file .entry)) sections) a) (typeOf (tablesOf (now (file .entry)) sections) b) ⌝ }
+{
+    let count = type_c(file, sections, a);
+    if count != type_c(file, sections, b) {
+        return false;
+    }
+    if !same_parameters(file, sections, index, a, b, count) {
+        return false;
+    }
+    same_operands(file, sections, index, a, b)
+}
+
+// Two types are equal, where lower types are indexed.
+fn same_lower(file: &[u8], sections: Sections, index: &[u16], a: usize, b: usize) -> bool
+    requires { ⌜ Readable (now file) sections × (a < b) × (b < sections .types) × Indexed (now index) (tablesOf (now file) sections) b ⌝ }
+    ensures { λ r. ⌜ r ≡ sameTy (typeOf (tablesOf (now (file .entry)) sections) a) (typeOf (tablesOf (now (file .entry)) sections) b) ⌝ }
+{
+    let kind = type_kind(file, sections, a);
+    if kind != type_kind(file, sections, b) {
+        return false;
+    }
+    match kind {
+        4 => type_a(file, sections, a) == type_a(file, sections, b),
+        5 | 7 => same_operands(file, sections, index, a, b),
+        6 => same_function(file, sections, index, a, b),
+        _ => true,
+    }
+}
+
+// The lowest number of a type equal to the type i, where lower types are indexed.
+pub fn lowest(file: &[u8], sections: Sections, index: &[u16], i: usize) -> usize
+    requires { ⌜ Readable (now file) sections × (i < sections .types) × Indexed (now index) (tablesOf (now file) sections) i ⌝ }
+    ensures { λ r. ⌜ r ≡ firstBelow i (λ j. sameTy (typeOf (tablesOf (now (file .entry)) sections) j) (typeOf (tablesOf (now (file .entry)) sections) i)) ⌝ }
+{
+    let mut j = 0;
+    while j < i {
+        if same_lower(file, sections, index, j, i) {
+            return j;
+        }
+        j += 1;
+    }
+    i
+}
