@@ -1,6 +1,8 @@
 // The operations for C and Rust, over plain pointers and lengths (`rt staticlib oat_c`).
+use subtyping::question::Answer;
 ghost use mathlib.Core.Path.{_≡_};
 ghost use Rattle.program_file.specs.Reading.{readingOf, limitsOf, numberOf};
+ghost use Rattle.subtyping.specs.Question.{subtypeOf, refusalNumber, yesAfter};
 
 // 0 where the file is readable, or the number under which it is refused.
 #[no_mangle]
@@ -8,4 +10,24 @@ pub extern "C" fn oat_read(file: &[u8]) -> u16
     ensures { λ r. ⌜ r ≡ numberOf (readingOf (limitsOf 200 100) (now (file .entry))) ⌝ }
 {
     program_file::number(program_file::read(file))
+}
+
+// 0, with 1 in `yes` where the type a is below the type b and else 0; or the number under which the question is refused.
+#[no_mangle]
+pub extern "C" fn oat_subtype(file: &[u8], a: usize, b: usize, yes: &mut u8) -> u16
+    ensures { λ r. ⌜ r ≡ refusalNumber (subtypeOf (now (file .entry)) a b) ⌝ }
+    ensures { λ _. ⌜ now (yes .exit) ≡ yesAfter (now (yes .entry)) (subtypeOf (now (file .entry)) a b) ⌝ }
+{
+    let answer = subtyping::question::subtype(file, a, b);
+    match answer {
+        Answer::Refused(number) => number,
+        Answer::Yes => {
+            *yes = 1;
+            0
+        }
+        Answer::No => {
+            *yes = 0;
+            0
+        }
+    }
 }

@@ -38,3 +38,9 @@ abbrev pub refusalNumber : Answer → ℕ
 refusalNumber (Refused n) = n
 refusalNumber Yes = 0
 refusalNumber No = 0
+
+-- 1 for yes, 0 for no; a refusal leaves what was there
+abbrev pub yesAfter : ℕ → Answer → ℕ
+yesAfter old (Refused n) = old
+yesAfter old Yes = 1
+yesAfter old No = 0

@@ -1,0 +1,195 @@
+-- Demand 3 (`demand3`): it holds of the outcome of every readable file with long enough buffers, whatever they hold. And the check on bytes has
+-- one outcome for every input (`has-outcome`, `one-outcome`). Assumes nothing.
+use mathlib.Core.Path.{_≡_, refl, ap, sym, _∙_, subst}
+use mathlib.Core.Bool.{Bool, true, false}
+use mathlib.Core.List.{List, [], _∷_, _++_}
+use mathlib.Core.Logic.{_↔_}
+use Prim.Native.Nat.{ℕ, zero, suc, _+_, _*_, _≤_, _<_}
+use native.Mathlib.Omega.{arith}
+use lib.ListN.{length, take, drop, getD, replicate, length-append, length-replicate}
+use lib.Dec.{ltb}
+use borrow.Author.Tests.{ltb-true, ltb-false, lt-ltb, le-ltb}
+use lib.Seq.{take-at, drop-at, take-length}
+use Rattle.oat.specs.Basics.{pick}
+use Rattle.oat.specs.Tables.{Tables}
+use Rattle.oat.specs.Types.{Ty}
+use Rattle.oat.specs.Syntax.{Decl, size, sizeBlock, sizeDecl, sizeDecls}
+use Rattle.oat.specs.ProgramFile.{Program, IsFile}
+use Rattle.oat.proofs.LawsTypes.{types-formed}
+use Rattle.oat.proofs.LawsTables.{tables-formed}
+use Rattle.file_sections.specs.declared.Reading.{Reading}
+use Rattle.file_sections.specs.declared.Reading.the-variants.{Refused, Good}
+use Rattle.program_file.specs.Reading.{readingOf}
+use Rattle.program_file.proofs.Theorem.{Bytes, program-of, reading-of, one-program}
+use Rattle.typing_rules.specs.Contexts.{Context}
+use Rattle.typing_rules.specs.Labels.{Label, Labels}
+use Rattle.typing_rules.specs.Steps.{Step, structName, stepsOf, StepRule, SameOn, same-none, same-step, DerivesFirst, OneFirst, DerivesFile}
+use Rattle.typing_rules.specs.Check.{Segment, Ran, accepted, refused, rowsFrom, Answer, answerOf, checkOf}
+use Rattle.typing_rules.specs.Rows.{RowsAre, rows-none, rows-node, labelsFrom, ParametersAre, parameters-none, parameters-next, DeclRows, no-rows, global-rows, function-rows}
+use Rattle.typing_rules.proofs.Theorem.{Fits, runOf, accepted-derives, derives-accepted, refused-step}
+use Rattle.typing_rules.proofs.LawsNumbers.{refused-number}
+use Rattle.typing_rules.proofs.RowsTheorem.{rows-are-derived}
+use Rattle.demand3.specs.CheckFile.{limits, needed, Outcome, outcome, Checks, unreadable, rows-short, work-short, checked}
+use Rattle.demand3.specs.Demand3.{Derivable, StopsAt, Demand3}
+
+-- a file's program keeps the rules
+fits : (bytes : List ℕ) (p : Program) → IsFile limits bytes p → Fits p
+fits bytes p f = record {
+  file = record { types = types-formed 200 (p .tables) (f .types); tables = tables-formed (p .tables) (f .tables) };
+  stand = f .stand;
+}
+
+-- how many numbers rows are
+rows-long : {T : Tables} {L : List (Label Ty)} {R : List ℕ} → RowsAre T L R → length R ≡ 2 * length L
+rows-long rows-none = refl
+rows-long (rows-node {L = L} {R = R} r b s) = omega (arith, rows-long s)
+
+parameters-long : {T : Tables} {p : ℕ} {xs R : List ℕ} → ParametersAre T p xs R → length R ≡ 2 * length xs
+parameters-long parameters-none = refl
+parameters-long (parameters-next r s) = omega (arith, parameters-long s)
+
+labels-long : (D : Labels Ty) (n k : ℕ) → length (labelsFrom D n k) ≡ k
+unfolding labelsFrom
+labels-long D n zero = refl
+labels-long D n (suc k) = ap suc (labels-long D (n + 1) k)
+
+decls-long : {T : Tables} {D : Labels Ty} {n : ℕ} {ds : List Decl} {R : List ℕ} → DeclRows T D n ds R → length R ≡ 2 * sizeDecls ds
+decls-long no-rows = refl
+decls-long {D = D} (global-rows {n = n} {a = a} {R = R} {Q = Q} r s) =
+    rw length-append (omega (arith, rows-long r, labels-long D n (1 + size a), decls-long s))
+decls-long {D = D} (function-rows {n = n} {ps = ps} {b = b} {P = P} {R = R} {Q = Q} m q r s) =
+    simp length-append (omega (arith, parameters-long q, rows-long r, labels-long D (n + 1 + length ps) (sizeBlock b), decls-long s))
+
+-- two derivations that are the same as a third are the same
+same-both : {D E F : Labels Ty} {ss : List Step} → SameOn D E ss → SameOn D F ss → SameOn E F ss
+same-both same-none same-none = same-none
+same-both (same-step f r) (same-step g s) = same-step (λ m h. sym (f m h) ∙ g m h) (same-both r s)
+
+-- the outcome of a file of p
+outcomeOf : Program → List ℕ → Answer → Outcome
+outcomeOf p rows a = outcome (a .number) (a .step) (a .place) (a .rows ++ drop (needed p) rows)
+
+-- accepted
+module _ (p : Program) (rows : List ℕ) (f : Fits p) (used : sizeDecls (p .declarations) ≡ length (p .tables .nodes)) (gs : List Segment) (k : ℕ) (e : runOf p ≡ accepted gs k) where
+  derivable : Derivable p
+  derivable = let (n, D, C, o) = accepted-derives p f gs k e in record { labels = D; context = C; derives = o .derives }
+
+  only-one : (D E : Labels Ty) (C B : Context Ty) → DerivesFile p D C → DerivesFile p E B → SameOn D E (stepsOf p) × (C ≡ B)
+  only-one D E C B d c =
+      let (n, F, A, o) = accepted-derives p f gs k e in
+      let (s, a) = o .only D C d in
+      let (t, b) = o .only E B c in
+      (rw (take-length (stepsOf p)) at (same-both s t), sym a ∙ b)
+
+  accepted-rows : (D : Labels Ty) (C : Context Ty) → DerivesFile p D C → DeclRows (p .tables) D 0 (p .declarations) (take (needed p) (rowsFrom gs 0 (p .declarations) ++ drop (needed p) rows))
+  accepted-rows D C d =
+      let r = rows-are-derived p f gs k e D C d in
+      let long : length (rowsFrom gs 0 (p .declarations)) ≡ needed p = decls-long r ∙ ap (λ n. 2 * n) used in
+      subst (DeclRows (p .tables) D 0 (p .declarations)) (sym (take-at (rowsFrom gs 0 (p .declarations)) (drop (needed p) rows) (needed p) long)) r
+
+  accepted-rest : drop (needed p) (rowsFrom gs 0 (p .declarations) ++ drop (needed p) rows) ≡ drop (needed p) rows
+  accepted-rest =
+      let d = derivable in
+      let r = rows-are-derived p f gs k e (d .labels) (d .context) (d .derives) in
+      drop-at (rowsFrom gs 0 (p .declarations)) (drop (needed p) rows) (needed p) (decls-long r ∙ ap (λ n. 2 * n) used)
+
+  accepted-case : Demand3 p rows (outcomeOf p rows (answerOf p (accepted gs k)))
+  unfolding outcomeOf
+  accepted-case = record {
+    accepted = (λ z. derivable, λ d. refl);
+    one-derivation = only-one;
+    its-rows = accepted-rows;
+    refused = (λ r. absurd (omega arith), λ none. absurd (none derivable));
+    stops = λ none. absurd (none derivable);
+    filled = λ none. absurd (none derivable);
+    rest = accepted-rest;
+  }
+
+-- refused
+module _ (p : Program) (rows : List ℕ) (f : Fits p) (m j q : ℕ) (e : runOf p ≡ refused m j q) where
+  none-derives : (D : Labels Ty) (C : Context Ty) → DerivesFile p D C → ⊥
+  none-derives D C d = let (gs, a) = derives-accepted p f D C d in let z : _≡_ {A = ℕ} 0 1 = cc in omega arith
+
+  none-derivable : Derivable p → ⊥
+  none-derivable d = none-derives (d .labels) (d .context) (d .derives)
+
+  stopped : StopsAt p j
+  stopped = let (w, D, C, o, none) = refused-step p f m j q e in record { within = w; labels = D; context = C; before = o; none = none }
+
+  refused-case : Demand3 p rows (outcomeOf p rows (answerOf p (refused m j q)))
+  unfolding outcomeOf
+  refused-case =
+      let (low, high) = refused-number p m j q e in
+      record {
+        accepted = (λ z. absurd (omega arith), λ d. absurd (none-derivable d));
+        one-derivation = λ D E C B d c. absurd (none-derives D C d);
+        its-rows = λ D C d. absurd (none-derives D C d);
+        refused = (λ r. none-derivable, λ none. (low, high));
+        stops = λ none. stopped;
+        filled = λ none. take-at (replicate (needed p) 65535) (drop (needed p) rows) (needed p) (length-replicate (needed p) 65535);
+        rest = drop-at (replicate (needed p) 65535) (drop (needed p) rows) (needed p) (length-replicate (needed p) 65535);
+      }
+
+run-case : (p : Program) (rows : List ℕ) → Fits p → sizeDecls (p .declarations) ≡ length (p .tables .nodes) → (r : Ran) → runOf p ≡ r → Demand3 p rows (outcomeOf p rows (answerOf p r))
+run-case p rows f used (accepted gs k) e = accepted-case p rows f used gs k e
+run-case p rows f used (refused m j q) e = refused-case p rows f m j q e
+
+checked-case : (bytes rows : List ℕ) (p : Program) → IsFile limits bytes p → Demand3 p rows (outcomeOf p rows (checkOf p))
+unfolding checkOf
+checked-case bytes rows p f = run-case p rows (fits bytes p f) (f .used-up) (runOf p) refl
+
+-- a file's program gives its outcome
+same-outcome : (bytes rows : List ℕ) (p q : Program) → IsFile limits bytes p → IsFile limits bytes q → outcomeOf q rows (checkOf q) ≡ outcomeOf p rows (checkOf p)
+same-outcome bytes rows p q f g = ap (λ (x : Program). outcomeOf x rows (checkOf x)) (one-program limits bytes q p g f)
+
+pub demand3 : (bytes rows work : List ℕ) (p : Program) → IsFile limits bytes p → needed p ≤ length rows → needed p ≤ length work → (o : Outcome) → Checks bytes rows work o → Demand3 p rows o
+unfolding outcomeOf
+demand3 bytes rows work p f r w o (unreadable n e) =
+    let good = reading-of limits bytes p f .0 in
+    absurd (let z : _≡_ {A = ℕ} 0 1 = cc in omega arith)
+demand3 bytes rows work p f r w o (rows-short q g l) =
+    let same : needed q ≡ needed p = ap needed (one-program limits bytes q p g f) in
+    absurd (omega arith)
+demand3 bytes rows work p f r w o (work-short q g l k) =
+    let same : needed q ≡ needed p = ap needed (one-program limits bytes q p g f) in
+    absurd (omega arith)
+demand3 bytes rows work p f r w o (checked q g l k) =
+    subst (Demand3 p rows) (sym (same-outcome bytes rows p q f g)) (checked-case bytes rows p f)
+
+-- every input has an outcome
+lengths : (bytes rows work : List ℕ) (p : Program) → IsFile limits bytes p → (a b : Bool) → ltb (length rows) (needed p) ≡ a → ltb (length work) (needed p) ≡ b → (o : Outcome) × Checks bytes rows work o
+lengths bytes rows work p f true b h k = (_, rows-short p f (ltb-true (length rows) (needed p) h))
+lengths bytes rows work p f false true h k = (_, work-short p f (ltb-false (length rows) (needed p) h) (ltb-true (length work) (needed p) k))
+lengths bytes rows work p f false false h k = (_, checked p f (ltb-false (length rows) (needed p) h) (ltb-false (length work) (needed p) k))
+
+reads : (bytes rows work : List ℕ) → Bytes bytes → (r : Reading) → readingOf limits bytes ≡ r → (o : Outcome) × Checks bytes rows work o
+reads bytes rows work b (Refused n) e = (_, unreadable n e)
+reads bytes rows work b (Good S) e = let (p, f) = program-of limits bytes S b e in lengths bytes rows work p f _ _ refl refl
+
+pub has-outcome : (bytes rows work : List ℕ) → Bytes bytes → (o : Outcome) × Checks bytes rows work o
+has-outcome bytes rows work b = reads bytes rows work b (readingOf limits bytes) refl
+
+-- and one alone: that of its reading, or of its program
+outcomeFor : Program → List ℕ → List ℕ → Outcome
+outcomeFor p rows work =
+    pick (ltb (length rows) (needed p)) (outcome 6 0 0 rows)
+    (pick (ltb (length work) (needed p)) (outcome 6 0 0 rows) (outcomeOf p rows (checkOf p)))
+
+unread : (bytes rows work : List ℕ) (n : ℕ) (o : Outcome) → readingOf limits bytes ≡ Refused n → Checks bytes rows work o → o ≡ outcome n 0 0 rows
+unread bytes rows work n o e (unreadable m h) = let same : m ≡ n = cc in ap (λ k. outcome k 0 0 rows) same
+unread bytes rows work n o e (rows-short p f l) = let good = reading-of limits bytes p f .0 in absurd (let z : _≡_ {A = ℕ} 0 1 = cc in omega arith)
+unread bytes rows work n o e (work-short p f l k) = let good = reading-of limits bytes p f .0 in absurd (let z : _≡_ {A = ℕ} 0 1 = cc in omega arith)
+unread bytes rows work n o e (checked p f l k) = let good = reading-of limits bytes p f .0 in absurd (let z : _≡_ {A = ℕ} 0 1 = cc in omega arith)
+
+program-outcome : (bytes rows work : List ℕ) (p : Program) (o : Outcome) → IsFile limits bytes p → Checks bytes rows work o → o ≡ outcomeFor p rows work
+unfolding outcomeFor outcomeOf
+program-outcome bytes rows work p o f (unreadable n e) = let good = reading-of limits bytes p f .0 in absurd (let z : _≡_ {A = ℕ} 0 1 = cc in omega arith)
+program-outcome bytes rows work p o f (rows-short q g l) = rw (← one-program limits bytes q p g f, lt-ltb _ _ l)
+program-outcome bytes rows work p o f (work-short q g l k) = rw (← one-program limits bytes q p g f, le-ltb _ _ l, lt-ltb _ _ k)
+program-outcome bytes rows work p o f (checked q g l k) = rw (← one-program limits bytes q p g f, le-ltb _ _ l, le-ltb _ _ k)
+
+pub one-outcome : (bytes rows work : List ℕ) (o u : Outcome) → Checks bytes rows work o → Checks bytes rows work u → o ≡ u
+one-outcome bytes rows work o u (unreadable n e) d = sym (unread bytes rows work n u e d)
+one-outcome bytes rows work o u (rows-short p f l) d = program-outcome bytes rows work p _ f (rows-short p f l) ∙ sym (program-outcome bytes rows work p u f d)
+one-outcome bytes rows work o u (work-short p f l k) d = program-outcome bytes rows work p _ f (work-short p f l k) ∙ sym (program-outcome bytes rows work p u f d)
+one-outcome bytes rows work o u (checked p f l k) d = program-outcome bytes rows work p _ f (checked p f l k) ∙ sym (program-outcome bytes rows work p u f d)

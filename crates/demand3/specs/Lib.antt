@@ -1,0 +1,2 @@
+pub mod CheckFile
+pub mod Demand3

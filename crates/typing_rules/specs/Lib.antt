@@ -1,0 +1,10 @@
+pub mod Contexts
+pub mod Operators
+pub mod Labels
+pub mod Rules
+pub mod Derivations
+pub mod Judge
+pub mod Steps
+pub mod Check
+pub mod PanCases
+pub mod Rows
