@@ -1,0 +1,263 @@
+#!/usr/bin/env python3
+"""Writes crates/typing_rules/proofs/Cases.antt: small files of the peer's stored vectors as programs of the definitions, each with the peer's
+answer and rows as a theorem that antt computes. Files are chosen so that together they have every node kind and operator in an
+accepted program, and every number from 7 to 16 at every kind of place and group of steps that a small file of the vectors has.
+
+    tests/rules/cases.py            write the file
+    tests/rules/cases.py ALL FROM TO    write every file of at most ALL nodes from number FROM up to TO instead, to try a definition
+"""
+import os
+import struct
+import sys
+
+ROOT = os.path.join(os.path.dirname(os.path.abspath(__file__)), "..", "..")
+SIZES = (4, 1, 2, 3, 2, 4)
+DEFINITIONS = """checkOf stepsOf tabulate headings globals bodies run runStep judge execute executeVars judgeCondition findName isFixed
+stepRows rowsOf rowsBegin segmentAt rowsFrom find isFresh ty fd st bi nodesN typeOf written writtenParams firstTypes structOf lookup below
+tests sameTy beginsWith structBelow forms isFormed eachBelow argumentsBelow fieldAmong fieldOf initsBelow namesFit eachOnce namedTimes
+declaredTimes member assignsTo hasField distinctFields isAmong distinctNames parameters fieldsFormed parameterRows""".split()
+
+HEADER = """-- Small programs with the answers of the independent peer, computed: every rule is gone through, every number from 7 to 16 appears at
+-- each kind of place, and rows are written out. One theorem for each (`tests/rules/cases.py` writes this file). Assumes nothing.
+use mathlib.Core.Path.{_≡_, refl}
+use mathlib.Core.List.{List, [], _∷_}
+use Prim.Native.Nat.{ℕ}
+use lib.ListN.{replicate}
+use Rattle.oat.specs.Basics.{tabulate}
+use Rattle.oat.specs.Tables.{TypeRecord, FieldRecord, StructRecord, BuiltInRecord, NodeRecord}
+use Rattle.oat.specs.Types.{writtenParams, written, firstTypes, typeOf, structOf, lookup}
+use Rattle.oat.specs.Decide.{sameTy, beginsWith, structBelow, tests, below, forms, isFormed}
+use Rattle.oat.specs.Syntax.{truth, falsity, integer, text, null, literal, name, arrayLiteral, defaultArray, arrayWith, index, lengthOf, structLiteral, field, call, unary, binary, none, also, noInit, init, nameTarget, indexTarget, fieldTarget, noVar, nextVar, noCondition, condition, assign, var, returnValue, returnVoid, callStmt, ifElse, ifNull, for, while, noStep, step, block, empty, then, global, function}
+use Rattle.oat.specs.ProgramFile.{Program}
+use Rattle.typing_rules.specs.Contexts.{find, isFresh, findName, isFixed}
+use Rattle.typing_rules.specs.Rules.{namesFit, eachOnce, namedTimes, declaredTimes, member}
+use Rattle.typing_rules.specs.Judge.{eachBelow, argumentsBelow, fieldAmong, fieldOf, initsBelow, judge, executeVars, judgeCondition, execute, assignsTo}
+use Rattle.typing_rules.specs.Steps.{headings, globals, bodies, stepsOf, hasField, distinctFields, isAmong, distinctNames, parameters}
+use Rattle.typing_rules.specs.Check.{fieldsFormed, runStep, rowsOf, parameterRows, stepRows, rowsBegin, run, segmentAt, rowsFrom, checkOf}
+
+pub ty : ℕ → ℕ → ℕ → ℕ → TypeRecord
+ty k a b c = record { kind = k; a = a; b = b; c = c }
+
+pub fd : ℕ → ℕ → FieldRecord
+fd a b = record { name = a; type = b }
+
+pub st : ℕ → ℕ → ℕ → StructRecord
+st a b c = record { name = a; first = b; count = c }
+
+pub bi : ℕ → ℕ → BuiltInRecord
+bi a b = record { name = a; type = b }
+
+-- the definitions look at how many nodes there are; the trees are the declarations
+pub nodesN : ℕ → List NodeRecord
+nodesN n = replicate n (record { kind = 0; x = 0; t = 0; children = 0 })
+"""
+
+
+def vectors():
+    """The packed files with the lines of their answers."""
+    folder = os.path.join(ROOT, "tests", "vectors")
+    packed = open(os.path.join(folder, "check.bin"), "rb").read()
+    answers = open(os.path.join(folder, "check.txt")).read().split("--\n")
+    at = 0
+    for answer in answers:
+        if at == len(packed):
+            return
+        length = struct.unpack_from("<I", packed, at)[0]
+        yield packed[at + 4:at + 4 + length], answer.split("\n")[:-1]
+        at += 4 + length
+
+
+def sections(file):
+    numbers = struct.unpack("<%dH" % (len(file) // 2), file)
+    at, found = 0, []
+    for size in SIZES:
+        count = numbers[at]
+        found.append([numbers[at + 1 + i * size:at + 1 + (i + 1) * size] for i in range(count)])
+        at += 1 + count * size
+    return found
+
+
+def listed(items):
+    return "(" + "".join(item + " ∷ " for item in items) + "[])"
+
+
+def folded(items, last):
+    """Items as nested constructors around the last one."""
+    for item in reversed(items):
+        last = "(%s %s)" % (item, last)
+    return last
+
+
+class Trees:
+    """The node section as terms of specs/Syntax; `at` is the next node."""
+
+    def __init__(self, nodes):
+        self.nodes, self.at = nodes, 0
+
+    def take(self):
+        self.at += 1
+        return self.nodes[self.at - 1]
+
+    def expressions(self, count):
+        return folded(["also " + self.expression() for _ in range(count)], "none")
+
+    def named(self, count, constructor, last):
+        """Field initializers or vars: a node with a name over an expression."""
+        return folded(["%s %d %s" % (constructor, self.take()[1], self.expression()) for _ in range(count)], last)
+
+    def expression(self):
+        kind, x, t, count = self.take()
+        if kind == 10:
+            return "(null %d)" % t
+        if kind in (11, 12):
+            return "(literal %s)" % ("truth" if kind == 11 else "falsity")
+        if kind in (13, 14):
+            return "(literal (%s %d))" % ("integer" if kind == 13 else "text", x)
+        if kind == 15:
+            return "(name %d)" % x
+        if kind == 16:
+            return "(arrayLiteral %d %s)" % (t, self.expressions(count))
+        if kind == 21:
+            return "(structLiteral %d %s)" % (t, self.named(count, "init", "noInit"))
+        first = self.expression()
+        if kind == 17:
+            return "(defaultArray %d %s)" % (t, first)
+        if kind == 18:
+            return "(arrayWith %d %d %s %s)" % (t, x, first, self.expression())
+        if kind == 19:
+            return "(index %s %s)" % (first, self.expression())
+        if kind == 20:
+            return "(lengthOf %s)" % first
+        if kind == 23:
+            return "(field %d %s)" % (x, first)
+        if kind == 24:
+            return "(call %s %s)" % (first, self.expressions(count - 1))
+        if kind == 25:
+            return "(unary %d %s)" % (x, first)
+        return "(binary %d %s %s)" % (x, first, self.expression())
+
+    def target(self):
+        kind, x, _, _ = self.take()
+        if kind == 15:
+            return "(nameTarget %d)" % x
+        if kind == 19:
+            return "(indexTarget %s %s)" % (self.expression(), self.expression())
+        return "(fieldTarget %d %s)" % (x, self.expression())
+
+    def absent(self, constructor, otherwise, read):
+        if self.nodes[self.at][0] == 40:
+            self.at += 1
+            return otherwise
+        return "(%s %s)" % (constructor, read())
+
+    def statement(self):
+        kind, x, t, count = self.take()
+        if kind == 30:
+            return "(assign %s %s)" % (self.target(), self.expression())
+        if kind == 31:
+            return "(var %d %s)" % (x, self.expression())
+        if kind == 32:
+            return "(returnValue %s)" % self.expression()
+        if kind == 33:
+            return "returnVoid"
+        if kind == 34:
+            return "(callStmt %s %s)" % (self.expression(), self.expressions(count - 1))
+        if kind == 35:
+            return "(ifElse %s %s %s)" % (self.expression(), self.block(), self.block())
+        if kind == 36:
+            return "(ifNull %d %d %s %s %s)" % (x, t, self.expression(), self.block(), self.block())
+        if kind == 37:
+            parts = (self.named(count - 3, "nextVar", "noVar"), self.absent("condition", "noCondition", self.expression),
+                     self.absent("step", "noStep", self.statement), self.block())
+            return "(for %s %s %s %s)" % parts
+        return "(while %s %s)" % (self.expression(), self.block())
+
+    def block(self):
+        count = self.take()[3]
+        return "(block %s)" % folded(["then " + self.statement() for _ in range(count)], "empty")
+
+    def declarations(self):
+        """The terms, and the kind of each declaration."""
+        terms, kinds = [], []
+        while self.at < len(self.nodes):
+            kind, x, t, count = self.take()
+            kinds.append(kind)
+            if kind == 1:
+                terms.append("global %d %s" % (x, self.expression()))
+            else:
+                parameters = listed([str(self.take()[1]) for _ in range(count - 1)])
+                terms.append("function %d %d %s %s" % (x, t, parameters, self.block()))
+        return terms, kinds
+
+
+class Case:
+    def __init__(self, file, lines):
+        self.length = len(file)
+        self.number, self.step, self.place = map(int, lines[0].split())
+        self.sections = sections(file)
+        types, entries, fields, structs, given, nodes = self.sections
+        terms, self.kinds = Trees(nodes).declarations()
+        rows = [word for line in lines[1:] for word in line.split()[1:]]
+        self.rows = rows if self.number == 0 else ["65535"] * (2 * len(nodes))
+        tables = "types = %s; list = %s; fields = %s; structs = %s; builtIns = %s; nodes = nodesN %d" % (
+            listed("ty %d %d %d %d" % r for r in types), listed("%d" % r for r in entries), listed("fd %d %d" % r for r in fields),
+            listed("st %d %d %d" % r for r in structs), listed("bi %d %d" % r for r in given), len(nodes))
+        self.program = "record { tables = record { %s }; declarations = %s }" % (tables, listed(terms))
+
+    def group(self):
+        """The group of the refusing step, from 0, struct names."""
+        structs, given = len(self.sections[3]), len(self.sections[4])
+        functions, left = self.kinds.count(2), self.step
+        for group, count in enumerate((structs, given, functions, self.kinds.count(1), structs, functions)):
+            if left < count:
+                return group
+            left -= count
+        return 6
+
+    def features(self):
+        nodes = self.sections[5]
+        if self.number == 0:
+            return {(k, x if k in (25, 26) else 0) for k, x, _, _ in nodes}
+        group = self.group()
+        return {(self.number, group, nodes[self.place][0] if group in (2, 3, 5) else -1)}
+
+    def text(self, name):
+        answer = "record { number = %d; step = %d; place = %d; rows = %s }" % (self.number, self.step, self.place, listed(self.rows))
+        return "\npub program-%s : Program\nprogram-%s = %s\n\npub %s : checkOf program-%s ≡ %s\nunfolding program-%s %s\n%s = refl\n" % (
+            name, name, self.program, name, name, answer, name, " ".join(DEFINITIONS), name)
+
+
+def chosen(cases):
+    """Accepted programs that have every feature, for their length the richest first; and the shortest refusal of each feature."""
+    picked, open_features = [], set()
+    accepted = [c for c in cases if c.number == 0]
+    for case in accepted:
+        open_features |= case.features()
+    while open_features:
+        best = max(accepted, key=lambda c: len(c.features() & open_features) / (c.length + 60))
+        picked.append(best)
+        open_features -= best.features()
+    seen = set()
+    for case in sorted((c for c in cases if c.number != 0), key=lambda c: c.length):
+        if case.features() - seen:
+            seen |= case.features()
+            picked.append(case)
+    return sorted(picked, key=lambda c: (c.number, c.step, c.place, c.length))
+
+
+def main():
+    typed = ((f, lines) for f, lines in vectors() if not 1 <= int(lines[0].split()[0]) <= 6)
+    most = int(sys.argv[1]) if len(sys.argv) == 4 else 90
+    cases = [Case(f, lines) for f, lines in typed if len(sections(f)[5]) <= most and len(sections(f)[0]) <= 80]
+    cases = cases[int(sys.argv[2]):int(sys.argv[3])] if len(sys.argv) == 4 else chosen(cases)
+    counts = {}
+    with open(os.path.join(ROOT, "crates", "typing_rules", "proofs", "Cases.antt"), "w") as out:
+        out.write(HEADER)
+        for case in cases:
+            counts[case.number] = counts.get(case.number, 0) + 1
+            kind = "accepted" if case.number == 0 else "refused-%d" % case.number
+            out.write(case.text("%s-%d" % (kind, counts[case.number])))
+
+
+if __name__ == "__main__":
+    main()
