@@ -248,8 +248,9 @@ def chosen(cases):
 def main():
     typed = ((f, lines) for f, lines in vectors() if not 1 <= int(lines[0].split()[0]) <= 6)
     most = int(sys.argv[1]) if len(sys.argv) == 4 else 90
-    cases = [Case(f, lines) for f, lines in typed if len(sections(f)[5]) <= most and len(sections(f)[0]) <= 80]
-    cases = cases[int(sys.argv[2]):int(sys.argv[3])] if len(sys.argv) == 4 else chosen(cases)
+    cases = [Case(f, lines) for f, lines in typed if len(sections(f)[5]) <= most]
+    small = [case for case in cases if len(case.sections[0]) <= 80]
+    cases = cases[int(sys.argv[2]):int(sys.argv[3])] if len(sys.argv) == 4 else chosen(small)
     counts = {}
     with open(os.path.join(ROOT, "crates", "typing_rules", "proofs", "Cases.antt"), "w") as out:
         out.write(HEADER)
