@@ -13,7 +13,7 @@ use Rattle.typing_rules.specs.Check.{Answer, checkOf}
 abbrev pub limits : Limits
 limits = limitsOf 200 100
 
--- two numbers for each node
+-- rows and work are long enough when each has at least two numbers for each node
 abbrev pub needed : Program → ℕ
 needed p = 2 * length (p .tables .nodes)
 
