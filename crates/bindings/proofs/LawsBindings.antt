@@ -1,0 +1,669 @@
+-- Laws of the bindings: the binder, the type and the name of a position, what a name means in the scope that the buffers hold, the way
+-- along a chain, one binding more and one less. Assumes nothing.
+use mathlib.Core.Path.{_≡_, refl, ap, sym, subst, _∙_}
+use mathlib.Core.Bool.{Bool, true, false, not}
+use mathlib.Core.List.{List, _∷_}
+use Prim.Native.Nat.{ℕ, zero, suc, _+_, _-_, _*_, _%_, _≤_, _<_}
+use native.Mathlib.Numerals.{add-one}
+use native.Mathlib.Nat.{not-suc-le-zero, mod-lt}
+use native.Mathlib.Omega.{arith}
+use lib.ListN.{length, getD, set, length-set}
+use lib.Seq.{getD-set-same, getD-set-other}
+use lib.Dec.{eqb, ltb}
+use borrow.Author.Count.{below-more}
+use borrow.Author.Tests.{ltb-true, ltb-false, lt-ltb, le-ltb, eqb-true, eqb-false, eq-eqb, ne-eqb}
+use Rattle.oat.specs.Basics.{pick}
+use Rattle.oat.specs.Tables.{Tables, builtInAt, nodeAt}
+use Rattle.typing_rules.specs.Contexts.{empty, binds, Hit, hit, miss, Entry, find, findName, isFresh, isFixed, orElse}
+use Rattle.file_sections.specs.declared.Sections.{Sections}
+use Rattle.file_sections.specs.Layout.{Laid, Has, tablesOf}
+use Rattle.file_sections.proofs.LawsRecords.{built-ins-long}
+use Rattle.bindings.specs.declared.Found.{Found}
+use Rattle.bindings.specs.declared.Found.the-variants.{At, Nothing}
+use Rattle.bindings.specs.Bindings.{entryOf, binderOf, typeBound, nameBound, isGlobal, namesOf, scopeOf, latest, topOf, Chained, Position, Scoped, Some, Same, Finds, Freshness, Assignability, Bindable, Bound}
+
+-- a position of a built-in
+module _ (F : List ℕ) (S : Sections) (W : List ℕ) (j : ℕ) (h : j < S .«built_ins») where
+  pub built-in-binder : 40000 + j ≡ binderOf (tablesOf F S) W j
+  unfolding binderOf
+  built-in-binder = rw (built-ins-long F S, lt-ltb _ _ h)
+
+  pub built-in-bound : (n : ℕ) → n ≡ builtInAt (tablesOf F S) j .type → n ≡ typeBound (tablesOf F S) W j
+  unfolding typeBound
+  built-in-bound n e = rw (built-ins-long F S, lt-ltb _ _ h) e
+
+  pub built-in-named : (n : ℕ) → n ≡ builtInAt (tablesOf F S) j .name → n ≡ nameBound (tablesOf F S) W j
+  unfolding nameBound
+  built-in-named n e = rw (built-ins-long F S, lt-ltb _ _ h) e
+
+  built-in-fixed : isGlobal (tablesOf F S) W j ≡ false
+  unfolding isGlobal
+  built-in-fixed = rw (built-ins-long F S, lt-ltb _ _ h)
+
+-- a position of the stack
+module _ (F : List ℕ) (S : Sections) (W : List ℕ) (j : ℕ) (h : S .«built_ins» ≤ j) where
+  pub stack-binder : (n : ℕ) → n ≡ getD W ((j - S .«built_ins») * 2) 0 → n ≡ binderOf (tablesOf F S) W j
+  unfolding binderOf
+  stack-binder n e = rw (built-ins-long F S, le-ltb _ _ h) e
+
+  pub stack-bound : (n : ℕ) → n ≡ getD W ((j - S .«built_ins») * 2 + 1) 0 → n ≡ typeBound (tablesOf F S) W j
+  unfolding typeBound
+  stack-bound n e = rw (built-ins-long F S, le-ltb _ _ h) e
+
+  pub stack-named : (b n : ℕ) → b ≡ getD W ((j - S .«built_ins») * 2) 0 → n ≡ nodeAt (tablesOf F S) b .x → n ≡ nameBound (tablesOf F S) W j
+  unfolding nameBound
+  stack-named b n e f = rw (built-ins-long F S, le-ltb _ _ h, ← e) f
+
+  stack-global : (b : ℕ) → b ≡ binderOf (tablesOf F S) W j → isGlobal (tablesOf F S) W j ≡ eqb (nodeAt (tablesOf F S) b .kind) 1
+  unfolding isGlobal binderOf
+  stack-global b e = rw (e, built-ins-long F S, le-ltb _ _ h)
+
+  pub stack-there : Position F S W j → (b : ℕ) → b ≡ getD W ((j - S .«built_ins») * 2) 0 → Has F S b (S .nodes)
+  stack-there p b e = record { laid = p .laid; within = rw (e, ← built-ins-long F S) (p .node h) }
+
+  pub binder-there : Position F S W j → (b : ℕ) → b ≡ binderOf (tablesOf F S) W j → Has F S b (S .nodes)
+  unfolding binderOf
+  binder-there p b e = stack-there p b (e ∙ rw (built-ins-long F S, le-ltb _ _ h))
+
+-- positions below s are the same where the stack is
+module _ (T : Tables) (s : ℕ) {W W′ : List ℕ} (same : Same (entryOf T s) W W′) where
+  module _ (j : ℕ) (h : j < s) where
+    pub binder-same : binderOf T W′ j ≡ binderOf T W j
+    unfolding binderOf
+    binder-same = go (ltb j (length (T .builtIns))) refl
+      where
+        go : (b : Bool) → ltb j (length (T .builtIns)) ≡ b → pick b (40000 + j) (getD W′ (entryOf T j) 0) ≡ pick b (40000 + j) (getD W (entryOf T j) 0)
+        go true e = refl
+        go false e = same .at _ (omega (arith, ltb-false j (length (T .builtIns)) e))
+
+    pub type-same : typeBound T W′ j ≡ typeBound T W j
+    unfolding typeBound
+    type-same = go (ltb j (length (T .builtIns))) refl
+      where
+        go : (b : Bool) → ltb j (length (T .builtIns)) ≡ b → pick b (builtInAt T j .type) (getD W′ (entryOf T j + 1) 0) ≡ pick b (builtInAt T j .type) (getD W (entryOf T j + 1) 0)
+        go true e = refl
+        go false e = same .at _ (omega (arith, ltb-false j (length (T .builtIns)) e))
+
+    pub name-same : nameBound T W′ j ≡ nameBound T W j
+    unfolding nameBound
+    name-same = go (ltb j (length (T .builtIns))) refl
+      where
+        go : (b : Bool) → ltb j (length (T .builtIns)) ≡ b → pick b (builtInAt T j .name) (nodeAt T (getD W′ (entryOf T j) 0) .x) ≡ pick b (builtInAt T j .name) (nodeAt T (getD W (entryOf T j) 0) .x)
+        go true e = refl
+        go false e = ap (λ n. nodeAt T n .x) (same .at _ (omega (arith, ltb-false j (length (T .builtIns)) e)))
+
+    pub global-same : isGlobal T W′ j ≡ isGlobal T W j
+    unfolding isGlobal
+    global-same = go (ltb j (length (T .builtIns))) refl
+      where
+        go : (b : Bool) → ltb j (length (T .builtIns)) ≡ b → pick b false (eqb (nodeAt T (getD W′ (entryOf T j) 0) .kind) 1) ≡ pick b false (eqb (nodeAt T (getD W (entryOf T j) 0) .kind) 1)
+        go true e = refl
+        go false e = ap (λ n. eqb (nodeAt T n .kind) 1) (same .at _ (omega (arith, ltb-false j (length (T .builtIns)) e)))
+
+  pub names-same : (base : ℕ) → base ≤ s → namesOf T W′ base ≡ namesOf T W base
+  unfolding namesOf
+  names-same zero h = refl
+  names-same (suc n) h = rw (name-same n (omega arith), type-same n (omega arith), binder-same n (omega arith), global-same n (omega arith), names-same n (omega arith))
+
+  scope-below : (base n : ℕ) → n ≤ s → scopeOf T W′ base n ≡ scopeOf T W base n
+  unfolding scopeOf
+  scope-below base zero h = refl
+  scope-below base (suc n) h = rw (name-same n (omega arith), type-same n (omega arith), binder-same n (omega arith), scope-below base n (omega arith))
+
+  pub scope-same : (base : ℕ) → scopeOf T W′ base s ≡ scopeOf T W base s
+  scope-same base = scope-below base s (omega arith)
+
+  top-same : (h n : ℕ) → n ≤ s → topOf T W′ h n ≡ topOf T W h n
+  unfolding topOf
+  top-same h zero l = refl
+  top-same h (suc n) l = rw (name-same n (omega arith), top-same h n (omega arith))
+
+pub same-less : (a b : ℕ) {l m : List ℕ} → a ≤ b → Same b l m → Same a l m
+same-less a b h s = record { at = λ i k. s .at i (omega arith) }
+
+pub same-trans : (a b : ℕ) {l m n : List ℕ} → a ≤ b → Same a l m → Same b m n → Same a l n
+same-trans a b h s t = record { at = λ i k. t .at i (omega arith) ∙ s .at i k }
+
+pub same-refl : (a : ℕ) (l : List ℕ) → Same a l l
+same-refl a l = record { at = λ i k. refl }
+
+-- what a scope has
+pub position-of : {F : List ℕ} {S : Sections} {W K : List ℕ} {s : ℕ} (j : ℕ) → Scoped F S W K s → j < s → Position F S W j
+position-of j c h = record {
+  laid = c .laid;
+  long = c .long;
+  high = omega (arith, c .high);
+  node = c .binders j h;
+}
+
+pub scoped-same : {F : List ℕ} {S : Sections} {W W′ K : List ℕ} {s : ℕ} → Scoped F S W K s → Same (entryOf (tablesOf F S) s) W W′ → S .nodes * 2 ≤ length W′ → Scoped F S W′ K s
+scoped-same {F} {S} {W} {W′} {K} {s} c same l =
+    record {
+      laid = c .laid;
+      long = l;
+      high = c .high;
+      binders = λ j h k. rw (same .at (entryOf (tablesOf F S) j) (omega (arith, built-ins-long F S))) (c .binders j h k);
+      types = λ j h. rw (type-same (tablesOf F S) s same j h) (c .types j h);
+      chained = record {
+        long = c .chained .long;
+        heads = λ h l. c .chained .heads h l ∙ sym (top-same (tablesOf F S) s same h s (omega arith));
+        links = λ j h. rw (name-same (tablesOf F S) s same j h) (c .chained .links j h ∙ sym (top-same (tablesOf F S) s same _ j (omega arith)));
+      };
+    }
+
+-- induction from `base` on
+from-base : (P : ℕ → Type 0) (base : ℕ) → P base → ((n : ℕ) → base ≤ n → P n → P (suc n)) → (s : ℕ) → base ≤ s → P s
+from-base P base p f zero h =
+    let e : base ≡ 0 = omega arith in
+    subst P e p
+from-base P base p f (suc n) h = go (ltb n base) refl (λ k. from-base P base p f n k)
+  where
+    go : (b : Bool) → ltb n base ≡ b → (base ≤ n → P n) → P (suc n)
+    go true e r =
+        let same : base ≡ suc n = omega (arith, ltb-true n base e) in
+        subst P same p
+    go false e r = f n (ltb-false n base e) (r (ltb-false n base e))
+
+-- a scope that begins at its own height, and one binding more
+pub scope-none : (T : Tables) (W : List ℕ) (s : ℕ) → scopeOf T W s s ≡ empty
+unfolding scopeOf
+scope-none T W zero = refl
+scope-none T W (suc j) = rw (lt-ltb j (suc j) (omega arith))
+
+scope-more : (T : Tables) (W : List ℕ) (base n : ℕ) → base ≤ n → scopeOf T W base (suc n) ≡ binds (scopeOf T W base n) (nameBound T W n) (typeBound T W n) (binderOf T W n)
+unfolding scopeOf
+scope-more T W base n h = rw (le-ltb n base h)
+
+-- what a position says of a name: what the name means, whether no local binds it, whether it can be assigned
+abbrev meant : Tables → List ℕ → Found → Hit ℕ
+meant T W (At j) = hit (typeBound T W j) (binderOf T W j)
+meant T W Nothing = miss
+
+abbrev freshFrom : ℕ → Found → Bool
+freshFrom base (At j) = ltb j base
+freshFrom base Nothing = true
+
+abbrev assignFrom : Tables → List ℕ → ℕ → Found → Bool
+assignFrom T W base (At j) = pick (ltb j base) (isGlobal T W j) true
+assignFrom T W base Nothing = true
+
+module _ (T : Tables) (W : List ℕ) (x : ℕ) where
+  name-meant : (s : ℕ) → findName x (namesOf T W s) ≡ meant T W (latest T W x s)
+  unfolding findName namesOf latest
+  name-meant zero = refl
+  name-meant (suc n) = go (eqb (nameBound T W n) x) (name-meant n)
+    where
+      go : (b : Bool) → findName x (namesOf T W n) ≡ meant T W (latest T W x n) → pick b (hit (typeBound T W n) (binderOf T W n)) (findName x (namesOf T W n)) ≡ meant T W (pick b (At n) (latest T W x n))
+      go true r = refl
+      go false r = r
+
+  scope-meant : (base s : ℕ) → base ≤ s → orElse (find x (scopeOf T W base s)) (findName x (namesOf T W base)) ≡ meant T W (latest T W x s)
+  unfolding find latest
+  scope-meant base s h = from-base
+      (λ n. orElse (find x (scopeOf T W base n)) (findName x (namesOf T W base)) ≡ meant T W (latest T W x n))
+      base
+      (rw (scope-none T W base) (name-meant base))
+      (λ n l r. rw (scope-more T W base n l) (go n (eqb (nameBound T W n) x) r))
+      s
+      h
+    where
+      go : (n : ℕ) (b : Bool) → orElse (find x (scopeOf T W base n)) (findName x (namesOf T W base)) ≡ meant T W (latest T W x n) → orElse (pick b (hit (typeBound T W n) (binderOf T W n)) (find x (scopeOf T W base n))) (findName x (namesOf T W base)) ≡ meant T W (pick b (At n) (latest T W x n))
+      go n true r = refl
+      go n false r = r
+
+  fresh-from : (base s : ℕ) → base ≤ s → isFresh x (scopeOf T W base s) ≡ freshFrom base (latest T W x s)
+  unfolding isFresh latest
+  fresh-from base s h = from-base
+      (λ n. isFresh x (scopeOf T W base n) ≡ freshFrom base (latest T W x n))
+      base
+      (rw (scope-none T W base) (sym (old base (omega arith))))
+      (λ n l r. rw (scope-more T W base n l) (go n (eqb (nameBound T W n) x) l r))
+      s
+      h
+    where
+      old-step : (n : ℕ) (b : Bool) → n < base → freshFrom base (latest T W x n) ≡ true → freshFrom base (pick b (At n) (latest T W x n)) ≡ true
+      old-step n true l r = lt-ltb n base l
+      old-step n false l r = r
+
+      old : (n : ℕ) → n ≤ base → freshFrom base (latest T W x n) ≡ true
+      old zero l = refl
+      old (suc n) l = old-step n (eqb (nameBound T W n) x) (omega arith) (old n (omega arith))
+
+      go : (n : ℕ) (b : Bool) → base ≤ n → isFresh x (scopeOf T W base n) ≡ freshFrom base (latest T W x n) → pick b false (isFresh x (scopeOf T W base n)) ≡ freshFrom base (pick b (At n) (latest T W x n))
+      go n true l r = sym (le-ltb n base l)
+      go n false l r = r
+
+  assign-names : (base n : ℕ) → n ≤ base → not (isFixed x (namesOf T W n)) ≡ assignFrom T W base (latest T W x n)
+  unfolding isFixed namesOf latest
+  assign-names base zero h = refl
+  assign-names base (suc n) h = go (eqb (nameBound T W n) x) (isGlobal T W n) refl (omega arith) (assign-names base n (omega arith))
+    where
+      go : (b g : Bool) → isGlobal T W n ≡ g → n < base → not (isFixed x (namesOf T W n)) ≡ assignFrom T W base (latest T W x n) → not (pick b (pick (isGlobal T W n) false true) (isFixed x (namesOf T W n))) ≡ assignFrom T W base (pick b (At n) (latest T W x n))
+      go true true e l r = rw (lt-ltb n base l, e)
+      go true false e l r = rw (lt-ltb n base l, e)
+      go false g e l r = r
+
+  assign-from : (base s : ℕ) → base ≤ s → pick (isFresh x (scopeOf T W base s)) (not (isFixed x (namesOf T W base))) true ≡ assignFrom T W base (latest T W x s)
+  unfolding isFresh latest
+  assign-from base s h = from-base
+      (λ n. pick (isFresh x (scopeOf T W base n)) (not (isFixed x (namesOf T W base))) true ≡ assignFrom T W base (latest T W x n))
+      base
+      (rw (scope-none T W base) (assign-names base base (omega arith)))
+      (λ n l r. rw (scope-more T W base n l) (go n (eqb (nameBound T W n) x) l r))
+      s
+      h
+    where
+      go : (n : ℕ) (b : Bool) → base ≤ n → pick (isFresh x (scopeOf T W base n)) (not (isFixed x (namesOf T W base))) true ≡ assignFrom T W base (latest T W x n) → pick (pick b false (isFresh x (scopeOf T W base n))) (not (isFixed x (namesOf T W base))) true ≡ assignFrom T W base (pick b (At n) (latest T W x n))
+      go n true l r = rw (le-ltb n base l)
+      go n false l r = r
+
+  pub latest-low : (s j : ℕ) → latest T W x s ≡ At j → j < s
+  unfolding latest
+  latest-low zero j e = absurd (let z : _≡_ {A = ℕ} 0 1 = cc in omega arith)
+  latest-low (suc n) j e = go (eqb (nameBound T W n) x) (latest-low n j) e
+    where
+      go : (b : Bool) → (latest T W x n ≡ At j → j < n) → pick b (At n) (latest T W x n) ≡ At j → j < suc n
+      go true r e = let z : n ≡ j = cc in omega arith
+      go false r e = omega (arith, r e)
+
+  -- the name's meaning by its latest position
+  pub name-found : (s j : ℕ) → latest T W x s ≡ At j → findName x (namesOf T W s) ≡ hit (typeBound T W j) (binderOf T W j)
+  name-found s j e = name-meant s ∙ ap (meant T W) e
+
+  pub name-missing : (s : ℕ) → latest T W x s ≡ Nothing → findName x (namesOf T W s) ≡ miss
+  name-missing s e = name-meant s ∙ ap (meant T W) e
+
+  pub found-is : (base s j : ℕ) → latest T W x s ≡ At j → base ≤ s → orElse (find x (scopeOf T W base s)) (findName x (namesOf T W base)) ≡ hit (typeBound T W j) (binderOf T W j)
+  found-is base s j e h = scope-meant base s h ∙ ap (meant T W) e
+
+  pub missing-is : (base s : ℕ) → latest T W x s ≡ Nothing → base ≤ s → orElse (find x (scopeOf T W base s)) (findName x (namesOf T W base)) ≡ miss
+  missing-is base s e h = scope-meant base s h ∙ ap (meant T W) e
+
+-- the tops of chains
+top-most : (T : Tables) (W : List ℕ) (h s : ℕ) → topOf T W h s ≤ s
+unfolding topOf
+top-most T W h zero = omega arith
+top-most T W h (suc n) = go (eqb (nameBound T W n % 512) h) (top-most T W h n)
+  where
+    go : (b : Bool) → topOf T W h n ≤ n → pick b (suc n) (topOf T W h n) ≤ suc n
+    go true r = omega arith
+    go false r = omega arith
+
+record Top (T : Tables) (W : List ℕ) (x s j : ℕ) : Type 0 where
+  pub low : j < s
+  pub remainder : nameBound T W j % 512 ≡ x % 512
+  pub here : nameBound T W j ≡ x → latest T W x s ≡ At j
+  pub before : (nameBound T W j ≡ x → ⊥) → latest T W x s ≡ latest T W x j
+
+module _ (T : Tables) (W : List ℕ) (x : ℕ) where
+  latest-here : (n : ℕ) → nameBound T W n ≡ x → latest T W x (suc n) ≡ At n
+  unfolding latest
+  latest-here n e = rw (eq-eqb (nameBound T W n) x e)
+
+  latest-before : (n : ℕ) → (nameBound T W n ≡ x → ⊥) → latest T W x (suc n) ≡ latest T W x n
+  unfolding latest
+  latest-before n e = rw (ne-eqb (nameBound T W n) x e)
+
+  other-name : (n : ℕ) → (nameBound T W n % 512 ≡ x % 512 → ⊥) → nameBound T W n ≡ x → ⊥
+  other-name n f e = f (ap (λ m. m % 512) e)
+
+  top-none : (s : ℕ) → topOf T W (x % 512) s ≡ 0 → latest T W x s ≡ Nothing
+  unfolding topOf latest
+  top-none zero e = refl
+  top-none (suc n) e = go (eqb (nameBound T W n % 512) (x % 512)) refl (top-none n) e
+    where
+      go : (b : Bool) → eqb (nameBound T W n % 512) (x % 512) ≡ b → (topOf T W (x % 512) n ≡ 0 → latest T W x n ≡ Nothing) → pick b (suc n) (topOf T W (x % 512) n) ≡ 0 → latest T W x (suc n) ≡ Nothing
+      go true f r e = absurd (omega arith)
+      go false f r e = latest-before n (other-name n (eqb-false _ _ f)) ∙ r e
+
+  top-own : (n : ℕ) → nameBound T W n % 512 ≡ x % 512 → Top T W x (suc n) n
+  top-own n e = record { low = omega arith; remainder = e; here = latest-here n; before = latest-before n }
+
+  top-older : (n j : ℕ) → (nameBound T W n % 512 ≡ x % 512 → ⊥) → Top T W x n j → Top T W x (suc n) j
+  top-older n j f t = record {
+    low = omega (arith, t .low);
+    remainder = t .remainder;
+    here = λ e. latest-before n (other-name n f) ∙ t .here e;
+    before = λ e. latest-before n (other-name n f) ∙ t .before e;
+  }
+
+  top-some : (s j : ℕ) → topOf T W (x % 512) s ≡ suc j → Top T W x s j
+  unfolding topOf
+  top-some zero j e = absurd (omega arith)
+  top-some (suc n) j e = go (eqb (nameBound T W n % 512) (x % 512)) refl (top-some n j) e
+    where
+      go : (b : Bool) → eqb (nameBound T W n % 512) (x % 512) ≡ b → (topOf T W (x % 512) n ≡ suc j → Top T W x n j) → pick b (suc n) (topOf T W (x % 512) n) ≡ suc j → Top T W x (suc n) j
+      go true f r e =
+          let same : n ≡ j = omega arith in
+          subst (Top T W x (suc n)) same (top-own n (eqb-true _ _ f))
+      go false f r e = top-older n j (eqb-false _ _ f) (r e)
+
+-- the way along a chain: in each scope that the buffers hold, `after` is a top, and the name is not bound above it
+pub record Reached (T : Tables) (W : List ℕ) (x s after : ℕ) : Type 0 where
+  pub height : ℕ
+  pub low : height ≤ s
+  pub top : after ≡ topOf T W (x % 512) height
+  pub same : latest T W x s ≡ latest T W x height
+
+pub record Walks (F : List ℕ) (S : Sections) (W K : List ℕ) (x after : ℕ) : Type 0 where
+  pub most : after ≤ 4224
+  pub reached : (s : ℕ) → Scoped F S W K s → Reached (tablesOf F S) W x s after
+
+reached-none : (T : Tables) (W : List ℕ) (x s after : ℕ) → Reached T W x s after → after ≤ 0 → Nothing ≡ latest T W x s
+reached-none T W x s after r h =
+    let e : topOf T W (x % 512) (r .height) ≡ 0 = omega (arith, r .top) in
+    sym (r .same ∙ top-none T W x (r .height) e)
+
+reached-top : (T : Tables) (W : List ℕ) (x s after : ℕ) → (r : Reached T W x s after) → 0 < after → Top T W x (r .height) (after - 1)
+reached-top T W x s after r h = top-some T W x (r .height) (after - 1) (sym (r .top) ∙ omega arith)
+
+scoped-most : {F : List ℕ} {S : Sections} {W K : List ℕ} {s : ℕ} → Scoped F S W K s → s ≤ 4224
+scoped-most c = omega (arith, c .high, c .laid .built-ins-most, c .laid .nodes-most)
+
+walk-first : {F : List ℕ} {S : Sections} {W K : List ℕ} {s : ℕ} (x after : ℕ) → after ≡ getD K (x % 512) 0 → Scoped F S W K s → after ≡ topOf (tablesOf F S) W (x % 512) s
+walk-first x after e c = e ∙ c .chained .heads (x % 512) (mod-lt x (omega arith))
+
+module _ {F : List ℕ} {S : Sections} {W K : List ℕ} {x : ℕ} where
+  pub walk-starts : (after : ℕ) → Some F S W K → after ≡ getD K (x % 512) 0 → Walks F S W K x after
+  walk-starts after o e = record {
+    most = omega (arith, walk-first x after e (o .scoped), top-most (tablesOf F S) W (x % 512) (o .height), scoped-most (o .scoped));
+    reached = λ s c. record {
+      height = s;
+      low = omega arith;
+      top = walk-first x after e c;
+      same = refl;
+    };
+  }
+
+  module _ (after : ℕ) (walk : Walks F S W K x after) (h : 0 < after) where
+    walk-low : (s : ℕ) → Scoped F S W K s → after - 1 < s
+    walk-low s c =
+        let r = walk .reached s c in
+        omega (arith, r .low, reached-top (tablesOf F S) W x s after r h .low)
+
+    pub walk-position : Some F S W K → Position F S W (after - 1)
+    walk-position o = position-of (after - 1) (o .scoped) (walk-low (o .height) (o .scoped))
+
+    pub walk-found : (y : ℕ) → y ≡ nameBound (tablesOf F S) W (after - 1) → y ≡ x → Finds F S W K x (At (after - 1))
+    walk-found y e f = record {
+      found = λ s c.
+          let r = walk .reached s c in
+          sym (r .same ∙ reached-top (tablesOf F S) W x s after r h .here (sym e ∙ f));
+    }
+
+    module _ (n : ℕ) (o : Some F S W K) (en : n ≡ getD K (512 + (after - 1)) 0) where
+      walk-link : (s : ℕ) → Scoped F S W K s → n ≡ topOf (tablesOf F S) W (x % 512) (after - 1)
+      walk-link s c =
+          let r = walk .reached s c in
+          en ∙ c .chained .links (after - 1) (walk-low s c) ∙ ap (λ m. topOf (tablesOf F S) W m (after - 1)) (reached-top (tablesOf F S) W x s after r h .remainder)
+
+      pub walk-falls : n < after
+      walk-falls = omega (arith, walk-link (o .height) (o .scoped), top-most (tablesOf F S) W (x % 512) (after - 1))
+
+      pub walk-on : (y : ℕ) → y ≡ nameBound (tablesOf F S) W (after - 1) → (y ≡ x → ⊥) → Walks F S W K x n
+      walk-on y e f = record {
+        most = omega (arith, walk .most, walk-falls);
+        reached = λ s c.
+            let r = walk .reached s c in
+            let low = walk-low s c in
+            record {
+              height = after - 1;
+              low = omega arith;
+              top = walk-link s c;
+              same = r .same ∙ reached-top (tablesOf F S) W x s after r h .before (λ g. f (e ∙ g));
+            };
+      }
+
+  pub walk-ends : (after : ℕ) → Walks F S W K x after → after ≤ 0 → Finds F S W K x Nothing
+  walk-ends after walk h = record { found = λ s c. reached-none (tablesOf F S) W x s after (walk .reached s c) h }
+
+-- whether a name is fresh, and whether it can be assigned
+module _ {F : List ℕ} {S : Sections} {W K : List ℕ} {x : ℕ} (r : Found) (found : Finds F S W K x r) (j : ℕ) (e : r ≡ At j) (o : Some F S W K) where
+  pub found-position : Position F S W j
+  found-position = position-of j (o .scoped) (latest-low (tablesOf F S) W x (o .height) j (sym (found .found (o .height) (o .scoped)) ∙ e))
+
+  pub found-there : (b : ℕ) → S .«built_ins» ≤ j → b ≡ binderOf (tablesOf F S) W j → Has F S b (S .nodes)
+  found-there b h eb = binder-there F S W j h found-position b eb
+
+module _ {F : List ℕ} {S : Sections} {W K : List ℕ} {x : ℕ} (base : ℕ) (r : Found) (found : Finds F S W K x r) where
+  pub fresh-none : r ≡ Nothing → Freshness F S W K base x true
+  fresh-none e = record {
+    tells = λ s c h. sym (fresh-from (tablesOf F S) W x base s h ∙ ap (freshFrom base) (sym (found .found s c) ∙ e));
+  }
+
+  pub assign-none : r ≡ Nothing → Assignability F S W K base x true
+  assign-none e = record {
+    tells = λ s c h. sym (assign-from (tablesOf F S) W x base s h ∙ ap (assignFrom (tablesOf F S) W base) (sym (found .found s c) ∙ e));
+  }
+
+  module _ (j : ℕ) (e : r ≡ At j) where
+    pub fresh-at : Freshness F S W K base x (ltb j base)
+    fresh-at = record {
+      tells = λ s c h. sym (fresh-from (tablesOf F S) W x base s h ∙ ap (freshFrom base) (sym (found .found s c) ∙ e));
+    }
+
+    assign-at : (t : Bool) → pick (ltb j base) (isGlobal (tablesOf F S) W j) true ≡ t → Assignability F S W K base x t
+    assign-at t f = record {
+      tells = λ s c h. sym (assign-from (tablesOf F S) W x base s h ∙ ap (assignFrom (tablesOf F S) W base) (sym (found .found s c) ∙ e) ∙ f);
+    }
+
+    pub assign-local : base ≤ j → Assignability F S W K base x true
+    assign-local h = assign-at true (rw (le-ltb j base h))
+
+    pub assign-built-in : j < base → j < S .«built_ins» → Assignability F S W K base x false
+    assign-built-in h k = assign-at false (rw (lt-ltb j base h) (built-in-fixed F S W j k))
+
+    pub assign-stack : (b n : ℕ) → j < base → S .«built_ins» ≤ j → b ≡ binderOf (tablesOf F S) W j → n ≡ nodeAt (tablesOf F S) b .kind → Assignability F S W K base x (eqb n 1)
+    assign-stack b n h k eb en = assign-at (eqb n 1) (rw (lt-ltb j base h) (stack-global F S W j k b eb ∙ ap (λ m. eqb m 1) (sym en)))
+
+-- the top of a chain with one position more
+top-own-is : (T : Tables) (W : List ℕ) (h n : ℕ) → nameBound T W n % 512 ≡ h → topOf T W h (n + 1) ≡ n + 1
+unfolding topOf
+top-own-is T W h n e = rw (add-one, eq-eqb (nameBound T W n % 512) h e)
+
+top-other : (T : Tables) (W : List ℕ) (h n : ℕ) → (nameBound T W n % 512 ≡ h → ⊥) → topOf T W h (n + 1) ≡ topOf T W h n
+unfolding topOf
+top-other T W h n e = rw (add-one, ne-eqb (nameBound T W n % 512) h e)
+
+-- the chains with one position less
+module _ (T : Tables) (W K : List ℕ) (q : ℕ) (c : Chained T W K (q + 1)) (low : q < 4224) where
+  abbrev shorter : List ℕ
+  shorter = set K (nameBound T W q % 512) (getD K (512 + q) 0)
+
+  heads-less : (h : ℕ) → h < 512 → getD shorter h 0 ≡ topOf T W h q
+  heads-less h l = go (eqb (nameBound T W q % 512) h) refl
+    where
+      go : (b : Bool) → eqb (nameBound T W q % 512) h ≡ b → getD shorter h 0 ≡ topOf T W h q
+      go true e =
+          subst (λ m. getD shorter m 0 ≡ topOf T W m q) (eqb-true (nameBound T W q % 512) h e)
+          (getD-set-same K (nameBound T W q % 512) _ 0 (omega (arith, c .long)) ∙ c .links q (omega arith))
+      go false e =
+          getD-set-other K (nameBound T W q % 512) h _ 0 (λ x. eqb-false (nameBound T W q % 512) h e (sym x)) ∙ c .heads h l ∙ top-other T W h q (eqb-false (nameBound T W q % 512) h e)
+
+  chained-less : Chained T W shorter q
+  chained-less = record {
+    long = simp length-set (c .long);
+    heads = heads-less;
+    links = λ j l. getD-set-other K (nameBound T W q % 512) (512 + j) _ 0 (λ x. omega arith) ∙ c .links j (omega arith);
+  }
+
+-- leaving a binding
+left-to : (F : List ℕ) (S : Sections) (W K : List ℕ) (q : ℕ) → Scoped F S W K (q + 1) → Scoped F S W (set K (nameBound (tablesOf F S) W q % 512) (getD K (512 + q) 0)) q
+left-to F S W K q c = record {
+  laid = c .laid;
+  long = c .long;
+  high = omega (arith, c .high);
+  binders = λ j l. c .binders j (omega arith);
+  types = λ j l. c .types j (omega arith);
+  chained = chained-less (tablesOf F S) W K q (c .chained) (omega (arith, c .high, c .laid .built-ins-most, c .laid .nodes-most));
+}
+
+module _ {F : List ℕ} {S : Sections} {W K : List ℕ} (to p : ℕ) (c : Scoped F S W K p) (h : to < p) where
+  pub left-position : Position F S W (p - 1)
+  left-position = position-of (p - 1) c (omega arith)
+
+  pub left-one : (x : ℕ) (K′ : List ℕ) → x ≡ nameBound (tablesOf F S) W (p - 1) → K′ ≡ set K (x % 512) (getD K (512 + (p - 1)) 0) → Scoped F S W K′ (p - 1)
+  left-one x K′ ex eK =
+      let one : p ≡ p - 1 + 1 = omega arith in
+      rw (eK, ex) (left-to F S W K (p - 1) (subst (Scoped F S W K) one c))
+
+pub left-all : {F : List ℕ} {S : Sections} {W K : List ℕ} (to p : ℕ) → Scoped F S W K p → to ≤ p → p ≤ to → Scoped F S W K to
+left-all to p c h k =
+    let e : p ≡ to = omega arith in
+    subst (Scoped _ _ _ _) e c
+
+-- the chains with one position more
+module _ (T : Tables) (W W′ K : List ℕ) (s x : ℕ) (same : Same (entryOf T s) W W′) (c : Chained T W K s) (low : s < 4224) (named : nameBound T W′ s ≡ x) where
+  abbrev inner : List ℕ
+  inner = set K (512 + s) (getD K (x % 512) 0)
+
+  abbrev longer : List ℕ
+  longer = set inner (x % 512) (s + 1)
+
+  named-by : nameBound T W′ s % 512 ≡ x % 512
+  named-by = ap (λ m. m % 512) named
+
+  heads-more : (h : ℕ) → h < 512 → getD longer h 0 ≡ topOf T W′ h (s + 1)
+  heads-more h l = go (eqb (x % 512) h) refl
+    where
+      go : (b : Bool) → eqb (x % 512) h ≡ b → getD longer h 0 ≡ topOf T W′ h (s + 1)
+      go true e =
+          subst (λ m. getD longer m 0 ≡ topOf T W′ m (s + 1)) (eqb-true (x % 512) h e)
+          (getD-set-same inner (x % 512) (s + 1) 0 (simp length-set (omega (arith, c .long))) ∙ sym (top-own-is T W′ (x % 512) s named-by))
+      go false e =
+          getD-set-other inner (x % 512) h (s + 1) 0 (λ m. eqb-false (x % 512) h e (sym m))
+          ∙ getD-set-other K (512 + s) h _ 0 (λ m. omega arith)
+          ∙ c .heads h l
+          ∙ sym (top-other T W′ h s (λ m. eqb-false (x % 512) h e (sym named-by ∙ m)) ∙ top-same T s same h s (omega arith))
+
+  link-own : getD longer (512 + s) 0 ≡ topOf T W′ (nameBound T W′ s % 512) s
+  link-own =
+      getD-set-other inner (x % 512) (512 + s) (s + 1) 0 (λ m. omega arith)
+      ∙ getD-set-same K (512 + s) _ 0 (omega (arith, c .long))
+      ∙ c .heads (x % 512) (mod-lt x (omega arith))
+      ∙ sym (ap (λ m. topOf T W′ m s) named-by ∙ top-same T s same (x % 512) s (omega arith))
+
+  link-older : (k : ℕ) → k < s → getD longer (512 + k) 0 ≡ topOf T W′ (nameBound T W′ k % 512) k
+  link-older k l =
+      getD-set-other inner (x % 512) (512 + k) (s + 1) 0 (λ m. omega arith)
+      ∙ getD-set-other K (512 + s) (512 + k) _ 0 (λ m. omega arith)
+      ∙ c .links k l
+      ∙ sym (ap (λ m. topOf T W′ (m % 512) k) (name-same T s same k l) ∙ top-same T s same (nameBound T W k % 512) k (omega arith))
+
+  chained-more : Chained T W′ longer (s + 1)
+  chained-more = record {
+    long = simp length-set (c .long);
+    heads = heads-more;
+    links = below-more (λ k. getD longer (512 + k) 0 ≡ topOf T W′ (nameBound T W′ k % 512) k) s link-older link-own;
+  }
+
+-- binding
+module _ {F : List ℕ} {S : Sections} {W K : List ℕ} {s node t : ℕ} (b : Bindable F S W K s node t) where
+  abbrev entry : ℕ
+  entry = (s - S .«built_ins») * 2
+
+  abbrev once : List ℕ
+  once = set W entry node
+
+  abbrev written : List ℕ
+  written = set once (entry + 1) t
+
+  entry-low : entry + 1 < length W
+  entry-low = omega (arith, b .low, b .room, b .scoped .long)
+
+  own-binder : getD written entry 0 ≡ node
+  own-binder = getD-set-other once (entry + 1) entry t 0 (λ m. omega arith) ∙ getD-set-same W entry node 0 (omega (arith, entry-low))
+
+  own-type : getD written (entry + 1) 0 ≡ t
+  own-type = getD-set-same once (entry + 1) t 0 (simp length-set entry-low)
+
+  written-same : Same (entryOf (tablesOf F S) s) W written
+  written-same = record {
+    at = λ i l.
+        let e = built-ins-long F S in
+        getD-set-other once (entry + 1) i t 0 (λ m. omega arith) ∙ getD-set-other W entry i node 0 (λ m. omega arith);
+  }
+
+  bound-binder : binderOf (tablesOf F S) written s ≡ node
+  bound-binder = sym (stack-binder F S written s (b .low) node (sym own-binder))
+
+  bound-type : typeBound (tablesOf F S) written s ≡ t
+  bound-type = sym (stack-bound F S written s (b .low) t (sym own-type))
+
+  bound-name : nameBound (tablesOf F S) written s ≡ nodeAt (tablesOf F S) node .x
+  bound-name = sym (stack-named F S written s (b .low) node (nodeAt (tablesOf F S) node .x) (sym own-binder) refl)
+
+  bound-scoped : (x : ℕ) → x ≡ nodeAt (tablesOf F S) node .x → Scoped F S written (set (set K (512 + s) (getD K (x % 512) 0)) (x % 512) (s + 1)) (s + 1)
+  bound-scoped x e =
+      let c = b .scoped in
+      let old = scoped-same c written-same (simp length-set (c .long)) in
+      record {
+        laid = c .laid;
+        long = old .long;
+        high = omega (arith, b .room);
+        binders = below-more (λ j. S .«built_ins» ≤ j → getD written (entryOf (tablesOf F S) j) 0 < S .nodes) s (old .binders) (λ k. rw (built-ins-long F S, own-binder) (b .node-there));
+        types = below-more (λ j. typeBound (tablesOf F S) written j < S .types) s (old .types) (rw bound-type (b .type-there));
+        chained = chained-more (tablesOf F S) W written K s x written-same (c .chained) (omega (arith, b .room, c .laid .built-ins-most, c .laid .nodes-most)) (bound-name ∙ sym e);
+      }
+
+  pub bound-is : (x : ℕ) (K′ : List ℕ) → x ≡ nodeAt (tablesOf F S) node .x → K′ ≡ set (set K (512 + s) (getD K (x % 512) 0)) (x % 512) (s + 1) → Bound F S W K s node t (set (set W ((s - S .«built_ins») * 2) node) ((s - S .«built_ins») * 2 + 1) t) K′
+  bound-is x K′ ex eK = record {
+    scoped = rw eK (bound-scoped x ex);
+    same = written-same;
+    binder = bound-binder;
+    type = bound-type;
+    name = bound-name;
+  }
+
+-- the scope and the names after a binding
+module _ {F : List ℕ} {S : Sections} {W K W′ K′ : List ℕ} {s node t : ℕ} (base : ℕ) (b : Bound F S W K s node t W′ K′) (h : base ≤ s) where
+  pub scope-bound : scopeOf (tablesOf F S) W′ base (s + 1) ≡ binds (scopeOf (tablesOf F S) W base s) (nodeAt (tablesOf F S) node .x) t node
+  scope-bound =
+      ap (scopeOf (tablesOf F S) W′ base) (add-one s)
+      ∙ scope-more (tablesOf F S) W′ base s h
+      ∙ rw (scope-same (tablesOf F S) s (b .same) base, b .name, b .type, b .binder)
+
+  pub names-bound : namesOf (tablesOf F S) W′ base ≡ namesOf (tablesOf F S) W base
+  names-bound = names-same (tablesOf F S) s (b .same) base h
+
+-- no binding yet
+pub scoped-none : (F : List ℕ) (S : Sections) (W K : List ℕ) → Laid F S → S .nodes * 2 ≤ length W → 4736 ≤ length K → ((h : ℕ) → h < 512 → getD K h 0 ≡ 0) → Scoped F S W K 0
+unfolding topOf
+scoped-none F S W K laid w k e = record {
+  laid = laid;
+  long = w;
+  high = omega arith;
+  binders = λ j l. absurd (not-suc-le-zero l);
+  types = λ j l. absurd (not-suc-le-zero l);
+  chained = record { long = k; heads = e; links = λ j l. absurd (not-suc-le-zero l) };
+}
+
+-- the binding of a built-in: only the chains have it
+module _ {F : List ℕ} {S : Sections} {W K : List ℕ} {s : ℕ} (c : Scoped F S W K s) (h : s < S .«built_ins») where
+  pub scoped-linked : (x : ℕ) (K′ : List ℕ) → x ≡ builtInAt (tablesOf F S) s .name → builtInAt (tablesOf F S) s .type < S .types → K′ ≡ set (set K (512 + s) (getD K (x % 512) 0)) (x % 512) (s + 1) → Scoped F S W K′ (s + 1)
+  scoped-linked x K′ e t eK = record {
+    laid = c .laid;
+    long = c .long;
+    high = omega arith;
+    binders = below-more (λ j. S .«built_ins» ≤ j → getD W (entryOf (tablesOf F S) j) 0 < S .nodes) s (c .binders) (λ k. absurd (omega arith));
+    types = below-more (λ j. typeBound (tablesOf F S) W j < S .types) s (c .types) (rw (← built-in-bound F S W s h _ refl) t);
+    chained = rw eK (chained-more (tablesOf F S) W W K s x (same-refl _ W) (c .chained) (omega (arith, c .laid .built-ins-most)) (sym (built-in-named F S W s h x e)));
+  }
+
+-- the names with one more: a built-in's, or that of a function or a global
+pub names-more : (T : Tables) (W : List ℕ) (s : ℕ) → namesOf T W (s + 1) ≡ (record { name = nameBound T W s; type = typeBound T W s; binder = binderOf T W s; assignable = isGlobal T W s } ∷ namesOf T W s)
+unfolding namesOf
+names-more T W s = rw add-one
+
+entry-is : (n m t u b d : ℕ) (a e : Bool) (l k : List (Entry ℕ)) → n ≡ m → t ≡ u → b ≡ d → a ≡ e → l ≡ k → _≡_ {A = List (Entry ℕ)} (record { name = n; type = t; binder = b; assignable = a } ∷ l) (record { name = m; type = u; binder = d; assignable = e } ∷ k)
+entry-is n m t u b d a e l k p q r z y = rw (p, q, r, z, y)
+
+pub names-linked : (F : List ℕ) (S : Sections) (W : List ℕ) (s : ℕ) → s < S .«built_ins» → namesOf (tablesOf F S) W (s + 1) ≡ (record { name = builtInAt (tablesOf F S) s .name; type = builtInAt (tablesOf F S) s .type; binder = 40000 + s; assignable = false } ∷ namesOf (tablesOf F S) W s)
+names-linked F S W s h =
+    names-more (tablesOf F S) W s
+    ∙ entry-is _ _ _ _ _ _ _ _ _ _ (sym (built-in-named F S W s h _ refl)) (sym (built-in-bound F S W s h _ refl)) (sym (built-in-binder F S W s h)) (built-in-fixed F S W s h) refl
+
+pub names-declared : {F : List ℕ} {S : Sections} {W K W′ K′ : List ℕ} {s node t : ℕ} → Bound F S W K s node t W′ K′ → S .«built_ins» ≤ s → namesOf (tablesOf F S) W′ (s + 1) ≡ (record { name = nodeAt (tablesOf F S) node .x; type = t; binder = node; assignable = eqb (nodeAt (tablesOf F S) node .kind) 1 } ∷ namesOf (tablesOf F S) W s)
+names-declared {F} {S} {W} {K} {W′} {K′} {s} {node} {t} b h =
+    names-more (tablesOf F S) W′ s
+    ∙ entry-is _ _ _ _ _ _ _ _ _ _ (b .name) (b .type) (b .binder) (stack-global F S W′ s h node (sym (b .binder))) (names-same (tablesOf F S) s (b .same) s (omega arith))

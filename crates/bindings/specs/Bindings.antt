@@ -1,0 +1,111 @@
+-- Scopes and contexts as the buffers hold them. A position is a built-in's number, or the number of built-ins plus that of an entry of
+-- the stack W, two numbers each: binder and type. A scope is a height. Assumes nothing.
+use mathlib.Core.Path.{_≡_}
+use mathlib.Core.Bool.{Bool, true, false, not}
+use mathlib.Core.List.{List, [], _∷_}
+use Prim.Native.Nat.{ℕ, zero, suc, _+_, _-_, _*_, _%_, _≤_, _<_}
+use lib.ListN.{length, getD}
+use lib.Dec.{eqb, ltb}
+use Rattle.oat.specs.Basics.{pick}
+use Rattle.oat.specs.Tables.{Tables, builtInAt, nodeAt}
+use Rattle.typing_rules.specs.Contexts.{Scope, empty, binds, Entry, isFresh, isFixed}
+use Rattle.file_sections.specs.declared.Sections.{Sections}
+use Rattle.file_sections.specs.Layout.{Laid, tablesOf}
+use Rattle.bindings.specs.declared.Found.{Found}
+use Rattle.bindings.specs.declared.Found.the-variants.{At, Nothing}
+
+-- where the entry of the position j stands in the stack
+abbrev pub entryOf : Tables → ℕ → ℕ
+entryOf T j = (j - length (T .builtIns)) * 2
+
+-- the binder, the type and the name of the position j, and whether it can be assigned: whether it is a global's
+unfoldable pub binderOf : Tables → List ℕ → ℕ → ℕ
+binderOf T W j = pick (ltb j (length (T .builtIns))) (40000 + j) (getD W (entryOf T j) 0)
+
+unfoldable pub typeBound : Tables → List ℕ → ℕ → ℕ
+typeBound T W j = pick (ltb j (length (T .builtIns))) (builtInAt T j .type) (getD W (entryOf T j + 1) 0)
+
+unfoldable pub nameBound : Tables → List ℕ → ℕ → ℕ
+nameBound T W j = pick (ltb j (length (T .builtIns))) (builtInAt T j .name) (nodeAt T (getD W (entryOf T j) 0) .x)
+
+unfoldable pub isGlobal : Tables → List ℕ → ℕ → Bool
+isGlobal T W j = pick (ltb j (length (T .builtIns))) false (eqb (nodeAt T (getD W (entryOf T j) 0) .kind) 1)
+
+-- the names of built-ins, functions and globals: the positions below `base`, the latest first
+unfoldable pub namesOf : Tables → List ℕ → ℕ → List (Entry ℕ)
+namesOf T W zero = []
+namesOf T W (suc j) =
+    record { name = nameBound T W j; type = typeBound T W j; binder = binderOf T W j; assignable = isGlobal T W j } ∷ namesOf T W j
+
+-- the scope of the height s: the positions from `base` on
+unfoldable pub scopeOf : Tables → List ℕ → ℕ → ℕ → Scope ℕ
+scopeOf T W base zero = empty
+scopeOf T W base (suc j) = pick (ltb j base) empty (binds (scopeOf T W base j) (nameBound T W j) (typeBound T W j) (binderOf T W j))
+
+-- the latest position of the name x below s
+unfoldable pub latest : Tables → List ℕ → ℕ → ℕ → Found
+latest T W x zero = Nothing
+latest T W x (suc j) = pick (eqb (nameBound T W j) x) (At j) (latest T W x j)
+
+-- one more than the latest position below s whose name leaves the remainder h by 512; 0 where there is none
+unfoldable pub topOf : Tables → List ℕ → ℕ → ℕ → ℕ
+topOf T W h zero = 0
+topOf T W h (suc j) = pick (eqb (nameBound T W j % 512) h) (suc j) (topOf T W h j)
+
+-- the chains K lead through the positions below s
+pub record Chained (T : Tables) (W K : List ℕ) (s : ℕ) : Type 0 where
+  pub long : 4736 ≤ length K
+  pub heads : (h : ℕ) → h < 512 → getD K h 0 ≡ topOf T W h s
+  pub links : (j : ℕ) → j < s → getD K (512 + j) 0 ≡ topOf T W (nameBound T W j % 512) j
+
+-- the stack has the position j: a built-in, or an entry whose binder is a node
+pub record Position (F : List ℕ) (S : Sections) (W : List ℕ) (j : ℕ) : Type 0 where
+  pub laid : Laid F S
+  pub long : S .nodes * 2 ≤ length W
+  pub high : j < S .«built_ins» + S .nodes
+  pub node : S .«built_ins» ≤ j → getD W (entryOf (tablesOf F S) j) 0 < S .nodes
+
+-- the stack W and the chains K hold a scope of the height s
+pub record Scoped (F : List ℕ) (S : Sections) (W K : List ℕ) (s : ℕ) : Type 0 where
+  pub laid : Laid F S
+  pub long : S .nodes * 2 ≤ length W
+  pub high : s ≤ S .«built_ins» + S .nodes
+  pub binders : (j : ℕ) → j < s → S .«built_ins» ≤ j → getD W (entryOf (tablesOf F S) j) 0 < S .nodes
+  pub types : (j : ℕ) → j < s → typeBound (tablesOf F S) W j < S .types
+  pub chained : Chained (tablesOf F S) W K s
+
+-- they hold some scope
+pub record Some (F : List ℕ) (S : Sections) (W K : List ℕ) : Type 0 where
+  pub height : ℕ
+  pub scoped : Scoped F S W K height
+
+-- l′ is l below k
+pub record Same (k : ℕ) (l l′ : List ℕ) : Type 0 where
+  pub at : (i : ℕ) → i < k → getD l′ i 0 ≡ getD l i 0
+
+-- what `find`, `is_fresh` and `is_assignable` answer, in the scope that the buffers hold
+pub record Finds (F : List ℕ) (S : Sections) (W K : List ℕ) (x : ℕ) (r : Found) : Type 0 where
+  pub found : (s : ℕ) → Scoped F S W K s → r ≡ latest (tablesOf F S) W x s
+
+pub record Freshness (F : List ℕ) (S : Sections) (W K : List ℕ) (base x : ℕ) (r : Bool) : Type 0 where
+  pub tells : (s : ℕ) → Scoped F S W K s → base ≤ s → r ≡ isFresh x (scopeOf (tablesOf F S) W base s)
+
+pub record Assignability (F : List ℕ) (S : Sections) (W K : List ℕ) (base x : ℕ) (r : Bool) : Type 0 where
+  pub tells : (s : ℕ) → Scoped F S W K s → base ≤ s
+      → r ≡ pick (isFresh x (scopeOf (tablesOf F S) W base s)) (not (isFixed x (namesOf (tablesOf F S) W base))) true
+
+-- there is room for a binding of the node, with the type t, at the height s
+pub record Bindable (F : List ℕ) (S : Sections) (W K : List ℕ) (s node t : ℕ) : Type 0 where
+  pub scoped : Scoped F S W K s
+  pub low : S .«built_ins» ≤ s
+  pub room : s < S .«built_ins» + S .nodes
+  pub node-there : node < S .nodes
+  pub type-there : t < S .types
+
+-- the buffers after it
+pub record Bound (F : List ℕ) (S : Sections) (W K : List ℕ) (s node t : ℕ) (W′ K′ : List ℕ) : Type 0 where
+  pub scoped : Scoped F S W′ K′ (s + 1)
+  pub same : Same (entryOf (tablesOf F S) s) W W′
+  pub binder : binderOf (tablesOf F S) W′ s ≡ node
+  pub type : typeBound (tablesOf F S) W′ s ≡ t
+  pub name : nameBound (tablesOf F S) W′ s ≡ nodeAt (tablesOf F S) node .x
