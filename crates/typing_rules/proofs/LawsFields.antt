@@ -68,7 +68,7 @@ module _ (T : Tables) where
       ap (λ m. pick (eqb (m .name) x) (has (m .type)) (member x (tabulate count (λ j. g (suc j))))) (e 0 ∙ ap fieldWritten (add-zero first))
       ∙ first-field (eqb (fieldAt T first .name) x) (fieldAt T first .type) _ _ rest
 
-  struct-fields : (x i : ℕ) → member x (structOf T i .fields) ≡ memberOf T (fieldAmong T x (structAt T i .first) (structAt T i .count))
+  pub struct-fields : (x i : ℕ) → member x (structOf T i .fields) ≡ memberOf T (fieldAmong T x (structAt T i .first) (structAt T i .count))
   unfolding structOf
   struct-fields x i = among-is x (λ j. fieldWritten (structAt T i .first + j)) (structAt T i .first) (structAt T i .count) (λ j. refl)
 
@@ -91,7 +91,7 @@ module _ (T : Tables) where
 
 -- a field's type is a value
 module _ (T : Tables) (F : File T) where
-  fields-listed : (i : ℕ) → i < length (T .structs) → structAt T i .first + structAt T i .count ≤ length (T .fields)
+  pub fields-listed : (i : ℕ) → i < length (T .structs) → structAt T i .first + structAt T i .count ≤ length (T .fields)
   unfolding fieldsBefore
   fields-listed i h =
       let first = F .tables .struct i h in
@@ -99,7 +99,7 @@ module _ (T : Tables) (F : File T) where
       let part = sum-part (length (T .structs)) (λ j. structAt T j .count) i h in
       omega arith
 
-  among-value : (x a first count : ℕ) → first + count ≤ length (T .fields) → fieldAmong T x first count ≡ number a → Value T a
+  pub among-value : (x a first count : ℕ) → first + count ≤ length (T .fields) → fieldAmong T x first count ≡ number a → Value T a
   unfolding fieldAmong
   among-value x a first zero h e = absurd (let z : _≡_ {A = ℕ} 0 1 = cc in omega arith)
   among-value x a first (suc count) h e = go (eqb (fieldAt T first .name) x) (λ r. among-value x a (suc first) count (omega arith) r) e

@@ -1,0 +1,5 @@
+pub mod LawsTrees
+pub mod LawsTimes
+pub mod LawsCopies
+pub mod LawsLookup
+pub mod LawsFitting

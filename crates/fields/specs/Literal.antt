@@ -1,0 +1,85 @@
+-- The names of a struct literal, and where a tree ends. Assumes nothing.
+use mathlib.Core.Path.{_≡_}
+use mathlib.Core.Bool.{Bool, true, false, _&&_}
+use mathlib.Core.List.{List, [], _∷_}
+use Prim.Native.Nat.{ℕ, zero, suc, _+_, _*_, _≤_, _<_}
+use lib.ListN.{length, getD}
+use lib.Dec.{eqb}
+use Rattle.oat.specs.Basics.{pick, allBelow}
+use Rattle.oat.specs.Tables.{Tables, nodeAt, fieldAt}
+use Rattle.oat.specs.Types.{structOf}
+use Rattle.oat.specs.Syntax.{Inits, noInit, init, countInits}
+use Rattle.oat.specs.Nodes.{InitsStand}
+use Rattle.typing_rules.specs.Rules.{namesFit}
+use Rattle.type_index.specs.Index.{Readable}
+use Rattle.file_sections.specs.declared.Sections.{Sections}
+use Rattle.file_sections.specs.Layout.{Laid, tablesOf}
+
+-- `left` trees stand from the node n on, by their child counts, and end before the node m
+pub data Trees (T : Tables) : (n left m : ℕ) → Type 0 where
+  no-tree : {n : ℕ} → Trees T n 0 n
+  next-tree : {n m : ℕ} (left : ℕ) → n < length (T .nodes) → Trees T (n + 1) (left + nodeAt T n .children) m → Trees T n (left + 1) m
+
+-- a tree stands at the node n
+pub record Tree (F : List ℕ) (S : Sections) (n : ℕ) : Type 0 where
+  pub laid : Laid F S
+  pub end : ℕ
+  pub tree : Trees (tablesOf F S) n 1 end
+
+-- r is the node after it
+pub record Past (F : List ℕ) (S : Sections) (n r : ℕ) : Type 0 where
+  pub ends : (m : ℕ) → Trees (tablesOf F S) n 1 m → r ≡ m
+
+-- how often x stands among `count` numbers from `from` on
+unfoldable pub timesIn : List ℕ → ℕ → ℕ → ℕ → ℕ
+timesIn l from zero x = 0
+timesIn l from (suc count) x = timesIn l from count x + pick (eqb (getD l (from + count) 0) x) 1 0
+
+-- each of the `count` numbers after the first `count`, from `top` on, stands once among those after, and once among the first
+unfoldable pub onceEach : List ℕ → ℕ → ℕ → Bool
+onceEach l top count =
+    allBelow count λ i.
+    eqb (timesIn l (top + count) count (getD l (top + count + i) 0)) 1 && eqb (timesIn l top count (getD l (top + count + i) 0)) 1
+
+-- the names of initializers stand in l from `top` on
+unfoldable pub NamesAt : List ℕ → ℕ → Inits → Type 0
+NamesAt l top noInit = Unit {0}
+NamesAt l top (init x a is) = (getD l top 0 ≡ x) × NamesAt l (top + 1) is
+
+-- l′ is l below `top`
+pub record Below (top : ℕ) (l l′ : List ℕ) : Type 0 where
+  pub at : (i : ℕ) → i < top → getD l′ i 0 ≡ getD l i 0
+
+-- `count` initializers stand at the node n, and `work` has room for their names from `top` on
+pub record Initializers (F : List ℕ) (S : Sections) (W : List ℕ) (top n count : ℕ) : Type 0 where
+  pub laid : Laid F S
+  pub inits : Inits
+  pub stand : InitsStand (tablesOf F S) n inits
+  pub counted : countInits inits ≡ count
+  pub room : top + count ≤ length W
+
+-- their names are in `work`, and nothing below has changed
+pub record Copied (F : List ℕ) (S : Sections) (W : List ℕ) (top n count : ℕ) (W′ : List ℕ) : Type 0 where
+  pub names : (is : Inits) → InitsStand (tablesOf F S) n is → countInits is ≡ count → NamesAt W′ top is
+  pub below : Below top W W′
+
+-- the names of `count` fields from `first` on are in `work`, and nothing below has changed
+pub record CopiedFields (F : List ℕ) (S : Sections) (W : List ℕ) (top first count : ℕ) (W′ : List ℕ) : Type 0 where
+  pub names : (i : ℕ) → i < count → getD W′ (top + i) 0 ≡ fieldAt (tablesOf F S) (first + i) .name
+  pub below : Below top W W′
+
+-- a literal of the struct record stands at the node n, and `work` has room for its names twice
+pub record Named (F : List ℕ) (S : Sections) (W : List ℕ) (top n s : ℕ) : Type 0 where
+  pub readable : Readable F S
+  pub within : n < S .nodes
+  pub declared : s < S .structs
+  pub inits : Inits
+  pub stand : InitsStand (tablesOf F S) (n + 1) inits
+  pub counted : nodeAt (tablesOf F S) n .children ≡ countInits inits
+  pub room : top + countInits inits * 2 ≤ length W
+
+-- what `names_fit` answers
+pub record Fitting (F : List ℕ) (S : Sections) (W : List ℕ) (top n s : ℕ) (W′ : List ℕ) (r : Bool) : Type 0 where
+  pub tells : (is : Inits) → InitsStand (tablesOf F S) (n + 1) is → nodeAt (tablesOf F S) n .children ≡ countInits is
+      → r ≡ namesFit (structOf (tablesOf F S) s .fields) is
+  pub below : Below top W W′
