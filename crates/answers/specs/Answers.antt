@@ -1,0 +1,57 @@
+-- What the contracts of answers and of expressions without children cite. F is the file, S its sections, X the index of types, R the
+-- rows, W the stack, K the chains; a prime marks a buffer after the call. Assumes nothing.
+use mathlib.Core.Path.{_≡_}
+use mathlib.Core.Bool.{Bool, true, false, _||_}
+use mathlib.Core.List.{List, []}
+use Prim.Native.Nat.{ℕ, _+_, _*_, _≤_, _<_}
+use lib.ListN.{getD, set}
+use lib.Dec.{eqb}
+use Rattle.oat.specs.Basics.{pick}
+use Rattle.oat.specs.Tables.{Tables, entryAt, nodeAt}
+use Rattle.typing_rules.specs.Contexts.{Context}
+use Rattle.type_index.specs.Index.{declared}
+use Rattle.file_sections.specs.declared.Sections.{Sections}
+use Rattle.file_sections.specs.Layout.{tablesOf}
+use Rattle.bindings.specs.declared.Found.the-variants.{At, Nothing}
+use Rattle.bindings.specs.Bindings.{binderOf, typeBound, latest, Scoped}
+use Rattle.answers.specs.declared.answer.Judgement.the-variants.{Typed, Refused}
+use Rattle.answers.specs.declared.answer.Judged.{Judged}
+use Rattle.answers.specs.declared.leaves.Expected.{Expected}
+use Rattle.answers.specs.declared.leaves.Expected.the-variants.{Each, Run}
+
+-- the context of the file's structs and no names
+abbrev pub structsAlone : Tables → Context ℕ
+structsAlone T = record { structs = declared T; names = [] }
+
+-- the rows R with that of the node n written
+abbrev pub withRow : List ℕ → (n result binder : ℕ) → List ℕ
+withRow R n result binder = set (set R (n * 2) result) (n * 2 + 1) binder
+
+-- the answer to an expression of the type t without children
+abbrev pub leafAnswer : (t n s : ℕ) → Judged
+leafAnswer t n s = record { judgement = Typed t; next = n + 1; scope = s }
+
+-- what `null` answers where the type is well-formed, by the index, and where it is not
+pub record NullAnswer (X R : List ℕ) (t n s : ℕ) (R′ : List ℕ) (r : Judged) : Type 0 where
+  pub formed : eqb (getD X (1024 + t) 0) 1 ≡ true → (r ≡ leafAnswer t n s) × (R′ ≡ withRow R n t 65535)
+  pub unformed : eqb (getD X (1024 + t) 0) 1 ≡ false → r .judgement ≡ Refused 9 n
+
+-- what `name` answers where the name is bound, and where it is not
+pub record NameAnswer (F : List ℕ) (S : Sections) (R W K : List ℕ) (n s : ℕ) (R′ : List ℕ) (r : Judged) : Type 0 where
+  pub found : (h j : ℕ) → Scoped F S W K h → latest (tablesOf F S) W (nodeAt (tablesOf F S) n .x) h ≡ At j
+      → (r ≡ leafAnswer (typeBound (tablesOf F S) W j) n s) × (R′ ≡ withRow R n (typeBound (tablesOf F S) W j) (binderOf (tablesOf F S) W j))
+  pub missing : (h : ℕ) → Scoped F S W K h → latest (tablesOf F S) W (nodeAt (tablesOf F S) n .x) h ≡ Nothing → r .judgement ≡ Refused 8 n
+
+-- the type of a literal of this kind
+abbrev pub literalKind : ℕ → ℕ
+literalKind kind = pick (eqb kind 11 || eqb kind 12) 1 (pick (eqb kind 13) 0 2)
+
+-- what a list of `left` expressions is to be below is in the file
+abbrev pub Expecting : Tables → Sections → Expected → ℕ → Type 0
+Expecting T S (Each t) left = t < S .types
+Expecting T S (Run p) left = (p + left ≤ S .list) × ((j : ℕ) → j < left → entryAt T (p + j) < S .types)
+
+-- the type that the expression i is to be below
+abbrev pub expectedAt : Tables → Expected → ℕ → ℕ
+expectedAt T (Each t) i = t
+expectedAt T (Run p) i = entryAt T (p + i)

@@ -1,0 +1,189 @@
+// Expressions without children, and tests on types.
+use crate::answer::Judged;
+use crate::answer::Judgement;
+use crate::answer::refused;
+use crate::answer::row;
+use crate::answer::typed;
+use bindings::Found;
+use bindings::binder_at;
+use bindings::find;
+use bindings::type_at;
+use fields::lookup::FieldType;
+use fields::lookup::field_of;
+use file_sections::Sections;
+use file_sections::records::list_entry;
+use file_sections::records::node_kind;
+use file_sections::records::node_t;
+use file_sections::records::node_x;
+use file_sections::records::type_kind;
+use subtyping::below::below;
+use type_index::formed::is_formed;
+ghost use mathlib.Core.Path.{_≡_};
+ghost use mathlib.Core.Bool.{Bool, true, false, _&&_};
+ghost use Prim.Native.Nat.{_+_, _*_, _≤_, _<_};
+ghost use lib.ListN.{length};
+ghost use lib.Dec.{eqb};
+ghost use Rattle.oat.specs.Tables.{nodeAt};
+ghost use Rattle.oat.specs.Types.{structOf};
+ghost use Rattle.typing_rules.specs.Operators.{unaryType};
+ghost use Rattle.typing_rules.specs.Rules.{member};
+ghost use Rattle.typing_rules.specs.Judge.{hasDefault, isBelow, isBelowMember};
+ghost use Rattle.file_sections.specs.Layout.{Laid, Has, tablesOf};
+ghost use Rattle.type_index.specs.Index.{Indexed, Readable};
+ghost use Rattle.bindings.specs.Bindings.{Some};
+ghost use Rattle.answers.specs.Answers.{structsAlone, withRow, leafAnswer, literalKind, Expecting, expectedAt, NullAnswer, NameAnswer};
+
+// What the types of a list of expressions are to be below: each the same type, or the run of the type list from an entry on.
+pub enum Expected {
+    Each(usize),
+    Run(usize),
+}
+
+// The type that the expression i of a list is to be below.
+fn expected_at(file: &[u8], sections: Sections, expected: Expected, i: usize) -> usize
+    requires { ⌜ Laid (now file) sections × Expecting (tablesOf (now file) sections) sections expected (i + 1) ⌝ }
+    ensures { λ r. ⌜ (r ≡ expectedAt (tablesOf (now (file .entry)) sections) expected i) × (r < 65536) ⌝ }
+{
+    match expected {
+        Expected::Each(t) => t,
+        Expected::Run(first) => list_entry(file, sections, first + i),
+    }
+}
+
+// Those before are below what is expected, and so is the type t of the expression i.
+pub fn still_below(
+    file: &[u8],
+    sections: Sections,
+    index: &[u16],
+    before: bool,
+    t: usize,
+    expected: Expected,
+    i: usize,
+) -> bool
+    requires { ⌜ Readable (now file) sections × Indexed (now index) (tablesOf (now file) sections) (sections .types) × (t < sections .types) × Expecting (tablesOf (now file) sections) sections expected (i + 1) ⌝ }
+    ensures { λ r. ⌜ r ≡ (before && isBelow (tablesOf (now (file .entry)) sections) (structsAlone (tablesOf (now (file .entry)) sections)) t (expectedAt (tablesOf (now (file .entry)) sections) expected i)) ⌝ }
+{
+    if !before {
+        return false;
+    }
+    below(
+        file,
+        sections,
+        index,
+        t,
+        expected_at(file, sections, expected, i),
+    )
+}
+
+// Those before are below their fields' types, and so is the type t of the value of the field `name` of the struct record `owner`.
+pub fn still_fits(
+    file: &[u8],
+    sections: Sections,
+    index: &[u16],
+    before: bool,
+    t: usize,
+    owner: usize,
+    name: usize,
+) -> bool
+    requires { ⌜ Readable (now file) sections × Indexed (now index) (tablesOf (now file) sections) (sections .types) × (t < sections .types) × (owner < sections .structs) ⌝ }
+    ensures { λ r. ⌜ r ≡ (before && isBelowMember (tablesOf (now (file .entry)) sections) (structsAlone (tablesOf (now (file .entry)) sections)) t (member name (structOf (tablesOf (now (file .entry)) sections) owner .fields))) ⌝ }
+{
+    if !before {
+        return false;
+    }
+    let found = field_of(file, sections, owner, name);
+    let FieldType::Of(u) = found else {
+        return false;
+    };
+    below(file, sections, index, t, u)
+}
+
+// An element with a default: int, bool or nullable.
+pub fn has_default(file: &[u8], sections: Sections, t: usize) -> bool
+    requires { ⌜ Has (now file) sections t (sections .types) ⌝ }
+    ensures { λ r. ⌜ r ≡ hasDefault (tablesOf (now (file .entry)) sections) t ⌝ }
+{
+    match type_kind(file, sections, t) {
+        0..=1 | 7 => true,
+        _ => false,
+    }
+}
+
+// What a unary operator takes and gives: 0 - and 2 ~ ints, 1 ! bools.
+pub fn unary_type(operator: usize) -> usize
+    ensures { λ r. ⌜ r ≡ unaryType operator ⌝ }
+{
+    if operator == 1 {
+        return 1;
+    }
+    0
+}
+
+pub fn null(
+    file: &[u8],
+    sections: Sections,
+    index: &[u16],
+    rows: &mut [u16],
+    node: usize,
+    scope: usize,
+) -> Judged
+    requires { ⌜ Has (now file) sections node (sections .nodes) × (1536 ≤ length (now index)) × (nodeAt (tablesOf (now file) sections) node .t < 512) × (sections .nodes * 2 ≤ length (now rows)) ⌝ }
+    ensures { λ r. ⌜ NullAnswer (now (index .entry)) (now (rows .entry)) (nodeAt (tablesOf (now (file .entry)) sections) node .t) node scope (now (rows .exit)) r ⌝ }
+{
+    let t = node_t(file, sections, node);
+    if !is_formed(index, t) {
+        return refused(9, node);
+    }
+    typed(rows, node, t, node + 1, scope)
+}
+
+// The type of a literal of this kind.
+fn literal_type(kind: usize) -> usize
+    ensures { λ r. ⌜ (r ≡ literalKind kind) × (r < 3) ⌝ }
+{
+    match kind {
+        11..=12 => 1,
+        13 => 0,
+        _ => 2,
+    }
+}
+
+pub fn literal(
+    file: &[u8],
+    sections: Sections,
+    rows: &mut [u16],
+    node: usize,
+    scope: usize,
+) -> Judged
+    requires { ⌜ Has (now file) sections node (sections .nodes) × (sections .nodes * 2 ≤ length (now rows)) ⌝ }
+    ensures { λ r. ⌜ r ≡ leafAnswer (literalKind (nodeAt (tablesOf (now (file .entry)) sections) node .kind)) node scope ⌝ }
+    ensures { λ _. ⌜ now (rows .exit) ≡ withRow (now (rows .entry)) node (literalKind (nodeAt (tablesOf (now (file .entry)) sections) node .kind)) 65535 ⌝ }
+{
+    let t = literal_type(node_kind(file, sections, node));
+    typed(rows, node, t, node + 1, scope)
+}
+
+pub fn name(
+    file: &[u8],
+    sections: Sections,
+    rows: &mut [u16],
+    work: &[u16],
+    chains: &[u16],
+    node: usize,
+    scope: usize,
+) -> Judged
+    requires { ⌜ Some (now file) sections (now work) (now chains) × (node < sections .nodes) × (sections .nodes * 2 ≤ length (now rows)) ⌝ }
+    ensures { λ r. ⌜ NameAnswer (now (file .entry)) sections (now (rows .entry)) (now (work .entry)) (now (chains .entry)) node scope (now (rows .exit)) r ⌝ }
+{
+    let found = find(file, sections, work, chains, node_x(file, sections, node));
+    let Found::At(position) = found else {
+        return refused(8, node);
+    };
+    let t = type_at(file, sections, work, position);
+    row(rows, node, t, binder_at(file, sections, work, position));
+    Judged {
+        judgement: Judgement::Typed(t),
+        next: node + 1,
+        scope: scope,
+    }
+}

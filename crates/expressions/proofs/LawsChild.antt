@@ -1,0 +1,109 @@
+-- What a typed child tells its parent, and the types that a rule reads. Assumes nothing.
+use mathlib.Core.Path.{_≡_, refl, ap, sym, subst, _∙_}
+use mathlib.Core.Bool.{Bool, true, false}
+use mathlib.Core.List.{List, [], _∷_, _++_}
+use Prim.Native.Nat.{ℕ, zero, suc, _+_, _*_, _≤_, _<_}
+use native.Mathlib.Omega.{arith}
+use lib.ListN.{length, getD}
+use lib.Dec.{eqb}
+use Rattle.oat.specs.Tables.{Tables, typeAt, entryAt, nodeAt}
+use Rattle.oat.specs.TypeRules.{kindAt}
+use Rattle.oat.specs.TableRules.{hasKind}
+use Rattle.oat.specs.Types.{typeOf, structsOf}
+use Rattle.oat.specs.Decide.{isFormed}
+use Rattle.oat.specs.Syntax.{Expr, size}
+use Rattle.oat.proofs.LawsBasics.{tabulate-long}
+use Rattle.oat.proofs.LawsTypes.{TypesFormed, types-formed}
+use Rattle.oat.proofs.LawsTables.{has-kind}
+use borrow.Author.Tests.{eq-eqb}
+use Rattle.typing_rules.specs.Labels.{Label}
+use Rattle.typing_rules.specs.Judge.{ok, judge}
+use Rattle.file_sections.specs.declared.Sections.{Sections}
+use Rattle.file_sections.specs.Layout.{Laid, Has, tablesOf}
+use Rattle.file_sections.proofs.LawsRecords.{nodes-long, types-long, list-long}
+use Rattle.type_index.specs.Index.{declared, recordOf, structNamed, Indexed, Readable}
+use Rattle.bindings.specs.Bindings.{scopeOf}
+use Rattle.answers.specs.declared.answer.Judgement.the-variants.{Typed}
+use Rattle.answers.specs.declared.answer.Judged.{Judged}
+use Rattle.expressions.specs.Contract.{contextOf, Fine, Typing, Ready, Told}
+use Rattle.expressions.proofs.LawsAfter.{typing-of}
+
+pub kind-of : (T : Tables) (t k : ℕ) → hasKind T t k ≡ true → typeAt T t .kind ≡ k
+kind-of T t k e = has-kind T t k e .kind
+
+-- the record of the struct that a type names
+pub struct-meant : (T : Tables) (t : ℕ) → typeAt T t .kind ≡ 4 → structNamed T t ≡ recordOf T (typeAt T t .a)
+unfolding structNamed
+struct-meant T t e = rw (eq-eqb _ _ e)
+
+pub declared-long : (T : Tables) → length (declared T) ≡ length (T .structs)
+unfolding structsOf
+declared-long T = tabulate-long (length (T .structs)) _
+
+-- a type that is referred to
+module _ {F : List ℕ} {S : Sections} (readable : Readable F S) where
+  formed : TypesFormed 200 (tablesOf F S)
+  formed = types-formed 200 (tablesOf F S) (readable .types)
+
+  within : {t : ℕ} → t < S .types → t < length (tablesOf F S .types)
+  within {t} h = subst (λ k. t < k) (sym (types-long F S)) h
+
+  pub has-node : {n : ℕ} → n < S .nodes → Has F S n (S .nodes)
+  has-node h = record { laid = readable .laid; within = h }
+
+  pub has-type : {t : ℕ} → t < S .types → Has F S t (S .types)
+  has-type h = record { laid = readable .laid; within = h }
+
+  pub base-within : {t : ℕ} → t < 4 → t < S .types
+  base-within {t} h = let four = formed .four in omega (arith, types-long F S)
+
+  pub kind-within : {t : ℕ} (k : ℕ) → hasKind (tablesOf F S) t k ≡ true → t < S .types
+  kind-within {t} k e = subst (λ m. t < m) (types-long F S) (has-kind (tablesOf F S) t k e .within)
+
+  pub element-within : {t : ℕ} → t < S .types → typeAt (tablesOf F S) t .kind ≡ 5 → typeAt (tablesOf F S) t .a < S .types
+  element-within {t} h k = let l = formed .array t (within h) k .lower in omega arith
+
+  pub returned-within : {t : ℕ} → t < S .types → typeAt (tablesOf F S) t .kind ≡ 6 → typeAt (tablesOf F S) t .a < S .types
+  returned-within {t} h k = let l = formed .function t (within h) k .returns in omega arith
+
+  -- the parameters of a function type
+  pub parameters-within : {t b c : ℕ} → t < S .types → typeAt (tablesOf F S) t .kind ≡ 6 → b ≡ typeAt (tablesOf F S) t .b → c ≡ typeAt (tablesOf F S) t .c
+      → (b + c ≤ S .list) × ((j : ℕ) → j < c → entryAt (tablesOf F S) (b + j) < S .types)
+  parameters-within {t} {b} {c} h k eb ec =
+      let f = formed .function t (within h) k in (
+        omega (arith, f .listed, eb, ec, list-long F S),
+        λ j l.
+            let lower = f .parameter j (subst (λ i. j < i) ec l) .lower in
+            subst (λ i. entryAt (tablesOf F S) (i + j) < S .types) (sym eb) (omega (arith, lower, h)),
+      )
+
+  pub reference-within : {t : ℕ} → t < S .types → typeAt (tablesOf F S) t .kind ≡ 7 → typeAt (tablesOf F S) t .a < S .types
+  reference-within {t} h k = let l = formed .nullable t (within h) k .lower in omega arith
+
+-- the index tells which types are well-formed
+-- where the index has the entries of a type
+module _ {F : List ℕ} {S : Sections} {X R W K : List ℕ} {base s : ℕ} (f : Fine F S X R W K base s) {t : ℕ} (h : t < S .types) where
+  pub formed-entry : 1024 + t < length X
+  formed-entry = omega (arith, f .indexed .long, f .readable .laid .types-most)
+
+  pub named-entry : 512 + t < length X
+  named-entry = omega (arith, f .indexed .long, f .readable .laid .types-most)
+
+pub formed-is : {F : List ℕ} {S : Sections} {X R W K : List ℕ} {base s : ℕ} → Fine F S X R W K base s → {t : ℕ} {b : Bool} → t < S .types → b ≡ eqb (getD X (1024 + t) 0) 1
+    → b ≡ isFormed (declared (tablesOf F S)) (typeOf (tablesOf F S) t)
+formed-is f {t} h e = e ∙ f .indexed .formed t h
+
+module _ {F : List ℕ} {S : Sections} {X R W K : List ℕ} {base m s : ℕ} (g : Ready F S X R W K base m s) {R₁ W₁ K₁ : List ℕ} {r : Judged} (told : Told F S X R W base m s R₁ W₁ K₁ r) {t : ℕ} (y : r .judgement ≡ Typed t) where
+  typed-child : (L : List (Label ℕ))
+      × (judge (tablesOf F S) (contextOf (tablesOf F S) W base) (g .tree) m (scopeOf (tablesOf F S) W base s) ≡ ok t L)
+      × Typing F S X base m (size (g .tree)) s R W R₁ W₁ K₁ r t L
+  typed-child = typing-of _ (told .tells (g .tree) (g .stands)) y
+
+  pub child-within : t < S .types
+  child-within = typed-child .2 .within
+
+  pub child-type : Has F S t (S .types)
+  child-type = has-type (g .fine .readable) child-within
+
+  pub child-fine : Fine F S X R₁ W₁ K₁ base s
+  child-fine = typed-child .2 .after .fine

@@ -1,0 +1,340 @@
+-- Array with initializer: the answers of its returns, and those of its value, with the index name bound. Assumes nothing.
+use mathlib.Core.Path.{_≡_, refl, ap, sym, subst, _∙_}
+use mathlib.Core.Bool.{Bool, true, false, not}
+use mathlib.Core.List.{List, _++_}
+use Prim.Native.Nat.{ℕ, _+_, _≤_, _<_}
+use native.Mathlib.Omega.{arith}
+use lib.ListN.{length, getD}
+use lib.Dec.{eqb}
+use borrow.Author.Tests.{eq-eqb, ne-eqb, not-true, not-false}
+use Rattle.oat.specs.Tables.{typeAt, nodeAt}
+use Rattle.oat.specs.TableRules.{hasKind}
+use Rattle.oat.specs.Types.{typeOf}
+use Rattle.oat.specs.Decide.{below, isFormed}
+use Rattle.oat.specs.Syntax.{Expr, arrayWith, size}
+use Rattle.oat.specs.Nodes.{Stands}
+use Rattle.oat.proofs.LawsTables.{has-kind}
+use Rattle.typing_rules.specs.Contexts.{binds, isFresh}
+use Rattle.typing_rules.specs.Labels.{Label}
+use Rattle.typing_rules.specs.Judge.{Out, ok, no, andThen, needs, plain, referred, isBelow, formed, judge}
+use Rattle.file_sections.specs.declared.Sections.{Sections}
+use Rattle.file_sections.specs.Layout.{Has, tablesOf}
+use Rattle.file_sections.proofs.LawsRecords.{nodes-long}
+use Rattle.type_index.specs.Index.{declared, Indexed, Readable}
+use Rattle.bindings.specs.Bindings.{entryOf, scopeOf, Scoped, Some, Same, Freshness, Bindable, Bound}
+use Rattle.bindings.proofs.LawsBindings.{scope-bound, names-bound, scope-same, names-same, same-trans}
+use Rattle.answers.specs.declared.answer.Judgement.the-variants.{Typed, Refused}
+use Rattle.answers.specs.declared.answer.Judged.{Judged}
+use Rattle.answers.specs.Answers.{withRow}
+use Rattle.expressions.specs.Contract.{contextOf, Fine, After, Typing, Meets, accepts, Answers, Ready, Told, fills, ReadyFilling, ToldFilling}
+use Rattle.expressions.proofs.LawsMeets.{Untyped, stops, passes, child-no, child-ok}
+use Rattle.expressions.proofs.LawsAfter.{ready, typing-of, after-append, rule-typed}
+use Rattle.expressions.proofs.LawsLabels.{expr-long, expr-closed}
+use Rattle.expressions.proofs.LawsChild.{has-node, has-type, base-within, kind-within, element-within, formed-is}
+use Rattle.expressions.proofs.LawsShape.{on-filled, size-one, stands-within}
+
+-- the element of an array type
+array-element : {F : List ℕ} {S : Sections} → Readable F S → {t u x : ℕ} → hasKind (tablesOf F S) t 5 ≡ true → u ≡ t → x ≡ typeAt (tablesOf F S) u .a → x < S .types
+array-element {F} {S} readable {t} {u} {x} h et ex =
+    subst (λ i. i < S .types) (sym (ex ∙ ap (λ i. typeAt (tablesOf F S) i .a) et))
+    (element-within readable (kind-within readable 5 h) (has-kind (tablesOf F S) t 5 h .kind))
+
+-- the scope that a binding is left for
+after-leave : {F : List ℕ} {S : Sections} {X : List ℕ} {base n m k s : ℕ} {L : List (Label ℕ)} {R W K W₁ K₁ R₂ W₂ K₂ K₃ : List ℕ} → base ≤ s
+    → Bound F S W K s n 0 W₁ K₁ → After F S X base L m k (s + 1) (s + 1) R W₁ R₂ W₂ K₂ → Scoped F S W₂ K₃ s → After F S X base L m k s s R W R₂ W₂ K₃
+after-leave {F} {S} {s = s} l b a c =
+    record {
+      rows = a .rows;
+      kept = a .kept;
+      same = same-trans (entryOf (tablesOf F S) s) (entryOf (tablesOf F S) (s + 1)) (omega arith) (b .same) (a .same);
+      fine = record {
+        readable = a .fine .readable;
+        indexed = a .fine .indexed;
+        rows-long = a .fine .rows-long;
+        scoped = c;
+        low = a .fine .low;
+        above = l;
+      };
+    }
+
+-- the value sees the scope and the names before it, and the index name
+retell-bound : {F : List ℕ} {S : Sections} {X R W K W₁ K₁ R₂ W₂ K₂ : List ℕ} {base n m s : ℕ} {r : Judged} → base ≤ s
+    → Bound F S W K s n 0 W₁ K₁ → Told F S X R W₁ base m (s + 1) R₂ W₂ K₂ r → (e : Expr) → Stands (tablesOf F S) m e
+    → Meets (Typing F S X base m (size e) (s + 1) R W₁ R₂ W₂ K₂ r) r
+    (judge (tablesOf F S) (contextOf (tablesOf F S) W base) e m (binds (scopeOf (tablesOf F S) W base s) (nodeAt (tablesOf F S) n .x) 0 n))
+retell-bound {F} {S} {X} {R} {W} {K} {W₁} {K₁} {R₂} {W₂} {K₂} {base} {n} {m} {s} {r} l b told e h =
+    subst (λ Γ. Meets (Typing F S X base m (size e) (s + 1) R W₁ R₂ W₂ K₂ r) r (judge (tablesOf F S) (contextOf (tablesOf F S) W base) e m Γ)) (scope-bound base b l)
+    (subst (λ N. Meets (Typing F S X base m (size e) (s + 1) R W₁ R₂ W₂ K₂ r) r (judge (tablesOf F S) (record { structs = declared (tablesOf F S); names = N }) e m (scopeOf (tablesOf F S) W₁ base (s + 1))))
+    (names-bound base b l) (told .tells e h))
+
+-- `filling`
+module _ {F : List ℕ} {S : Sections} {X R W K : List ℕ} {base n s m : ℕ} (g : ReadyFilling F S X R W K base n s m) where
+  pub filling-bindable : Bindable F S W K s n 0
+  filling-bindable = record {
+    scoped = g .fine .scoped;
+    low = omega (arith, g .fine .low, g .fine .above);
+    room = omega (arith, g .room);
+    node-there = omega (arith, g .after-node, g .within);
+    type-there = base-within (g .fine .readable) (omega arith);
+  }
+
+  pub filling-node : Has F S n (S .nodes)
+  filling-node = has-node (g .fine .readable) (omega (arith, g .after-node, g .within))
+
+  pub filling-array : {t₁ : ℕ} → t₁ ≡ nodeAt (tablesOf F S) n .t → Has F S t₁ (S .types)
+  filling-array {t₁} et = has-type (g .fine .readable) (subst (λ i. i < S .types) (sym et) (kind-within (g .fine .readable) 5 (g .array)))
+
+  pub filling-element : {t₁ x₁ : ℕ} → t₁ ≡ nodeAt (tablesOf F S) n .t → x₁ ≡ typeAt (tablesOf F S) t₁ .a → x₁ < S .types
+  filling-element et ex = array-element (g .fine .readable) (g .array) et ex
+
+  module _ {W₁ K₁ : List ℕ} (b : Bound F S W K s n 0 W₁ K₁) where
+    pub filling-ready : Ready F S X R W₁ K₁ base m (s + 1)
+    filling-ready = record {
+      fine = record {
+        readable = g .fine .readable;
+        indexed = g .fine .indexed;
+        rows-long = g .fine .rows-long;
+        scoped = b .scoped;
+        low = g .fine .low;
+        above = omega (arith, g .fine .above);
+      };
+      within = g .within;
+      tree = g .tree;
+      stands = g .stands;
+      room = g .room;
+    }
+
+    module _ {R₂ W₂ K₂ : List ℕ} {r₁ : Judged} (m₁ : Told F S X R W₁ base m (s + 1) R₂ W₂ K₂ r₁) where
+      pub filling-no : Untyped r₁ → ToldFilling F S X R W base n s m R₂ W₂ K₂ r₁
+      filling-no u = record { tells = λ e h. child-no _ _ u (retell-bound (g .fine .above) b m₁ e h) }
+
+      module _ {v : ℕ} (y : r₁ .judgement ≡ Typed v) where
+        value : (L : List (Label ℕ))
+            × (judge (tablesOf F S) (contextOf (tablesOf F S) W₁ base) (g .tree) m (scopeOf (tablesOf F S) W₁ base (s + 1)) ≡ ok v L)
+            × Typing F S X base m (size (g .tree)) (s + 1) R W₁ R₂ W₂ K₂ r₁ v L
+        value = typing-of _ (m₁ .tells (g .tree) (g .stands)) y
+
+        pub filling-value : v < S .types
+        filling-value = value .2 .within
+
+        pub filling-scoped : Scoped F S W₂ K₂ (s + 1)
+        filling-scoped = value .2 .after .fine .scoped
+
+        pub filling-left : Scoped F S W₂ K₂ (s + 1) × (s ≤ s + 1)
+        filling-left = (filling-scoped, omega arith)
+
+        module _ {K₃ : List ℕ} (c : Scoped F S W₂ K₃ s) {t₁ x₁ : ℕ} (et : t₁ ≡ nodeAt (tablesOf F S) n .t) (ex : x₁ ≡ typeAt (tablesOf F S) t₁ .a) where
+          pub filling-asked : Readable F S × Indexed X (tablesOf F S) (S .types) × (v < S .types) × (x₁ < S .types)
+          filling-asked = (g .fine .readable, g .fine .indexed, filling-value, filling-element et ex)
+
+          module _ {b₁ : Bool} (eb : b₁ ≡ below (declared (tablesOf F S)) (typeOf (tablesOf F S) v) (typeOf (tablesOf F S) x₁)) where
+            below-is : isBelow (tablesOf F S) (contextOf (tablesOf F S) W base) v (referred (tablesOf F S) (nodeAt (tablesOf F S) n .t)) ≡ b₁
+            below-is = sym (eb ∙ ap (λ i. below (declared (tablesOf F S)) (typeOf (tablesOf F S) v) (typeOf (tablesOf F S) i)) (ex ∙ ap (λ i. typeAt (tablesOf F S) i .a) et))
+
+            pub filling-below : {r : Judged} → not b₁ ≡ true → r .judgement ≡ Refused 11 n → ToldFilling F S X R W base n s m R₂ W₂ K₃ r
+            filling-below {r} f e =
+                record {
+                  tells = λ d h. child-ok _ _ v y (retell-bound (g .fine .above) b m₁ d h) λ L q p. stops _ 11 n _ (below-is ∙ not-true _ f) e;
+                }
+
+            pub filling-ok : {r : Judged} → not b₁ ≡ false → r ≡ record { judgement = Typed v; next = r₁ .next; scope = s } → ToldFilling F S X R W base n s m R₂ W₂ K₃ r
+            filling-ok {r} f er =
+                record {
+                  tells = λ d h.
+                      child-ok _ _ v y (retell-bound (g .fine .above) b m₁ d h) λ L q p.
+                      passes _ 11 n _ (below-is ∙ not-false _ f)
+                      (accepts v L (record {
+                        typed = ap (λ i. i .judgement) er;
+                        next = ap (λ i. i .next) er ∙ p .next;
+                        within = p .within;
+                        after = after-leave (g .fine .above) b (p .after) c;
+                      }));
+                }
+
+            pub filling-same : {r : Judged} → not b₁ ≡ false → r ≡ record { judgement = r₁ .judgement; next = r₁ .next; scope = s } → ToldFilling F S X R W base n s m R₂ W₂ K₃ r
+            filling-same f er = filling-ok f (er ∙ ap (λ j. record { judgement = j; next = r₁ .next; scope = s }) y)
+
+-- a value and its test, as a part of what comes after
+fills-then : {A B : Type 0} (o : Out A) (t : A → Bool) (p q : ℕ) (k : A → List (Label ℕ) → Out B)
+    → andThen (andThen o λ v M. needs (t v) p q (ok v M)) k ≡ andThen o λ v M. needs (t v) p q (k v M)
+fills-then (no i j) t p q k = refl
+fills-then {A} {B} (ok v M) t p q k = go (t v)
+  where
+    go : (b : Bool) → andThen (needs b p q (ok v M)) k ≡ needs b p q (k v M)
+    go true = refl
+    go false = refl
+
+-- the part after the first child sees the scope and the names before it
+retell-filling : {F : List ℕ} {S : Sections} {X W R₁ W₁ R₂ W₂ K₂ : List ℕ} {base n s m i : ℕ} {r : Judged} → Same (entryOf (tablesOf F S) s) W W₁ → base ≤ s → m ≡ i
+    → ToldFilling F S X R₁ W₁ base n s m R₂ W₂ K₂ r → (t x : ℕ) → nodeAt (tablesOf F S) n .t ≡ t → nodeAt (tablesOf F S) n .x ≡ x → (e : Expr) → Stands (tablesOf F S) i e
+    → Meets (Typing F S X base i (size e) s R₁ W₁ R₂ W₂ K₂ r) r
+    (andThen (judge (tablesOf F S) (contextOf (tablesOf F S) W base) e i (binds (scopeOf (tablesOf F S) W base s) x 0 n)) λ v M.
+    needs (isBelow (tablesOf F S) (contextOf (tablesOf F S) W base) v (referred (tablesOf F S) t)) 11 n (ok v M))
+retell-filling {F} {S} {X} {W} {R₁} {W₁} {R₂} {W₂} {K₂} {base} {n} {s} {m} {i} {r} a l e told t x et ex d h =
+    subst (λ y. Meets (Typing F S X base i (size d) s R₁ W₁ R₂ W₂ K₂ r) r
+    (andThen (judge (tablesOf F S) (contextOf (tablesOf F S) W base) d i (binds (scopeOf (tablesOf F S) W base s) y 0 n)) λ v M.
+    needs (isBelow (tablesOf F S) (contextOf (tablesOf F S) W base) v (referred (tablesOf F S) t)) 11 n (ok v M))) ex
+    (subst (λ u. Meets (Typing F S X base i (size d) s R₁ W₁ R₂ W₂ K₂ r) r
+    (andThen (judge (tablesOf F S) (contextOf (tablesOf F S) W base) d i (binds (scopeOf (tablesOf F S) W base s) (nodeAt (tablesOf F S) n .x) 0 n)) λ v M.
+    needs (isBelow (tablesOf F S) (contextOf (tablesOf F S) W base) v (referred (tablesOf F S) u)) 11 n (ok v M))) et
+    (subst (λ Γ. Meets (Typing F S X base i (size d) s R₁ W₁ R₂ W₂ K₂ r) r (fills (tablesOf F S) (contextOf (tablesOf F S) W base) d i n Γ)) (scope-same (tablesOf F S) s a base)
+    (subst (λ N. Meets (Typing F S X base i (size d) s R₁ W₁ R₂ W₂ K₂ r) r (fills (tablesOf F S) (record { structs = declared (tablesOf F S); names = N }) d i n (scopeOf (tablesOf F S) W₁ base s)))
+    (names-same (tablesOf F S) s a base l)
+    (subst (λ j. ToldFilling F S X R₁ W₁ base n s j R₂ W₂ K₂ r) e told .tells d h))))
+
+-- the buffers after an accepted value
+pub filling-fine : {F : List ℕ} {S : Sections} {X R W K : List ℕ} {base n s m : ℕ} → ReadyFilling F S X R W K base n s m → {R₁ W₁ K₁ : List ℕ} {r : Judged}
+    → ToldFilling F S X R W base n s m R₁ W₁ K₁ r → {v : ℕ} → r .judgement ≡ Typed v → Fine F S X R₁ W₁ K₁ base s
+filling-fine g told y = typing-of _ (told .tells (g .tree) (g .stands)) y .2 .after .fine
+
+-- `filled`
+module _ {F : List ℕ} {S : Sections} {X R W K : List ℕ} {base n s : ℕ} (g : Ready F S X R W K base n s) (kind : nodeAt (tablesOf F S) n .kind ≡ 18) where
+  filled-kind : hasKind (tablesOf F S) (nodeAt (tablesOf F S) n .t) 5 ≡ true
+  filled-kind =
+      on-filled (λ e. hasKind (tablesOf F S) (nodeAt (tablesOf F S) n .t) 5 ≡ true)
+      (λ t x a b h. subst (λ i. hasKind (tablesOf F S) i 5 ≡ true) (sym (h .0 .t-is)) (h .1)) kind (g .tree) (g .stands)
+
+  pub filled-first : Ready F S X R W K base (n + 1) s
+  filled-first =
+      on-filled (λ e. s + size e ≤ S .«built_ins» + S .nodes → Ready F S X R W K base (n + 1) s) (λ t x a b h l. ready (n + 1) a (g .fine) (h .2) (omega arith)) kind
+      (g .tree) (g .stands) (g .room)
+
+  module _ {R₁ W₁ K₁ : List ℕ} {r₁ : Judged} (m₁ : Told F S X R W base (n + 1) s R₁ W₁ K₁ r₁) {u : ℕ} (y₁ : r₁ .judgement ≡ Typed u) where
+    first-fine : Fine F S X R₁ W₁ K₁ base s
+    first-fine =
+        on-filled (λ e. Fine F S X R₁ W₁ K₁ base s)
+        (λ t x a b h. typing-of _ (m₁ .tells a (h .2)) y₁ .2 .after .fine) kind (g .tree) (g .stands)
+
+    -- for `is_fresh`
+    pub filled-some : Some F S W₁ K₁
+    filled-some = record { height = s; scoped = first-fine .scoped }
+
+    -- for `filling`
+    pub filled-filling : ReadyFilling F S X R₁ W₁ K₁ base n s (r₁ .next)
+    filled-filling =
+        on-filled (λ e. s + size e ≤ S .«built_ins» + S .nodes → ReadyFilling F S X R₁ W₁ K₁ base n s (r₁ .next))
+        (λ t x a b h l.
+        let (L, q, p) = typing-of _ (m₁ .tells a (h .2)) y₁ in
+        let st = subst (λ i. Stands (tablesOf F S) i b) (sym (p .next)) (h .3) in
+        record {
+          fine = p .after .fine;
+          after-node = omega (arith, p .next);
+          within = subst (λ i. r₁ .next < i) (nodes-long F S) (stands-within (tablesOf F S) (r₁ .next) b st);
+          array = filled-kind;
+          tree = b;
+          stands = st;
+          room = omega (arith, l, size-one a);
+        }) kind
+        (g .tree) (g .stands) (g .room)
+
+    pub filled-second : (n < r₁ .next) × ReadyFilling F S X R₁ W₁ K₁ base n s (r₁ .next)
+    filled-second = (filled-filling .after-node, filled-filling)
+
+    pub filled-child : u < S .types
+    filled-child =
+        on-filled (λ e. u < S .types)
+        (λ t x a b h. typing-of _ (m₁ .tells a (h .2)) y₁ .2 .within) kind (g .tree) (g .stands)
+
+  module _ {t₁ : ℕ} (et : t₁ ≡ nodeAt (tablesOf F S) n .t) where
+    pub filled-within : t₁ < S .types
+    filled-within = subst (λ i. i < S .types) (sym et) (kind-within (g .fine .readable) 5 filled-kind)
+
+    pub filled-array : Has F S t₁ (S .types)
+    filled-array = has-type (g .fine .readable) filled-within
+
+    module _ {x₁ : ℕ} (ea : x₁ ≡ typeAt (tablesOf F S) t₁ .a) where
+      pub filled-element : x₁ < S .types
+      filled-element = array-element (g .fine .readable) filled-kind et ea
+
+      pub filled-index : 1024 + x₁ < length X
+      filled-index = omega (arith, filled-element, g .fine .indexed .long, g .fine .readable .laid .types-most)
+
+      module _ {b₁ : Bool} (eb : b₁ ≡ eqb (getD X (1024 + x₁) 0) 1) where
+        formed-at : (t : ℕ) → nodeAt (tablesOf F S) n .t ≡ t → formed (tablesOf F S) (contextOf (tablesOf F S) W base) (referred (tablesOf F S) t) ≡ b₁
+        formed-at t e = sym (formed-is (g .fine) filled-element eb ∙ ap (λ i. isFormed (declared (tablesOf F S)) (typeOf (tablesOf F S) i)) (ea ∙ ap (λ i. typeAt (tablesOf F S) i .a) (et ∙ e)))
+
+        pub filled-unformed : {r : Judged} → not b₁ ≡ true → r .judgement ≡ Refused 9 n → Told F S X R W base n s R W K r
+        unfolding judge
+        filled-unformed {r} f e =
+            record {
+              tells = on-filled (Answers F S X R W base n s R W K r)
+                  (λ t x a b h. stops _ 9 n _ (formed-at t (h .0 .t-is) ∙ not-true _ f) e) kind;
+            }
+
+        module _ (f₁ : not b₁ ≡ false) {R₁ W₁ K₁ : List ℕ} {r₁ : Judged} (m₁ : Told F S X R W base (n + 1) s R₁ W₁ K₁ r₁) where
+          pub filled-no : Untyped r₁ → Told F S X R W base n s R₁ W₁ K₁ r₁
+          unfolding judge
+          filled-no u =
+              record {
+                tells = on-filled (Answers F S X R W base n s R₁ W₁ K₁ r₁)
+                    (λ t x a b h.
+                    passes _ 9 n _ (formed-at t (h .0 .t-is) ∙ not-false _ f₁)
+                    (child-no _ _ u (m₁ .tells a (h .2)))) kind;
+              }
+
+          module _ {u k₁ : ℕ} (y₁ : r₁ .judgement ≡ Typed u) (e₁ : k₁ ≡ typeAt (tablesOf F S) u .kind) where
+            pub filled-sort : {r : Judged} → (k₁ ≡ 0 → ⊥) → r .judgement ≡ Refused 10 n → Told F S X R W base n s R₁ W₁ K₁ r
+            unfolding judge
+            filled-sort {r} f e =
+                record {
+                  tells = on-filled (Answers F S X R W base n s R₁ W₁ K₁ r)
+                      (λ t x a b h.
+                      passes _ 9 n _ (formed-at t (h .0 .t-is) ∙ not-false _ f₁)
+                      (child-ok _ _ u y₁ (m₁ .tells a (h .2)) λ L q p.
+                      stops _ 10 n _ (ne-eqb _ _ (λ i. f (e₁ ∙ i))) e)) kind;
+                }
+
+            module _ (k : k₁ ≡ 0) {x₂ : ℕ} {b₂ : Bool} (ex : x₂ ≡ nodeAt (tablesOf F S) n .x) (fresh : Freshness F S W₁ K₁ base x₂ b₂) where
+              fresh-is : (x : ℕ) → nodeAt (tablesOf F S) n .x ≡ x → Same (entryOf (tablesOf F S) s) W W₁ → isFresh x (scopeOf (tablesOf F S) W base s) ≡ b₂
+              fresh-is x e a =
+                  sym (fresh .tells s (first-fine m₁ y₁ .scoped) (g .fine .above)
+                  ∙ ap (λ Γ. isFresh x₂ Γ) (scope-same (tablesOf F S) s a base)
+                  ∙ ap (λ i. isFresh i (scopeOf (tablesOf F S) W base s)) (ex ∙ e))
+
+              pub filled-taken : {r : Judged} → not b₂ ≡ true → r .judgement ≡ Refused 7 n → Told F S X R W base n s R₁ W₁ K₁ r
+              unfolding judge
+              filled-taken {r} f e =
+                  record {
+                    tells = on-filled (Answers F S X R W base n s R₁ W₁ K₁ r)
+                        (λ t x a b h.
+                        passes _ 9 n _ (formed-at t (h .0 .t-is) ∙ not-false _ f₁)
+                        (child-ok _ _ u y₁ (m₁ .tells a (h .2)) λ L q p.
+                        passes _ 10 n _ (eq-eqb _ _ (sym e₁ ∙ k))
+                        (stops _ 7 n _ (fresh-is x (h .0 .x-is) (p .after .same) ∙ not-true _ f) e))) kind;
+                  }
+
+              module _ (f₂ : not b₂ ≡ false) {R₂ W₂ K₂ : List ℕ} {r₂ : Judged} (m₂ : ToldFilling F S X R₁ W₁ base n s (r₁ .next) R₂ W₂ K₂ r₂) where
+                pub filled-no-2 : Untyped r₂ → Told F S X R W base n s R₂ W₂ K₂ r₂
+                unfolding judge
+                filled-no-2 z =
+                    record {
+                      tells = on-filled (Answers F S X R W base n s R₂ W₂ K₂ r₂)
+                          (λ t x a b h.
+                          passes _ 9 n _ (formed-at t (h .0 .t-is) ∙ not-false _ f₁)
+                          (child-ok _ _ u y₁ (m₁ .tells a (h .2)) λ L q p.
+                          passes _ 10 n _ (eq-eqb _ _ (sym e₁ ∙ k))
+                          (passes _ 7 n _ (fresh-is x (h .0 .x-is) (p .after .same) ∙ not-false _ f₂)
+                          (subst (Meets (Typing F S X base n (size (arrayWith t x a b)) s R W R₂ W₂ K₂ r₂) r₂)
+                          (fills-then (judge (tablesOf F S) (contextOf (tablesOf F S) W base) b (n + 1 + size a) (binds (scopeOf (tablesOf F S) W base s) x 0 n))
+                          (λ v. isBelow (tablesOf F S) (contextOf (tablesOf F S) W base) v (referred (tablesOf F S) t)) 11 n (λ v M. plain t (scopeOf (tablesOf F S) W base s) (L ++ M)))
+                          (child-no _ (λ v M. plain t (scopeOf (tablesOf F S) W base s) (L ++ M)) z (retell-filling (p .after .same) (g .fine .above) (p .next) m₂ t x (h .0 .t-is) (h .0 .x-is) b (h .3))))))) kind;
+                    }
+
+                pub filled-ok : {v : ℕ} {r : Judged} {R′ : List ℕ} → r₂ .judgement ≡ Typed v → r ≡ record { judgement = Typed t₁; next = r₂ .next; scope = s }
+                    → R′ ≡ withRow R₂ n t₁ 65535 → Told F S X R W base n s R′ W₂ K₂ r
+                unfolding judge
+                filled-ok {v} {r} {R′} y₂ er eR =
+                    record {
+                      tells = on-filled (Answers F S X R W base n s R′ W₂ K₂ r)
+                          (λ t x a b h.
+                          passes _ 9 n _ (formed-at t (h .0 .t-is) ∙ not-false _ f₁)
+                          (child-ok _ _ u y₁ (m₁ .tells a (h .2)) λ L q p.
+                          passes _ 10 n _ (eq-eqb _ _ (sym e₁ ∙ k))
+                          (passes _ 7 n _ (fresh-is x (h .0 .x-is) (p .after .same) ∙ not-false _ f₂)
+                          (subst (Meets (Typing F S X base n (size (arrayWith t x a b)) s R W R′ W₂ K₂ r) r)
+                          (fills-then (judge (tablesOf F S) (contextOf (tablesOf F S) W base) b (n + 1 + size a) (binds (scopeOf (tablesOf F S) W base s) x 0 n))
+                          (λ v. isBelow (tablesOf F S) (contextOf (tablesOf F S) W base) v (referred (tablesOf F S) t)) 11 n (λ v M. plain t (scopeOf (tablesOf F S) W base s) (L ++ M)))
+                          (child-ok _ (λ v M. plain t (scopeOf (tablesOf F S) W base s) (L ++ M)) v y₂ (retell-filling (p .after .same) (g .fine .above) (p .next) m₂ t x (h .0 .t-is) (h .0 .x-is) b (h .3)) λ M q₂ p₂.
+                          subst (λ i. Meets (Typing F S X base n (size (arrayWith t x a b)) s R W R′ W₂ K₂ r) r (plain i (scopeOf (tablesOf F S) W base s) (L ++ M))) (et ∙ h .0 .t-is)
+                          (accepts _ _ (rule-typed (g .within) filled-within (after-append (expr-long _ _ a (n + 1) _ u L q) (expr-closed _ _ a (n + 1) _ u L q) (p .after) (p₂ .after)) er (p₂ .next ∙ omega arith) (omega arith) eR))))))) kind;
+                    }

@@ -1,0 +1,425 @@
+-- Rules with a list: array literal, call and struct literal. The answers of their returns, and what their calls ask. Assumes nothing.
+use mathlib.Core.Path.{_≡_, refl, ap, sym, subst, _∙_}
+use mathlib.Core.Bool.{Bool, true, false, not}
+use mathlib.Core.List.{List, _++_}
+use Prim.Native.Nat.{ℕ, _+_, _-_, _*_, _≤_, _<_}
+use native.Mathlib.Omega.{arith}
+use lib.ListN.{length, getD}
+use lib.Dec.{eqb}
+use borrow.Author.Tests.{eq-eqb, ne-eqb, lt-ltb, le-ltb, not-true, not-false}
+use Rattle.oat.specs.Basics.{pick}
+use Rattle.oat.specs.Tables.{Tables, typeAt, nodeAt}
+use Rattle.oat.specs.Types.{Field, structOf, Lookup, found, missing, lookup}
+use Rattle.oat.specs.Syntax.{Expr, arrayLiteral, structLiteral, call, size, Exprs, sizes, count, Inits, noInit, init, sizeInits, countInits}
+use Rattle.oat.specs.Nodes.{Stands, StandAll, InitsStand}
+use Rattle.oat.proofs.LawsTypes.{types-formed}
+use Rattle.oat.proofs.LawsTables.{has-kind}
+use Rattle.typing_rules.specs.Labels.{Label}
+use Rattle.typing_rules.specs.Judge.{Out, ok, no, andThen, needs, onDeclared, plain, referred, formed, eachBelow, argumentsBelow, judge}
+use Rattle.file_sections.specs.declared.Sections.{Sections}
+use Rattle.file_sections.specs.Layout.{Has, tablesOf}
+use Rattle.file_sections.proofs.LawsRecords.{nodes-long, types-long, list-long, structs-long, built-ins-long}
+use Rattle.type_index.specs.Index.{declared, recordOf, structNamed}
+use Rattle.type_index.proofs.LawsIndex.{lookup-is}
+use Rattle.bindings.specs.Bindings.{entryOf, scopeOf, Same}
+use Rattle.bindings.proofs.LawsBindings.{scope-same, names-same}
+use Rattle.fields.specs.Literal.{Named, Fitting}
+use Rattle.answers.specs.declared.answer.Judgement.the-variants.{Typed, GoesOn, Refused}
+use Rattle.answers.specs.declared.answer.Judged.{Judged}
+use Rattle.answers.specs.declared.leaves.Expected.{Expected}
+use Rattle.answers.specs.declared.leaves.Expected.the-variants.{Each, Run}
+use Rattle.answers.specs.Answers.{withRow}
+use Rattle.expressions.specs.Contract.{contextOf, Fine, After, Typing, Listing, Meets, accepts, refuses, Answers, Ready, Told, expectedBelow, listed, ReadyList, ToldList, initialized, ReadyInits, ToldInits}
+use Rattle.expressions.proofs.LawsMeets.{Untyped, Unlisted, stops, passes, child-no, child-ok, list-no, list-ok}
+use Rattle.expressions.proofs.LawsAfter.{same-more, fine-stack, ready, typing-of, after-append, rule-typed}
+use Rattle.expressions.proofs.LawsChild.{child-within, has-type, kind-within, element-within, returned-within, formed-is, parameters-within}
+use Rattle.expressions.proofs.LawsList.{exprIn, judgedIn, listedIn, listed-fine}
+use Rattle.expressions.proofs.LawsInits.{initsIn, fitsIn, initializedIn, initialized-fine}
+use Rattle.expressions.proofs.LawsLabels.{expr-long, expr-closed}
+use Rattle.expressions.proofs.LawsShape.{on-array, on-struct, on-call, stands-end}
+
+-- a premise on a list, tested within the list's part, then what goes on with it
+pub then-tested : {A B : Type 0} {Q : B → List (Label ℕ) → Type 0} {r : Judged} (o : Out A) (f : A → Bool) (p q : ℕ) (k : A → List (Label ℕ) → Out B)
+    → Meets Q r (andThen (andThen o λ a L. needs (f a) p q (ok a L)) k) → Meets Q r (andThen o λ a L. needs (f a) p q (k a L))
+then-tested {A} {B} {Q} {r} (ok a L) f p q k m = go (f a) m
+  where
+    go : (b : Bool) → Meets Q r (andThen (needs b p q (ok a L)) k) → Meets Q r (needs b p q (k a L))
+    go true h = h
+    go false h = h
+then-tested (no i j) f p q k m = m
+
+module _ {F : List ℕ} {S : Sections} {X : List ℕ} {base : ℕ} where
+  -- the row of a node of the file can be written
+  pub row-fits : {R W K : List ℕ} {n s t : ℕ} → Fine F S X R W K base s → n < S .nodes → t < S .types → (n * 2 + 1 < length R) × (n < 65536) × (t < 65536)
+  row-fits f h k =
+      let laid = f .readable .laid in
+      (omega (arith, f .rows-long, h), omega (arith, h, laid .nodes-most), omega (arith, k, laid .types-most))
+
+  -- a stack that had changed above the scope before
+  pub after-since : {L : List (Label ℕ)} {n k s : ℕ} {R W W₀ R₁ W₁ K₁ : List ℕ} → Same (entryOf (tablesOf F S) s) W W₀ → After F S X base L n k s s R W₀ R₁ W₁ K₁ → After F S X base L n k s s R W R₁ W₁ K₁
+  after-since m a = record { rows = a .rows; kept = a .kept; same = same-more m (a .same); fine = a .fine }
+
+  -- a later list sees the scope and the names of the part before it
+  pub retell-list : {W R₁ W₁ R₂ W₂ K₂ : List ℕ} {s m i left : ℕ} {x : Expected} {parent : ℕ} {r : Judged} → Same (entryOf (tablesOf F S) s) W W₁ → base ≤ s → m ≡ i
+      → ToldList F S X R₁ W₁ base m s left x parent R₂ W₂ K₂ r → (es : Exprs) → StandAll (tablesOf F S) i es → count es ≡ left
+      → Meets (Listing F S X base i (sizes es) s R₁ W₁ R₂ W₂ K₂ r) r (listedIn F S W base s es i x parent)
+  retell-list {W} {R₁} {W₁} {R₂} {W₂} {K₂} {s} {m} {i} {left} {x} {parent} {r} a l e told es h c =
+      subst (λ Γ. Meets (Listing F S X base i (sizes es) s R₁ W₁ R₂ W₂ K₂ r) r (listed (tablesOf F S) (contextOf (tablesOf F S) W base) es i Γ x parent)) (scope-same (tablesOf F S) s a base)
+      (subst (λ N. Meets (Listing F S X base i (sizes es) s R₁ W₁ R₂ W₂ K₂ r) r (listed (tablesOf F S) (record { structs = declared (tablesOf F S); names = N }) es i (scopeOf (tablesOf F S) W₁ base s) x parent))
+      (names-same (tablesOf F S) s a base l)
+      (subst (λ j. ToldList F S X R₁ W₁ base j s left x parent R₂ W₂ K₂ r) e told .tells es h c))
+
+  pub retell-inits : {W R₁ W₁ R₂ W₂ K₂ : List ℕ} {s m left owner parent : ℕ} {r : Judged} → Same (entryOf (tablesOf F S) s) W W₁ → base ≤ s
+      → ToldInits F S X R₁ W₁ base m s left owner parent R₂ W₂ K₂ r → (is : Inits) → InitsStand (tablesOf F S) m is → countInits is ≡ left
+      → Meets (Listing F S X base m (sizeInits is) s R₁ W₁ R₂ W₂ K₂ r) r
+      (initializedIn F S W base s owner is m parent)
+  retell-inits {W} {R₁} {W₁} {R₂} {W₂} {K₂} {s} {m} {left} {owner} {parent} {r} a l told is h c =
+      subst (λ Γ. Meets (Listing F S X base m (sizeInits is) s R₁ W₁ R₂ W₂ K₂ r) r (initialized (tablesOf F S) (contextOf (tablesOf F S) W base) (structOf (tablesOf F S) owner .fields) is m Γ parent)) (scope-same (tablesOf F S) s a base)
+      (subst (λ N. Meets (Listing F S X base m (sizeInits is) s R₁ W₁ R₂ W₂ K₂ r) r (initialized (tablesOf F S) (record { structs = declared (tablesOf F S); names = N }) (structOf (tablesOf F S) owner .fields) is m (scopeOf (tablesOf F S) W₁ base s) parent))
+      (names-same (tablesOf F S) s a base l)
+      (told .tells is h c))
+
+-- array literal
+array-at : {T : Tables} {n t : ℕ} → t ≡ nodeAt T n .t → (P : Expr → Type 0) → ((es : Exprs) → Stands T n (arrayLiteral t es) → P (arrayLiteral t es))
+    → nodeAt T n .kind ≡ 16 → (e : Expr) → Stands T n e → P e
+array-at {T} {n} et P f = on-array P (λ u es h. subst (λ v. Stands T n (arrayLiteral v es) → P (arrayLiteral v es)) (et ∙ h .0 .t-is) (f es) h)
+
+module _ {F : List ℕ} {S : Sections} {X R W K : List ℕ} {base n s : ℕ} (g : Ready F S X R W K base n s) (kind : nodeAt (tablesOf F S) n .kind ≡ 16)
+    {t : ℕ} (et : t ≡ nodeAt (tablesOf F S) n .t) where
+  array-kind : (t < S .types) × (typeAt (tablesOf F S) t .kind ≡ 5)
+  array-kind =
+      array-at et (λ e. (t < S .types) × (typeAt (tablesOf F S) t .kind ≡ 5))
+      (λ es h. (kind-within (g .fine .readable) 5 (h .1), has-kind (tablesOf F S) t 5 (h .1) .kind)) kind (g .tree) (g .stands)
+
+  pub array-within : t < S .types
+  array-within = array-kind .0
+
+  pub array-type : Has F S t (S .types)
+  array-type = has-type (g .fine .readable) array-within
+
+  module _ {u : ℕ} (eu : u ≡ typeAt (tablesOf F S) t .a) where
+    pub array-element : u < S .types
+    array-element = subst (λ i. i < S .types) (sym eu) (element-within (g .fine .readable) array-within (array-kind .1))
+
+    pub array-entry : 1024 + u < length X
+    array-entry = omega (arith, array-element, g .fine .readable .laid .types-most, g .fine .indexed .long)
+
+    pub array-list : {c : ℕ} → c ≡ nodeAt (tablesOf F S) n .children → ReadyList F S X R W K base (n + 1) s c (Each u)
+    array-list {c} ec =
+        array-at et (λ e. s + size e ≤ S .«built_ins» + S .nodes → ReadyList F S X R W K base (n + 1) s c (Each u))
+        (λ es h l. record {
+          fine = g .fine;
+          within = omega (arith, g .within);
+          expecting = array-element;
+          trees = es;
+          stand = h .2;
+          counted = sym (ec ∙ h .0 .children-is);
+          room = omega arith;
+        })
+        kind (g .tree) (g .stands) (g .room)
+
+    module _ {b : Bool} (eb : b ≡ eqb (getD X (1024 + u) 0) 1) where
+      array-formed : b ≡ formed (tablesOf F S) (contextOf (tablesOf F S) W base) (referred (tablesOf F S) t)
+      array-formed = formed-is (g .fine) array-element eb ∙ ap (formed (tablesOf F S) (contextOf (tablesOf F S) W base)) eu
+
+      pub array-unformed : {r : Judged} → not b ≡ true → r .judgement ≡ Refused 9 n → Told F S X R W base n s R W K r
+      unfolding judge
+      array-unformed {r} f e =
+          record { tells = array-at et (Answers F S X R W base n s R W K r) (λ es h. stops _ 9 n _ (sym array-formed ∙ not-true b f) e) kind }
+
+      module _ (fb : not b ≡ false) {c : ℕ} (ec : c ≡ nodeAt (tablesOf F S) n .children) {R₁ W₁ K₁ : List ℕ} {r₁ : Judged}
+          (m₁ : ToldList F S X R W base (n + 1) s c (Each u) n R₁ W₁ K₁ r₁) where
+        array-listed : (es : Exprs) → Stands (tablesOf F S) n (arrayLiteral t es)
+            → Meets (Listing F S X base (n + 1) (sizes es) s R W R₁ W₁ K₁ r₁) r₁
+            (listedIn F S W base s es (n + 1) (Each (referred (tablesOf F S) t)) n)
+        array-listed es h = subst (λ i. ToldList F S X R W base (n + 1) s c (Each i) n R₁ W₁ K₁ r₁) eu m₁ .tells es (h .2) (sym (ec ∙ h .0 .children-is))
+
+        array-told : {r : Judged} {R′ W′ K′ : List ℕ} (es : Exprs) → Stands (tablesOf F S) n (arrayLiteral t es)
+            → Meets (Typing F S X base n (size (arrayLiteral t es)) s R W R′ W′ K′ r) r
+            (andThen (listedIn F S W base s es (n + 1) (Each (referred (tablesOf F S) t)) n)
+            λ ts L. plain t (scopeOf (tablesOf F S) W base s) L)
+            → Answers F S X R W base n s R′ W′ K′ r (arrayLiteral t es)
+        unfolding judge expectedBelow
+        array-told es h m =
+            passes _ 9 n _ (sym array-formed ∙ not-false b fb)
+            (then-tested (judgedIn F S W base s es (n + 1))
+            (λ ts. eachBelow (tablesOf F S) (contextOf (tablesOf F S) W base) ts (referred (tablesOf F S) t)) 11 n (λ ts L. plain t (scopeOf (tablesOf F S) W base s) L) m)
+
+        pub array-no : Unlisted r₁ → Told F S X R W base n s R₁ W₁ K₁ r₁
+        array-no u₁ =
+            record { tells = array-at et (Answers F S X R W base n s R₁ W₁ K₁ r₁) (λ es h. array-told es h (list-no _ _ u₁ (array-listed es h))) kind }
+
+        pub array-row : r₁ .judgement ≡ GoesOn → (n * 2 + 1 < length R₁) × (n < 65536) × (t < 65536)
+        array-row y = row-fits (listed-fine (array-list ec) m₁ y) (g .within) array-within
+
+        pub array-ok : {r : Judged} {R′ : List ℕ} → r₁ .judgement ≡ GoesOn → r ≡ record { judgement = Typed t; next = r₁ .next; scope = s } → R′ ≡ withRow R₁ n t 65535
+            → Told F S X R W base n s R′ W₁ K₁ r
+        array-ok {r} {R′} y er eR =
+            record {
+              tells = array-at et (Answers F S X R W base n s R′ W₁ K₁ r)
+                  (λ es h. array-told es h
+                  (list-ok _ _ y (array-listed es h) λ ts L q p.
+                  accepts _ _ (rule-typed (g .within) array-within (p .after) er (p .next) refl eR))) kind;
+            }
+
+-- call
+module _ {F : List ℕ} {S : Sections} {X R W K : List ℕ} {base n s : ℕ} (g : Ready F S X R W K base n s) (kind : nodeAt (tablesOf F S) n .kind ≡ 24) where
+  pub call-first : Ready F S X R W K base (n + 1) s
+  call-first =
+      on-call (λ e. s + size e ≤ S .«built_ins» + S .nodes → Ready F S X R W K base (n + 1) s) (λ a es h l. ready (n + 1) a (g .fine) (h .1) (omega arith)) kind
+      (g .tree) (g .stands) (g .room)
+
+  module _ {R₁ W₁ K₁ : List ℕ} {r₁ : Judged} (m₁ : Told F S X R W base (n + 1) s R₁ W₁ K₁ r₁) where
+    pub call-no : Untyped r₁ → Told F S X R W base n s R₁ W₁ K₁ r₁
+    unfolding judge
+    call-no u = record { tells = on-call (Answers F S X R W base n s R₁ W₁ K₁ r₁) (λ a es h. child-no _ _ u (m₁ .tells a (h .1))) kind }
+
+    module _ {f k₁ : ℕ} (y₁ : r₁ .judgement ≡ Typed f) (e₁ : k₁ ≡ typeAt (tablesOf F S) f .kind) where
+      pub call-sort : {r : Judged} → (k₁ ≡ 6 → ⊥) → r .judgement ≡ Refused 10 n → Told F S X R W base n s R₁ W₁ K₁ r
+      unfolding judge
+      call-sort {r} z e =
+          record {
+            tells = on-call (Answers F S X R W base n s R₁ W₁ K₁ r)
+                (λ a es h. child-ok _ _ f y₁ (m₁ .tells a (h .1)) λ L q p. stops _ 10 n _ (ne-eqb _ _ (λ i. z (e₁ ∙ i))) e) kind;
+          }
+
+      module _ (six : k₁ ≡ 6) {u : ℕ} (eu : u ≡ typeAt (tablesOf F S) f .a) where
+        pub call-within : u < S .types
+        call-within = subst (λ i. i < S .types) (sym eu) (returned-within (g .fine .readable) (child-within call-first m₁ y₁) (sym e₁ ∙ six))
+
+        pub call-type : Has F S u (S .types)
+        call-type = has-type (g .fine .readable) call-within
+
+        module _ {k₂ : ℕ} (e₂ : k₂ ≡ typeAt (tablesOf F S) u .kind) where
+          referred-kind : k₂ ≡ typeAt (tablesOf F S) (referred (tablesOf F S) f) .kind
+          referred-kind = e₂ ∙ ap (λ i. typeAt (tablesOf F S) i .kind) eu
+
+          pub call-void : {r : Judged} → k₂ ≡ 3 → r .judgement ≡ Refused 13 n → Told F S X R W base n s R₁ W₁ K₁ r
+          unfolding judge
+          call-void {r} three e =
+              record {
+                tells = on-call (Answers F S X R W base n s R₁ W₁ K₁ r)
+                    (λ a es h.
+                    child-ok _ _ f y₁ (m₁ .tells a (h .1)) λ L q p.
+                    passes _ 10 n _ (eq-eqb _ _ (sym e₁ ∙ six))
+                    (stops _ 13 n _ (ap not (eq-eqb _ _ (sym referred-kind ∙ three))) e)) kind;
+              }
+
+          module _ (value : k₂ ≡ 3 → ⊥) {c d : ℕ} (ec : c ≡ typeAt (tablesOf F S) f .c) (ed : d ≡ nodeAt (tablesOf F S) n .children) where
+            not-void : not (eqb (typeAt (tablesOf F S) (referred (tablesOf F S) f) .kind) 3) ≡ true
+            not-void = ap not (ne-eqb _ _ (λ i. value (referred-kind ∙ i)))
+
+            pub call-count : {r : Judged} → (d ≡ 1 + c → ⊥) → r .judgement ≡ Refused 12 n → Told F S X R W base n s R₁ W₁ K₁ r
+            unfolding judge
+            call-count {r} z e =
+                record {
+                  tells = on-call (Answers F S X R W base n s R₁ W₁ K₁ r)
+                      (λ a es h.
+                      child-ok _ _ f y₁ (m₁ .tells a (h .1)) λ L q p.
+                      passes _ 10 n _ (eq-eqb _ _ (sym e₁ ∙ six))
+                      (passes _ 13 n _ not-void
+                      (stops _ 12 n _ (ne-eqb _ _ (λ i. z (ed ∙ h .0 .children-is ∙ ap (λ j. 1 + j) (i ∙ sym ec)))) e))) kind;
+                }
+
+            module _ (many : d ≡ 1 + c) {b : ℕ} (eb : b ≡ typeAt (tablesOf F S) f .b) where
+              counts : (es : Exprs) → nodeAt (tablesOf F S) n .children ≡ 1 + count es → count es ≡ c
+              counts es h = omega (arith, ed, many)
+
+              pub call-list : (n < r₁ .next) × ReadyList F S X R₁ W₁ K₁ base (r₁ .next) s c (Run b)
+              call-list =
+                  on-call (λ e. s + size e ≤ S .«built_ins» + S .nodes → (n < r₁ .next) × ReadyList F S X R₁ W₁ K₁ base (r₁ .next) s c (Run b))
+                  (λ a es h l.
+                  let (L, q, p) = typing-of _ (m₁ .tells a (h .1)) y₁ in (
+                    omega (arith, p .next),
+                    record {
+                      fine = p .after .fine;
+                      within = omega (arith, p .next, stands-end (tablesOf F S) (n + 1) a (h .1), nodes-long F S);
+                      expecting = parameters-within (g .fine .readable) (child-within call-first m₁ y₁) (sym e₁ ∙ six) eb ec;
+                      trees = es;
+                      stand = subst (λ i. StandAll (tablesOf F S) i es) (sym (p .next)) (h .2);
+                      counted = counts es (h .0 .children-is);
+                      room = omega arith;
+                    },
+                  )) kind
+                  (g .tree) (g .stands) (g .room)
+
+              module _ {R₂ W₂ K₂ : List ℕ} {r₂ : Judged} (m₂ : ToldList F S X R₁ W₁ base (r₁ .next) s c (Run b) n R₂ W₂ K₂ r₂) where
+                call-told : {r : Judged} {R′ W′ K′ : List ℕ}
+                    → ((a : Expr) (es : Exprs) (L : List (Label ℕ)) → exprIn F S W base s a (n + 1) ≡ ok f L
+                    → Typing F S X base (n + 1) (size a) s R W R₁ W₁ K₁ r₁ f L
+                    → Meets (Listing F S X base (n + 1 + size a) (sizes es) s R₁ W₁ R₂ W₂ K₂ r₂) r₂
+                    (listedIn F S W base s es (n + 1 + size a) (Run (typeAt (tablesOf F S) f .b)) n)
+                    → Meets (Typing F S X base n (size (call a es)) s R W R′ W′ K′ r) r
+                    (andThen (listedIn F S W base s es (n + 1 + size a) (Run (typeAt (tablesOf F S) f .b)) n)
+                    λ ts M. plain (referred (tablesOf F S) f) (scopeOf (tablesOf F S) W base s) (L ++ M)))
+                    → Told F S X R W base n s R′ W′ K′ r
+                unfolding judge expectedBelow
+                call-told {r} {R′} {W′} {K′} go =
+                    record {
+                      tells = on-call (Answers F S X R W base n s R′ W′ K′ r)
+                          (λ a es h.
+                          child-ok _ _ f y₁ (m₁ .tells a (h .1)) λ L q p.
+                          passes _ 10 n _ (eq-eqb _ _ (sym e₁ ∙ six))
+                          (passes _ 13 n _ not-void
+                          (passes _ 12 n _ (eq-eqb _ _ (counts es (h .0 .children-is) ∙ ec))
+                          (then-tested (judgedIn F S W base s es (n + 1 + size a))
+                          (λ ts. argumentsBelow (tablesOf F S) (contextOf (tablesOf F S) W base) ts (typeAt (tablesOf F S) f .b)) 11 n
+                          (λ ts M. plain (referred (tablesOf F S) f) (scopeOf (tablesOf F S) W base s) (L ++ M))
+                          (go a es L q p
+                          (retell-list (p .after .same) (g .fine .above) (p .next)
+                          (subst (λ i. ToldList F S X R₁ W₁ base (r₁ .next) s c (Run i) n R₂ W₂ K₂ r₂) eb m₂) es (h .2) (counts es (h .0 .children-is)))))))) kind;
+                    }
+
+                pub call-no-2 : Unlisted r₂ → Told F S X R W base n s R₂ W₂ K₂ r₂
+                call-no-2 z = call-told (λ a es L q p v. list-no _ _ z v)
+
+                pub call-row : r₂ .judgement ≡ GoesOn → (n * 2 + 1 < length R₂) × (n < 65536) × (u < 65536)
+                call-row y = row-fits (listed-fine (call-list .1) m₂ y) (g .within) call-within
+
+                pub call-ok : {r : Judged} {R′ : List ℕ} → r₂ .judgement ≡ GoesOn → r ≡ record { judgement = Typed u; next = r₂ .next; scope = s } → R′ ≡ withRow R₂ n u 65535
+                    → Told F S X R W base n s R′ W₂ K₂ r
+                call-ok {r} {R′} y er eR =
+                    call-told
+                    (λ a es L q p v.
+                    list-ok _ _ y v λ ts M q₂ p₂.
+                    subst (λ i. Meets (Typing F S X base n (size (call a es)) s R W R′ W₂ K₂ r) r (plain i (scopeOf (tablesOf F S) W base s) (L ++ M))) eu
+                    (accepts _ _ (rule-typed (g .within) call-within (after-append (expr-long _ _ a (n + 1) _ f L q) (expr-closed _ _ a (n + 1) _ f L q) (p .after) (p₂ .after)) er (p₂ .next ∙ omega arith) (omega arith) eR)))
+
+-- struct literal
+struct-at : {T : Tables} {n t : ℕ} → t ≡ nodeAt T n .t → (P : Expr → Type 0) → ((is : Inits) → Stands T n (structLiteral t is) → P (structLiteral t is))
+    → nodeAt T n .kind ≡ 21 → (e : Expr) → Stands T n e → P e
+struct-at {T} {n} et P f = on-struct P (λ u is h. subst (λ v. Stands T n (structLiteral v is) → P (structLiteral v is)) (et ∙ h .0 .t-is) (f is) h)
+
+inits-few : (is : Inits) → countInits is ≤ sizeInits is
+inits-few noInit = omega arith
+inits-few (init x a is) = omega (arith, inits-few is)
+
+-- the struct that a type of kind 4 names
+struct-record : (T : Tables) (t : ℕ) → typeAt T t .kind ≡ 4 → structNamed T t ≡ recordOf T (referred T t)
+unfolding structNamed
+struct-record T t k = rw (eq-eqb _ _ k)
+
+struct-missing-is : (T : Tables) (x o : ℕ) → o ≡ recordOf T x → length (T .structs) ≤ o → lookup (declared T) x ≡ missing
+struct-missing-is T x o e h = lookup-is T x ∙ ap (λ b. pick b (found (structOf T (recordOf T x) .fields)) missing) (le-ltb _ _ (subst (λ i. length (T .structs) ≤ i) e h))
+
+struct-found-is : (T : Tables) (x o : ℕ) → o ≡ recordOf T x → o < length (T .structs) → lookup (declared T) x ≡ found (structOf T o .fields)
+struct-found-is T x o e h =
+    lookup-is T x ∙ ap (λ b. pick b (found (structOf T (recordOf T x) .fields)) missing) (lt-ltb _ _ (subst (λ i. i < length (T .structs)) e h))
+    ∙ ap (λ i. found (structOf T i .fields)) (sym e)
+
+module _ {A : Type 0} {Q : A → List (Label ℕ) → Type 0} {r : Judged} where
+  undeclared : (l : Lookup) (n : ℕ) (k : List Field → Out A) → l ≡ missing → r .judgement ≡ Refused 9 n → Meets Q r (onDeclared l n k)
+  undeclared l n k h e = rw h (refuses 9 n e)
+
+  on-found : (l : Lookup) (n : ℕ) (k : List Field → Out A) (fs : List Field) → l ≡ found fs → Meets Q r (k fs) → Meets Q r (onDeclared l n k)
+  on-found l n k fs h m = rw h m
+
+module _ {F : List ℕ} {S : Sections} {X R W K : List ℕ} {base n s : ℕ} (g : Ready F S X R W K base n s) (kind : nodeAt (tablesOf F S) n .kind ≡ 21)
+    {t : ℕ} (et : t ≡ nodeAt (tablesOf F S) n .t) where
+  struct-kind : (t < S .types) × (typeAt (tablesOf F S) t .kind ≡ 4)
+  struct-kind =
+      struct-at et (λ e. (t < S .types) × (typeAt (tablesOf F S) t .kind ≡ 4))
+      (λ is h. (kind-within (g .fine .readable) 4 (h .1), has-kind (tablesOf F S) t 4 (h .1) .kind)) kind (g .tree) (g .stands)
+
+  pub struct-within : t < S .types
+  struct-within = struct-kind .0
+
+  pub struct-entry : 512 + t < length X
+  struct-entry = omega (arith, struct-within, g .fine .readable .laid .types-most, g .fine .indexed .long)
+
+  -- names are kept above the scope's entries
+  pub struct-low : S .«built_ins» ≤ s
+  struct-low = omega (arith, g .fine .low, g .fine .above)
+
+  module _ {o : ℕ} (eo : o ≡ getD X (512 + t) 0) where
+    owner-is : o ≡ recordOf (tablesOf F S) (referred (tablesOf F S) t)
+    owner-is = eo ∙ g .fine .indexed .named t struct-within ∙ struct-record (tablesOf F S) t (struct-kind .1)
+
+    pub struct-missing : {r : Judged} → S .structs ≤ o → r .judgement ≡ Refused 9 n → Told F S X R W base n s R W K r
+    unfolding judge
+    struct-missing {r} l e =
+        record {
+          tells = struct-at et (Answers F S X R W base n s R W K r)
+              (λ is h. undeclared _ n _ (struct-missing-is (tablesOf F S) _ o owner-is (subst (λ i. i ≤ o) (sym (structs-long F S)) l)) e) kind;
+        }
+
+    module _ (low : o < S .structs) where
+      owner-found : lookup (declared (tablesOf F S)) (referred (tablesOf F S) t) ≡ found (structOf (tablesOf F S) o .fields)
+      owner-found = struct-found-is (tablesOf F S) _ o owner-is (subst (λ i. o < i) (sym (structs-long F S)) low)
+
+      pub struct-named : Named F S W ((s - S .«built_ins») * 2) n o
+      struct-named =
+          struct-at et (λ e. s + size e ≤ S .«built_ins» + S .nodes → Named F S W ((s - S .«built_ins») * 2) n o)
+          (λ is h l. record {
+            readable = g .fine .readable;
+            within = g .within;
+            declared = low;
+            inits = is;
+            stand = h .2;
+            counted = h .0 .children-is;
+            room = omega (arith, l, inits-few is, struct-low, g .fine .scoped .long);
+          })
+          kind (g .tree) (g .stands) (g .room)
+
+      module _ {W₀ : List ℕ} {b : Bool} (fit : Fitting F S W ((s - S .«built_ins») * 2) n o W₀ b) where
+        pub struct-names : {r : Judged} → not b ≡ true → r .judgement ≡ Refused 12 n → Told F S X R W base n s R W₀ K r
+        unfolding judge
+        struct-names {r} f e =
+            record {
+              tells = struct-at et (Answers F S X R W base n s R W₀ K r)
+                  (λ is h. on-found _ n _ _ owner-found (stops _ 12 n _ (sym (fit .tells is (h .2) (h .0 .children-is)) ∙ not-true b f) e)) kind;
+            }
+
+        stack-same : Same (entryOf (tablesOf F S) s) W W₀
+        stack-same = record { at = λ i h. fit .below .at i (subst (λ k. i < (s - k) * 2) (built-ins-long F S) h) }
+
+        pub struct-inits : {c : ℕ} → length W₀ ≡ length W → c ≡ nodeAt (tablesOf F S) n .children → ReadyInits F S X R W₀ K base (n + 1) s c o
+        struct-inits {c} el ec =
+            struct-at et (λ e. s + size e ≤ S .«built_ins» + S .nodes → ReadyInits F S X R W₀ K base (n + 1) s c o)
+            (λ is h l. record {
+              fine = fine-stack (g .fine) stack-same el;
+              within = omega (arith, g .within);
+              declared-there = low;
+              inits = is;
+              stand = h .2;
+              counted = sym (ec ∙ h .0 .children-is);
+              room = omega arith;
+            })
+            kind (g .tree) (g .stands) (g .room)
+
+        module _ (fb : not b ≡ false) {c : ℕ} (ec : c ≡ nodeAt (tablesOf F S) n .children) {R₁ W₁ K₁ : List ℕ} {r₁ : Judged}
+            (m₁ : ToldInits F S X R W₀ base (n + 1) s c o n R₁ W₁ K₁ r₁) where
+          struct-told : {r : Judged} {R′ W′ K′ : List ℕ}
+              → ((is : Inits)
+              → Meets (Listing F S X base (n + 1) (sizeInits is) s R W₀ R₁ W₁ K₁ r₁) r₁
+              (initializedIn F S W base s o is (n + 1) n)
+              → Meets (Typing F S X base n (size (structLiteral t is)) s R W R′ W′ K′ r) r
+              (andThen (initializedIn F S W base s o is (n + 1) n)
+              λ ts L. plain t (scopeOf (tablesOf F S) W base s) L))
+              → Told F S X R W base n s R′ W′ K′ r
+          unfolding judge
+          struct-told {r} {R′} {W′} {K′} go =
+              record {
+                tells = struct-at et (Answers F S X R W base n s R′ W′ K′ r)
+                    (λ is h.
+                    on-found _ n _ _ owner-found
+                    (passes _ 12 n _ (sym (fit .tells is (h .2) (h .0 .children-is)) ∙ not-false b fb)
+                    (then-tested (initsIn F S W base s is (n + 1))
+                    (fitsIn F S W base o is) 11 n
+                    (λ ts L. plain t (scopeOf (tablesOf F S) W base s) L)
+                    (go is (retell-inits stack-same (g .fine .above) m₁ is (h .2) (sym (ec ∙ h .0 .children-is))))))) kind;
+              }
+
+          pub struct-no : Unlisted r₁ → Told F S X R W base n s R₁ W₁ K₁ r₁
+          struct-no z = struct-told (λ is v. list-no _ _ z v)
+
+          pub struct-row : length W₀ ≡ length W → r₁ .judgement ≡ GoesOn → (n * 2 + 1 < length R₁) × (n < 65536) × (t < 65536)
+          struct-row el y = row-fits (initialized-fine (struct-inits el ec) m₁ y) (g .within) struct-within
+
+          pub struct-ok : {r : Judged} {R′ : List ℕ} → r₁ .judgement ≡ GoesOn → r ≡ record { judgement = Typed t; next = r₁ .next; scope = s } → R′ ≡ withRow R₁ n t 65535
+              → Told F S X R W base n s R′ W₁ K₁ r
+          struct-ok {r} {R′} y er eR =
+              struct-told
+              (λ is v.
+              list-ok _ _ y v λ ts L q p.
+              accepts _ _ (rule-typed (g .within) struct-within (after-since stack-same (p .after)) er (p .next) refl eR))

@@ -1,0 +1,13 @@
+pub mod LawsMeets
+pub mod LawsLabels
+pub mod LawsShape
+pub mod LawsAfter
+pub mod LawsChild
+pub mod LawsSorts
+pub mod LawsPairs
+pub mod LawsList
+pub mod LawsInits
+pub mod LawsLists
+pub mod LawsFilled
+pub mod LawsLeaves
+pub mod LawsDispatch
