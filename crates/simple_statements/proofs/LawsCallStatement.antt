@@ -1,0 +1,158 @@
+-- Call statement: the answers of its returns, and what its calls ask. Assumes nothing.
+use mathlib.Core.Path.{_≡_, ap, sym, subst, _∙_}
+use mathlib.Core.List.{List, _++_}
+use Prim.Native.Nat.{ℕ, _+_, _*_, _≤_, _<_}
+use native.Mathlib.Omega.{arith}
+use lib.ListN.{length}
+use borrow.Author.Tests.{eq-eqb, ne-eqb}
+use Rattle.oat.specs.Tables.{typeAt, nodeAt}
+use Rattle.oat.specs.Syntax.{Expr, size, Exprs, sizes, count, callStmt, sizeStmt}
+use Rattle.oat.specs.Nodes.{StandAll}
+use Rattle.typing_rules.specs.Labels.{Label}
+use Rattle.typing_rules.specs.Judge.{ok, andThen, referred, argumentsBelow, ends, execute}
+use Rattle.file_sections.specs.declared.Sections.{Sections}
+use Rattle.file_sections.specs.Layout.{Has, tablesOf}
+use Rattle.file_sections.proofs.LawsRecords.{nodes-long}
+use Rattle.bindings.specs.Bindings.{scopeOf}
+use Rattle.answers.specs.declared.answer.Judgement.the-variants.{Typed, GoesOn, Refused}
+use Rattle.answers.specs.declared.answer.Judged.{Judged}
+use Rattle.answers.specs.declared.leaves.Expected.the-variants.{Run}
+use Rattle.answers.specs.Answers.{withRow}
+use Rattle.expressions.specs.Contract.{contextOf, Typing, Listing, Meets, accepts, Ready, Told, expectedBelow, ReadyList, ToldList}
+use Rattle.expressions.proofs.LawsMeets.{Untyped, Unlisted, stops, passes, child-no, child-ok, list-no, list-ok}
+use Rattle.expressions.proofs.LawsAfter.{ready, typing-of, after-append}
+use Rattle.expressions.proofs.LawsChild.{child-within, has-type, returned-within, parameters-within}
+use Rattle.expressions.proofs.LawsList.{exprIn, judgedIn, listedIn, listed-fine}
+use Rattle.expressions.proofs.LawsLists.{then-tested, retell-list}
+use Rattle.expressions.proofs.LawsLabels.{expr-long, expr-closed}
+use Rattle.expressions.proofs.LawsShape.{stands-end}
+use Rattle.simple_statements.specs.Contract.{marked, Marking, ReadyStmt, AnswersStmt, ToldAny}
+use Rattle.simple_statements.proofs.LawsLabels.{on-call-stmt}
+use Rattle.simple_statements.proofs.LawsMarks.{mark-fits, rule-left}
+
+module _ {F : List ℕ} {S : Sections} {X R W K : List ℕ} {base n s : ℕ} (g : ReadyStmt F S X R W K base n s) (kind : nodeAt (tablesOf F S) n .kind ≡ 34) where
+  pub call-first : Ready F S X R W K base (n + 1) s
+  call-first =
+      on-call-stmt (λ z. s + sizeStmt z ≤ S .«built_ins» + S .nodes → Ready F S X R W K base (n + 1) s) (λ a es h l. ready (n + 1) a (g .fine) (h .1) (omega arith)) kind
+      (g .tree) (g .stands) (g .room)
+
+  module _ {R₁ W₁ K₁ : List ℕ} {r₁ : Judged} (m₁ : Told F S X R W base (n + 1) s R₁ W₁ K₁ r₁) where
+    pub call-no : Untyped r₁ → ToldAny F S X R W base n s R₁ W₁ K₁ r₁
+    unfolding execute
+    call-no u =
+        record {
+          tells = λ rt. record { tells = on-call-stmt (AnswersStmt F S X R W base rt n s R₁ W₁ K₁ r₁) (λ a es h. child-no _ _ u (m₁ .tells a (h .1))) kind };
+        }
+
+    module _ {f k₁ : ℕ} (y₁ : r₁ .judgement ≡ Typed f) (e₁ : k₁ ≡ typeAt (tablesOf F S) f .kind) where
+      pub call-sort : {r : Judged} → (k₁ ≡ 6 → ⊥) → r .judgement ≡ Refused 10 n → ToldAny F S X R W base n s R₁ W₁ K₁ r
+      unfolding execute
+      call-sort {r} z e =
+          record {
+            tells = λ rt. record {
+              tells = on-call-stmt (AnswersStmt F S X R W base rt n s R₁ W₁ K₁ r)
+                  (λ a es h. child-ok _ _ f y₁ (m₁ .tells a (h .1)) λ L q p. stops _ 10 n _ (ne-eqb _ _ (λ i. z (e₁ ∙ i))) e) kind;
+            };
+          }
+
+      module _ (six : k₁ ≡ 6) {u : ℕ} (eu : u ≡ typeAt (tablesOf F S) f .a) where
+        pub call-within : u < S .types
+        call-within = subst (λ i. i < S .types) (sym eu) (returned-within (g .fine .readable) (child-within call-first m₁ y₁) (sym e₁ ∙ six))
+
+        pub call-type : Has F S u (S .types)
+        call-type = has-type (g .fine .readable) call-within
+
+        module _ {k₂ : ℕ} (e₂ : k₂ ≡ typeAt (tablesOf F S) u .kind) where
+          referred-kind : k₂ ≡ typeAt (tablesOf F S) (referred (tablesOf F S) f) .kind
+          referred-kind = e₂ ∙ ap (λ i. typeAt (tablesOf F S) i .kind) eu
+
+          pub call-value : {r : Judged} → (k₂ ≡ 3 → ⊥) → r .judgement ≡ Refused 13 n → ToldAny F S X R W base n s R₁ W₁ K₁ r
+          unfolding execute
+          call-value {r} z e =
+              record {
+                tells = λ rt. record {
+                  tells = on-call-stmt (AnswersStmt F S X R W base rt n s R₁ W₁ K₁ r)
+                      (λ a es h.
+                      child-ok _ _ f y₁ (m₁ .tells a (h .1)) λ L q p.
+                      passes _ 10 n _ (eq-eqb _ _ (sym e₁ ∙ six))
+                      (stops _ 13 n _ (ne-eqb _ _ (λ i. z (referred-kind ∙ i))) e)) kind;
+                };
+              }
+
+          module _ (three : k₂ ≡ 3) {c d : ℕ} (ec : c ≡ typeAt (tablesOf F S) f .c) (ed : d ≡ nodeAt (tablesOf F S) n .children) where
+            pub call-count : {r : Judged} → (d ≡ 1 + c → ⊥) → r .judgement ≡ Refused 12 n → ToldAny F S X R W base n s R₁ W₁ K₁ r
+            unfolding execute
+            call-count {r} z e =
+                record {
+                  tells = λ rt. record {
+                    tells = on-call-stmt (AnswersStmt F S X R W base rt n s R₁ W₁ K₁ r)
+                        (λ a es h.
+                        child-ok _ _ f y₁ (m₁ .tells a (h .1)) λ L q p.
+                        passes _ 10 n _ (eq-eqb _ _ (sym e₁ ∙ six))
+                        (passes _ 13 n _ (eq-eqb _ _ (sym referred-kind ∙ three))
+                        (stops _ 12 n _ (ne-eqb _ _ (λ i. z (ed ∙ h .0 .children-is ∙ ap (λ j. 1 + j) (i ∙ sym ec)))) e))) kind;
+                  };
+                }
+
+            module _ (many : d ≡ 1 + c) {b : ℕ} (eb : b ≡ typeAt (tablesOf F S) f .b) where
+              counts : (es : Exprs) → nodeAt (tablesOf F S) n .children ≡ 1 + count es → count es ≡ c
+              counts es h = omega (arith, ed, many)
+
+              pub call-list : ReadyList F S X R₁ W₁ K₁ base (r₁ .next) s c (Run b)
+              call-list =
+                  on-call-stmt (λ z. s + sizeStmt z ≤ S .«built_ins» + S .nodes → ReadyList F S X R₁ W₁ K₁ base (r₁ .next) s c (Run b))
+                  (λ a es h l.
+                  let (L, q, p) = typing-of _ (m₁ .tells a (h .1)) y₁ in
+                  record {
+                    fine = p .after .fine;
+                    within = omega (arith, p .next, stands-end (tablesOf F S) (n + 1) a (h .1), nodes-long F S);
+                    expecting = parameters-within (g .fine .readable) (child-within call-first m₁ y₁) (sym e₁ ∙ six) eb ec;
+                    trees = es;
+                    stand = subst (λ i. StandAll (tablesOf F S) i es) (sym (p .next)) (h .2);
+                    counted = counts es (h .0 .children-is);
+                    room = omega arith;
+                  }) kind
+                  (g .tree) (g .stands) (g .room)
+
+              module _ {R₂ W₂ K₂ : List ℕ} {r₂ : Judged} (m₂ : ToldList F S X R₁ W₁ base (r₁ .next) s c (Run b) n R₂ W₂ K₂ r₂) where
+                call-told : {r : Judged} {R′ W′ K′ : List ℕ}
+                    → ((a : Expr) (es : Exprs) (L : List (Label ℕ)) → exprIn F S W base s a (n + 1) ≡ ok f L
+                    → Typing F S X base (n + 1) (size a) s R W R₁ W₁ K₁ r₁ f L
+                    → Meets (Listing F S X base (n + 1 + size a) (sizes es) s R₁ W₁ R₂ W₂ K₂ r₂) r₂
+                    (listedIn F S W base s es (n + 1 + size a) (Run (typeAt (tablesOf F S) f .b)) n)
+                    → Meets (Marking F S X base n (sizeStmt (callStmt a es)) s R W R′ W′ K′ r) r
+                    (andThen (listedIn F S W base s es (n + 1 + size a) (Run (typeAt (tablesOf F S) f .b)) n)
+                    λ ts M. ends 0 (scopeOf (tablesOf F S) W base s) (scopeOf (tablesOf F S) W base s) (L ++ M)))
+                    → ToldAny F S X R W base n s R′ W′ K′ r
+                unfolding execute expectedBelow
+                call-told {r} {R′} {W′} {K′} go =
+                    record {
+                      tells = λ rt. record {
+                        tells = on-call-stmt (AnswersStmt F S X R W base rt n s R′ W′ K′ r)
+                            (λ a es h.
+                            child-ok _ _ f y₁ (m₁ .tells a (h .1)) λ L q p.
+                            passes _ 10 n _ (eq-eqb _ _ (sym e₁ ∙ six))
+                            (passes _ 13 n _ (eq-eqb _ _ (sym referred-kind ∙ three))
+                            (passes _ 12 n _ (eq-eqb _ _ (counts es (h .0 .children-is) ∙ ec))
+                            (then-tested (judgedIn F S W base s es (n + 1 + size a))
+                            (λ ts. argumentsBelow (tablesOf F S) (contextOf (tablesOf F S) W base) ts (typeAt (tablesOf F S) f .b)) 11 n
+                            (λ ts M. ends 0 (scopeOf (tablesOf F S) W base s) (scopeOf (tablesOf F S) W base s) (L ++ M))
+                            (go a es L q p
+                            (retell-list (p .after .same) (g .fine .above) (p .next)
+                            (subst (λ i. ToldList F S X R₁ W₁ base (r₁ .next) s c (Run i) n R₂ W₂ K₂ r₂) eb m₂) es (h .2) (counts es (h .0 .children-is)))))))) kind;
+                      };
+                    }
+
+                pub call-no-2 : Unlisted r₂ → ToldAny F S X R W base n s R₂ W₂ K₂ r₂
+                call-no-2 z = call-told (λ a es L q p v. list-no _ _ z v)
+
+                pub call-row : r₂ .judgement ≡ GoesOn → (n * 2 + 1 < length R₂) × (n < 65536) × (0 ≤ 1)
+                call-row y = mark-fits (listed-fine call-list m₂ y) (g .within) (omega arith)
+
+                pub call-ok : {r : Judged} {R′ : List ℕ} → r₂ .judgement ≡ GoesOn → r ≡ record { judgement = marked 0; next = r₂ .next; scope = s } → R′ ≡ withRow R₂ n 0 65535
+                    → ToldAny F S X R W base n s R′ W₂ K₂ r
+                call-ok {r} {R′} y er eR =
+                    call-told
+                    (λ a es L q p v.
+                    list-ok _ _ y v λ ts M q₂ p₂.
+                    accepts _ _ (rule-left (g .within) (after-append (expr-long _ _ a (n + 1) _ f L q) (expr-closed _ _ a (n + 1) _ f L q) (p .after) (p₂ .after)) er (p₂ .next ∙ omega arith) (omega arith) eR))

@@ -1,0 +1,117 @@
+-- The condition of a for, or 40: the answers of its returns. Assumes nothing.
+use mathlib.Core.Path.{_≡_, ap, sym, subst, _∙_}
+use mathlib.Core.List.{List, [], _∷_}
+use Prim.Native.Nat.{ℕ, _+_, _*_, _≤_, _<_}
+use native.Mathlib.Omega.{arith}
+use lib.ListN.{length}
+use borrow.Author.Tests.{eq-eqb, ne-eqb}
+use Rattle.oat.specs.Tables.{Tables, typeAt, nodeAt}
+use Rattle.oat.specs.Syntax.{Expr, Condition, noCondition, condition, sizeCondition}
+use Rattle.oat.specs.Nodes.{Stands, ConditionStands}
+use Rattle.typing_rules.specs.Labels.{unlabelled}
+use Rattle.typing_rules.specs.Judge.{judgeCondition}
+use Rattle.file_sections.specs.declared.Sections.{Sections}
+use Rattle.file_sections.specs.Layout.{Has, tablesOf}
+use Rattle.bindings.specs.Bindings.{scopeOf}
+use Rattle.answers.specs.declared.answer.Judgement.the-variants.{Typed, GoesOn, Refused}
+use Rattle.answers.specs.declared.answer.Judged.{Judged}
+use Rattle.answers.specs.Answers.{withRow}
+use Rattle.expressions.specs.Contract.{contextOf, Fine, RowsAt, After, Meets, accepts, Ready, Told}
+use Rattle.expressions.proofs.LawsMeets.{Untyped, stops, passes, child-no, child-ok}
+use Rattle.expressions.proofs.LawsAfter.{same-none, row-length, row-other, row-result, row-binder, fine-rows, ready}
+use Rattle.expressions.proofs.LawsChild.{has-node, child-type}
+use Rattle.expressions.proofs.LawsShape.{expr-kind}
+use Rattle.simple_statements.specs.Contract.{marked, Testing, ReadyCondition, ToldCondition}
+use Rattle.simple_statements.proofs.LawsMarks.{mark-fits}
+
+-- the row of a 40
+pub after-nothing : {F : List ℕ} {S : Sections} {X R W K : List ℕ} {base n s : ℕ} → n < S .nodes → Fine F S X R W K base s
+    → After F S X base (unlabelled ∷ []) n 1 s s R W (withRow R n 0 65535) W K
+unfolding RowsAt
+after-nothing {R = R} {W = W} {n = n} h f =
+    let long : n * 2 + 1 < length R = omega (arith, f .rows-long, h) in
+    record {
+      rows = (row-result R n 0 65535 long, row-binder R n 0 65535 long, tt);
+      kept = record {
+        before = λ i g. row-other R n 0 65535 i (λ e. omega arith) (λ e. omega arith);
+        after = λ i g. row-other R n 0 65535 i (λ e. omega arith) (λ e. omega arith);
+      };
+      same = same-none _ W;
+      fine = fine-rows f (row-length R n 0 65535);
+    }
+
+-- a condition by the kind of its node
+module _ {T : Tables} {n : ℕ} where
+  on-none : (P : Condition → Type 0) → (ConditionStands T n noCondition → P noCondition) → nodeAt T n .kind ≡ 40 → (q : Condition) → ConditionStands T n q → P q
+  on-none P f k noCondition h = f h
+  on-none P f k (condition a) h = absurd (omega (arith, expr-kind T n a h .1))
+
+  on-some : (P : Condition → Type 0) → ((a : Expr) → Stands T n a → P (condition a)) → (nodeAt T n .kind ≡ 40 → ⊥) → (q : Condition) → ConditionStands T n q → P q
+  on-some P f k noCondition h = absurd (k (h .kind-is))
+  on-some P f k (condition a) h = f a h
+
+-- the answer to a condition
+abbrev AnswersCondition : List ℕ → Sections → (X R W : List ℕ) → (base n s parent : ℕ) → (R′ W′ K′ : List ℕ) → Judged → Condition → Type 0
+AnswersCondition F S X R W base n s parent R′ W′ K′ r q =
+    Meets (Testing F S X base n (sizeCondition q) s R W R′ W′ K′ r) r
+    (judgeCondition (tablesOf F S) (contextOf (tablesOf F S) W base) q n parent (scopeOf (tablesOf F S) W base s))
+
+module _ {F : List ℕ} {S : Sections} {X R W K : List ℕ} {base n s : ℕ} (g : ReadyCondition F S X R W K base n s) where
+  pub condition-node : Has F S n (S .nodes)
+  condition-node = has-node (g .fine .readable) (g .within)
+
+  -- for `ends`
+  pub condition-fits : (n * 2 + 1 < length R) × (n < 65536) × (0 ≤ 1)
+  condition-fits = mark-fits (g .fine) (g .within) (omega arith)
+
+  module _ {k : ℕ} (ek : k ≡ nodeAt (tablesOf F S) n .kind) where
+    pub condition-none : {parent : ℕ} {R′ : List ℕ} {r : Judged} → k ≡ 40 → r ≡ record { judgement = marked 0; next = n + 1; scope = s } → R′ ≡ withRow R n 0 65535
+        → ToldCondition F S X R W base n s parent R′ W K r
+    unfolding judgeCondition
+    condition-none {parent} {R′} {r} z er eR =
+        record {
+          tells = on-none (AnswersCondition F S X R W base n s parent R′ W K r)
+              (λ h. accepts _ _ (record {
+                goes-on = ap (λ x. x .judgement) er;
+                next = ap (λ x. x .next) er;
+                after = subst (λ x. After F S X base (unlabelled ∷ []) n 1 s s R W x W K) (sym eR) (after-nothing (g .within) (g .fine));
+              })) (sym ek ∙ z);
+        }
+
+    module _ (z : k ≡ 40 → ⊥) where
+      pub condition-ready : Ready F S X R W K base n s
+      condition-ready =
+          on-some (λ q. s + sizeCondition q ≤ S .«built_ins» + S .nodes → Ready F S X R W K base n s) (λ a h l. ready n a (g .fine) h l) (λ e. z (ek ∙ e))
+          (g .tree) (g .stands) (g .room)
+
+      module _ {R₁ W₁ K₁ : List ℕ} {r₁ : Judged} (m₁ : Told F S X R W base n s R₁ W₁ K₁ r₁) where
+        pub condition-no : {parent : ℕ} → Untyped r₁ → ToldCondition F S X R W base n s parent R₁ W₁ K₁ r₁
+        unfolding judgeCondition
+        condition-no {parent} u =
+            record {
+              tells = on-some (AnswersCondition F S X R W base n s parent R₁ W₁ K₁ r₁) (λ a h. child-no _ _ u (m₁ .tells a h)) (λ e. z (ek ∙ e));
+            }
+
+        module _ {t : ℕ} (y₁ : r₁ .judgement ≡ Typed t) where
+          pub condition-type : Has F S t (S .types)
+          condition-type = child-type condition-ready m₁ y₁
+
+          module _ {k₁ : ℕ} (e₁ : k₁ ≡ typeAt (tablesOf F S) t .kind) where
+            pub condition-sort : {parent : ℕ} {r : Judged} → (k₁ ≡ 1 → ⊥) → r .judgement ≡ Refused 10 parent → ToldCondition F S X R W base n s parent R₁ W₁ K₁ r
+            unfolding judgeCondition
+            condition-sort {parent} {r} f e =
+                record {
+                  tells = on-some (AnswersCondition F S X R W base n s parent R₁ W₁ K₁ r)
+                      (λ a h. child-ok _ _ t y₁ (m₁ .tells a h) λ L q p. stops _ 10 parent _ (ne-eqb _ _ (λ i. f (e₁ ∙ i))) e) (λ e. z (ek ∙ e));
+                }
+
+            pub condition-ok : {parent : ℕ} {r : Judged} → k₁ ≡ 1 → r ≡ record { judgement = GoesOn; next = r₁ .next; scope = s } → ToldCondition F S X R W base n s parent R₁ W₁ K₁ r
+            unfolding judgeCondition
+            condition-ok {parent} {r} f er =
+                record {
+                  tells = on-some (AnswersCondition F S X R W base n s parent R₁ W₁ K₁ r)
+                      (λ a h.
+                      child-ok _ _ t y₁ (m₁ .tells a h) λ L q p.
+                      passes _ 10 parent _ (eq-eqb _ _ (sym e₁ ∙ f))
+                      (accepts _ _ (record { goes-on = ap (λ x. x .judgement) er; next = ap (λ x. x .next) er ∙ p .next; after = p .after }))) (λ e. z (ek ∙ e));
+                }

@@ -1,0 +1,83 @@
+-- A statement's own row over its children's, and the answer to an accepted statement. Assumes nothing.
+use mathlib.Core.Path.{_≡_, refl, ap, sym, subst, _∙_}
+use mathlib.Core.List.{List, _∷_}
+use Prim.Native.Nat.{ℕ, _+_, _*_, _≤_, _<_}
+use native.Mathlib.Omega.{arith}
+use lib.ListN.{length}
+use borrow.Author.Tests.{eq-eqb, ne-eqb}
+use Rattle.typing_rules.specs.Contexts.{Scope}
+use Rattle.typing_rules.specs.Labels.{Label}
+use Rattle.typing_rules.specs.Judge.{markedAs, done}
+use Rattle.file_sections.specs.declared.Sections.{Sections}
+use Rattle.file_sections.specs.Layout.{tablesOf}
+use Rattle.bindings.specs.Bindings.{scopeOf}
+use Rattle.bindings.proofs.LawsBindings.{scope-same}
+use Rattle.answers.specs.declared.answer.Judgement.{Judgement}
+use Rattle.answers.specs.declared.answer.Judgement.the-variants.{GoesOn, Returns}
+use Rattle.answers.specs.declared.answer.Judged.{Judged}
+use Rattle.answers.specs.Answers.{withRow}
+use Rattle.expressions.specs.Contract.{Fine, RowsAt, After}
+use Rattle.expressions.proofs.LawsAfter.{rows-kept, row-length, row-other, row-result, row-binder, fine-rows}
+use Rattle.simple_statements.specs.Contract.{marked, Marking}
+
+-- the judgement of a mark, and an answer with it
+pub returns-marked : (p : ℕ) → p ≡ 1 → Returns ≡ marked p
+returns-marked p h = rw (eq-eqb p 1 h) refl
+
+pub goes-on-marked : (p : ℕ) → (p ≡ 1 → ⊥) → GoesOn ≡ marked p
+goes-on-marked p h = rw (ne-eqb p 1 h) refl
+
+pub answer-is : {i j : Judgement} (m h : ℕ) → i ≡ j → _≡_ {A = Judged} (record { judgement = i; next = m; scope = h }) (record { judgement = j; next = m; scope = h })
+answer-is m h e = ap (λ x. record { judgement = x; next = m; scope = h }) e
+
+module _ {F : List ℕ} {S : Sections} {X : List ℕ} {base : ℕ} where
+  -- the row of a node of the file, with a mark, can be written
+  pub mark-fits : {R W K : List ℕ} {n s p : ℕ} → Fine F S X R W K base s → n < S .nodes → p ≤ 1 → (n * 2 + 1 < length R) × (n < 65536) × (p ≤ 1)
+  mark-fits f h k =
+      let laid = f .readable .laid in
+      (omega (arith, f .rows-long, h), omega (arith, h, laid .nodes-most), k)
+
+  -- a statement's own row over its children; s′ is the height after it
+  pub after-mark : {L : List (Label ℕ)} {n k s s′ p : ℕ} {Γ Δ : Scope ℕ} {R W R₁ W₁ K₁ : List ℕ} → n < S .nodes
+      → After F S X base L (n + 1) k s s′ R W R₁ W₁ K₁ → After F S X base (markedAs p Γ Δ ∷ L) n (1 + k) s s′ R W (withRow R₁ n p 65535) W₁ K₁
+  unfolding RowsAt
+  after-mark {L} {n} {k} {s} {s′} {p} {Γ} {Δ} {R} {W} {R₁} h a =
+      let long : n * 2 + 1 < length R₁ = omega (arith, a .fine .rows-long, h) in
+      record {
+        rows = (
+          row-result R₁ n p 65535 long,
+          row-binder R₁ n p 65535 long,
+          rows-kept R₁ (withRow R₁ n p 65535) (n + 1) L (λ i g l. row-other R₁ n p 65535 i (λ e. omega arith) (λ e. omega arith)) (a .rows),
+        );
+        kept = record {
+          before = λ i g. row-other R₁ n p 65535 i (λ e. omega arith) (λ e. omega arith) ∙ a .kept .before i (omega arith);
+          after = λ i g. row-other R₁ n p 65535 i (λ e. omega arith) (λ e. omega arith) ∙ a .kept .after i (omega arith);
+        };
+        same = a .same;
+        fine = fine-rows (a .fine) (row-length R₁ n p 65535);
+      }
+
+  -- an accepted statement with the mark p, the scope Δ of the height h after it
+  pub rule-marked : {L : List (Label ℕ)} {n k j m s h p : ℕ} {R W R₁ W₁ K₁ R′ : List ℕ} {r : Judged} {Γ Δ : Scope ℕ} → n < S .nodes
+      → After F S X base L (n + 1) k s h R W R₁ W₁ K₁ → r ≡ record { judgement = marked p; next = m; scope = h } → m ≡ n + 1 + k → j ≡ 1 + k
+      → R′ ≡ withRow R₁ n p 65535 → s ≤ h → h ≤ s + j → scopeOf (tablesOf F S) W₁ base h ≡ Δ
+      → Marking F S X base n j s R W R′ W₁ K₁ r (done p Δ) (markedAs p Γ Δ ∷ L)
+  rule-marked {L} {n} {k} {j} {m} {s} {h} {p} {R} {W} {R₁} {W₁} {K₁} {R′} {r} {Γ} {Δ} w a er em ej eR low high scoped =
+      let eh : r .scope ≡ h = ap (λ x. x .scope) er in
+      record {
+        mark = ap (λ x. x .judgement) er;
+        next = ap (λ x. x .next) er ∙ omega arith;
+        scope = ap (λ i. scopeOf (tablesOf F S) W₁ base i) eh ∙ scoped;
+        low = subst (λ i. s ≤ i) (sym eh) low;
+        high = subst (λ i. i ≤ s + j) (sym eh) high;
+        after = subst (λ i. After F S X base (markedAs p Γ Δ ∷ L) n j s i R W R′ W₁ K₁) (sym eh)
+            (subst (λ i. After F S X base (markedAs p Γ Δ ∷ L) n i s h R W R′ W₁ K₁) (sym ej)
+            (subst (λ x. After F S X base (markedAs p Γ Δ ∷ L) n (1 + k) s h R W x W₁ K₁) (sym eR) (after-mark w a)));
+      }
+
+  -- where it binds nothing in the scope after it
+  pub rule-left : {L : List (Label ℕ)} {n k j m s p : ℕ} {R W R₁ W₁ K₁ R′ : List ℕ} {r : Judged} {Γ : Scope ℕ} → n < S .nodes
+      → After F S X base L (n + 1) k s s R W R₁ W₁ K₁ → r ≡ record { judgement = marked p; next = m; scope = s } → m ≡ n + 1 + k → j ≡ 1 + k
+      → R′ ≡ withRow R₁ n p 65535
+      → Marking F S X base n j s R W R′ W₁ K₁ r (done p (scopeOf (tablesOf F S) W base s)) (markedAs p Γ (scopeOf (tablesOf F S) W base s) ∷ L)
+  rule-left {s = s} w a er em ej eR = rule-marked w a er em ej eR (omega arith) (omega arith) (scope-same (tablesOf F S) s (a .same) base)

@@ -1,0 +1,276 @@
+-- The loop over the vars of a for: what holds after i of them, and the answers of its returns. Assumes nothing.
+use mathlib.Core.Path.{_≡_, refl, ap, sym, subst, _∙_}
+use mathlib.Core.Bool.{Bool, true, false}
+use mathlib.Core.List.{List, [], _++_, append-nil, append-assoc}
+use Prim.Native.Nat.{ℕ, _+_, _≤_, _<_}
+use native.Mathlib.Omega.{arith}
+use lib.ListN.{length, length-append}
+use Rattle.oat.specs.Tables.{Tables, nodeAt}
+use Rattle.oat.specs.Syntax.{Expr, size, Vars, noVar, nextVar, sizeVars, countVars, var, sizeStmt}
+use Rattle.oat.specs.Nodes.{VarsStand, StmtStands}
+use Rattle.typing_rules.specs.Contexts.{Scope, binds, isFresh, Context}
+use Rattle.typing_rules.specs.Labels.{Label}
+use Rattle.typing_rules.specs.Judge.{Out, ok, no, andThen, needs, ends, judge, Done, executeVars, execute}
+use Rattle.typing_rules.proofs.LawsInvert.{ok-is, then-ok, needs-ok}
+use Rattle.file_sections.specs.declared.Sections.{Sections}
+use Rattle.file_sections.specs.Layout.{tablesOf}
+use Rattle.file_sections.proofs.LawsRecords.{nodes-long}
+use Rattle.type_index.specs.Index.{declared}
+use Rattle.bindings.specs.Bindings.{entryOf, scopeOf, Same}
+use Rattle.bindings.proofs.LawsBindings.{names-same, same-trans}
+use Rattle.answers.specs.declared.answer.Judgement.the-variants.{GoesOn}
+use Rattle.answers.specs.declared.answer.Judged.{Judged}
+use Rattle.expressions.specs.Contract.{contextOf, RowsAt, After, Meets, accepts, refuses}
+use Rattle.expressions.proofs.LawsMeets.{Unlisted}
+use Rattle.expressions.proofs.LawsAfter.{rows-kept, after-none}
+use Rattle.expressions.proofs.LawsLabels.{Closed, closed-none, closed-append, rows-append}
+use Rattle.simple_statements.specs.Contract.{marked, Marking, Declaring, ReadyStmt, ToldAny, ReadyVars, ToldVars}
+use Rattle.simple_statements.proofs.LawsLabels.{stmt-long, stmt-closed}
+
+-- one part after another; the first leaves a scope of the height h, the second one of the height i
+pub after-both : {F : List ℕ} {S : Sections} {X : List ℕ} {base : ℕ} {L M : List (Label ℕ)} {n k j s h i : ℕ} {R W R₁ W₁ K₁ R₂ W₂ K₂ : List ℕ} → length L ≡ k → Closed L → s ≤ h
+    → After F S X base L n k s h R W R₁ W₁ K₁ → After F S X base M (n + k) j h i R₁ W₁ R₂ W₂ K₂ → After F S X base (L ++ M) n (k + j) s i R W R₂ W₂ K₂
+after-both {F} {S} {X} {base} {L} {M} {n} {k} {j} {s} {h} {i} {R} {W} {R₁} {W₁} {K₁} {R₂} e c l a b =
+    record {
+      rows = rows-append R₂ n L M c (rows-kept R₁ R₂ n L (λ m p q. b .kept .before m (omega (arith, e, q))) (a .rows))
+          (subst (λ m. RowsAt R₂ (n + m) M) (sym e) (b .rows));
+      kept = record {
+        before = λ m p. b .kept .before m (omega arith) ∙ a .kept .before m p;
+        after = λ m p. b .kept .after m (omega arith) ∙ a .kept .after m (omega arith);
+      };
+      same = same-trans (entryOf (tablesOf F S) s) (entryOf (tablesOf F S) h) (omega arith) (a .same) (b .same);
+      fine = b .fine;
+    }
+
+-- a test within what comes after it
+then-needs : {A B D : Type 0} (o : Out A) (b : Bool) (p q : ℕ) (f : A → List (Label ℕ) → Out B) (k : B → List (Label ℕ) → Out D)
+    → andThen o (λ t L. needs b p q (andThen (f t L) k)) ≡ andThen (andThen o λ t L. needs b p q (f t L)) k
+then-needs (no i j) b p q f k = refl
+then-needs (ok t L) true p q f k = refl
+then-needs (ok t L) false p q f k = refl
+
+-- vars after a first one
+vars-next : (T : Tables) (C : Context ℕ) (rt x : ℕ) (a : Expr) (vs : Vars) (n : ℕ) (Γ : Scope ℕ)
+    → executeVars T C (nextVar x a vs) n Γ
+    ≡ andThen (execute T C rt (var x a) n Γ) λ d L. andThen (executeVars T C vs (n + 1 + size a) (d .scope)) λ Δ M. ok Δ (L ++ M)
+unfolding executeVars execute
+vars-next T C rt x a vs n Γ =
+    then-needs (judge T C a (n + 1) Γ) (isFresh x Γ) 7 n (λ t L. ends 0 Γ (binds Γ x t n) L)
+    (λ d L. andThen (executeVars T C vs (n + 1 + size a) (d .scope)) λ Δ M. ok Δ (L ++ M))
+
+-- a var goes on
+var-mark : (T : Tables) (C : Context ℕ) (rt x : ℕ) (a : Expr) (n : ℕ) (Γ : Scope ℕ) (d : Done) (L : List (Label ℕ)) → execute T C rt (var x a) n Γ ≡ ok d L → d .mark ≡ 0
+unfolding execute
+var-mark T C rt x a n Γ d L j =
+    then-ok (judge T C a (n + 1) Γ) _ j λ t M i k.
+    needs-ok (isFresh x Γ) _ _ _ k λ q k₁.
+    ok-is (λ d L. d .mark ≡ 0) k₁ refl
+
+module _ {F : List ℕ} {S : Sections} {X : List ℕ} {base n k s : ℕ} {R W R₁ W₁ K₁ : List ℕ} {r : Judged} where
+  -- a statement that goes on, or none that is accepted
+  marking-no : {A D : Type 0} {Q : D → List (Label ℕ) → Type 0} (o : Out Done) (f : Done → List (Label ℕ) → Out A) (e : A → List (Label ℕ) → Out D) → ((d : Done) (L : List (Label ℕ)) → o ≡ ok d L → d .mark ≡ 0)
+      → Unlisted r → Meets (Marking F S X base n k s R W R₁ W₁ K₁ r) r o → Meets Q r (andThen (andThen o f) e)
+  marking-no o f e h u (accepts d L p) = absurd (u .never (p .mark ∙ ap marked (h d L refl)))
+  marking-no o f e h u (refuses p q j) = refuses p q j
+
+  pub marking-of : (o : Out Done) → Meets (Marking F S X base n k s R W R₁ W₁ K₁ r) r o → r .judgement ≡ GoesOn
+      → (d : Done) × (L : List (Label ℕ)) × (o ≡ ok d L) × Marking F S X base n k s R W R₁ W₁ K₁ r d L
+  marking-of o (accepts d L p) y = (d, L, refl, p)
+  marking-of o (refuses p q e) y = absurd (let z : _≡_ {A = ℕ} 0 1 = cc in omega arith)
+
+  pub declaring-of : (o : Out (Scope ℕ)) → Meets (Declaring F S X base n k s R W R₁ W₁ K₁ r) r o → r .judgement ≡ GoesOn
+      → (Δ : Scope ℕ) × (L : List (Label ℕ)) × (o ≡ ok Δ L) × Declaring F S X base n k s R W R₁ W₁ K₁ r Δ L
+  declaring-of o (accepts Δ L p) y = (Δ, L, refl, p)
+  declaring-of o (refuses p q e) y = absurd (let z : _≡_ {A = ℕ} 0 1 = cc in omega arith)
+
+-- the outcome of the vars after those so far
+abbrev afterThose : List (Label ℕ) → Out (Scope ℕ) → Out (Scope ℕ)
+afterThose L o = andThen o λ Δ M. ok Δ (L ++ M)
+
+those-none : (o : Out (Scope ℕ)) → o ≡ afterThose [] o
+those-none (ok Δ M) = refl
+those-none (no p q) = refl
+
+those-more : (L M : List (Label ℕ)) (o : Out (Scope ℕ)) → afterThose L (afterThose M o) ≡ afterThose (L ++ M) o
+those-more L M (ok Δ N) = cc (append-assoc L M N)
+those-more L M (no p q) = refl
+
+-- the vars in the context of W, from the scope of the height s of W₁ on
+abbrev varsIn : List ℕ → Sections → (W W₁ : List ℕ) → (base s : ℕ) → Vars → ℕ → Out (Scope ℕ)
+varsIn F S W W₁ base s vs n = executeVars (tablesOf F S) (contextOf (tablesOf F S) W base) vs n (scopeOf (tablesOf F S) W₁ base s)
+
+-- vars of which there is one; of which there is none
+on-some : (P : Vars → Type 0) → ((x : ℕ) (a : Expr) (vs : Vars) → P (nextVar x a vs)) → (vs : Vars) → 1 ≤ countVars vs → P vs
+on-some P f noVar h = absurd (omega arith)
+on-some P f (nextVar x a vs) h = f x a vs
+
+on-none : (P : Vars → Type 0) → P noVar → (vs : Vars) → countVars vs ≤ 0 → P vs
+on-none P f noVar h = f
+on-none P f (nextVar x a vs) h = absurd (omega arith)
+
+-- the first i vars of vs, which stand at n, are accepted, up to a scope of the height h; the others stand at m
+pub record PrefixVars (F : List ℕ) (S : Sections) (X : List ℕ) (base n s : ℕ) (R W : List ℕ) (left m h i : ℕ) (R₁ W₁ K₁ : List ℕ) (vs : Vars) : Type 0 where
+  pub labels : List (Label ℕ)
+  pub rest : Vars
+  pub stand : VarsStand (tablesOf F S) m rest
+  pub counted : countVars rest + i ≡ left
+  pub reached : m ≡ n + length labels
+  pub closed : Closed labels
+  pub sized : sizeVars vs ≡ length labels + sizeVars rest
+  pub low : s ≤ h
+  pub high : h ≤ s + length labels
+  pub after : After F S X base labels n (length labels) s h R W R₁ W₁ K₁
+  pub executed : executeVars (tablesOf F S) (contextOf (tablesOf F S) W base) vs n (scopeOf (tablesOf F S) W base s)
+      ≡ andThen (executeVars (tablesOf F S) (contextOf (tablesOf F S) W base) rest m (scopeOf (tablesOf F S) W₁ base h)) λ Δ M. ok Δ (labels ++ M)
+
+pub record WalkedVars (F : List ℕ) (S : Sections) (X : List ℕ) (base n s : ℕ) (R W : List ℕ) (left m h i : ℕ) (R₁ W₁ K₁ : List ℕ) : Type 0 where
+  pub part : (vs : Vars) → VarsStand (tablesOf F S) n vs → countVars vs ≡ left → PrefixVars F S X base n s R W left m h i R₁ W₁ K₁ vs
+
+-- a later var sees the names before
+retell-var : {F : List ℕ} {S : Sections} {X W R₁ W₁ R₂ W₂ K₂ : List ℕ} {base m s h : ℕ} {r : Judged} → Same (entryOf (tablesOf F S) s) W W₁ → base ≤ s
+    → ToldAny F S X R₁ W₁ base m h R₂ W₂ K₂ r → (x : ℕ) (a : Expr) → StmtStands (tablesOf F S) m (var x a)
+    → Meets (Marking F S X base m (sizeStmt (var x a)) h R₁ W₁ R₂ W₂ K₂ r) r
+    (execute (tablesOf F S) (contextOf (tablesOf F S) W base) 0 (var x a) m (scopeOf (tablesOf F S) W₁ base h))
+retell-var {F} {S} {X} {W} {R₁} {W₁} {R₂} {W₂} {K₂} {base} {m} {s} {h} {r} e l told x a st =
+    subst (λ N. Meets (Marking F S X base m (sizeStmt (var x a)) h R₁ W₁ R₂ W₂ K₂ r) r
+    (execute (tablesOf F S) (record { structs = declared (tablesOf F S); names = N }) 0 (var x a) m (scopeOf (tablesOf F S) W₁ base h)))
+    (names-same (tablesOf F S) s e base l) (told .tells 0 .tells (var x a) st)
+
+module _ {F : List ℕ} {S : Sections} {X R W : List ℕ} {base n s left m h i : ℕ} {R₁ W₁ K₁ : List ℕ} {vs : Vars} (p : PrefixVars F S X base n s R W left m h i R₁ W₁ K₁ vs) where
+  -- one more var
+  part-more : {R₂ W₂ K₂ : List ℕ} {r : Judged} (x : ℕ) (a : Expr) (rs : Vars) → VarsStand (tablesOf F S) m (nextVar x a rs) → countVars (nextVar x a rs) + i ≡ left
+      → sizeVars vs ≡ length (p .labels) + sizeVars (nextVar x a rs)
+      → varsIn F S W W base s vs n ≡ afterThose (p .labels) (varsIn F S W W₁ base h (nextVar x a rs) m)
+      → (d : Done) (M : List (Label ℕ)) → execute (tablesOf F S) (contextOf (tablesOf F S) W base) 0 (var x a) m (scopeOf (tablesOf F S) W₁ base h) ≡ ok d M
+      → Marking F S X base m (sizeStmt (var x a)) h R₁ W₁ R₂ W₂ K₂ r d M
+      → PrefixVars F S X base n s R W left (r .next) (r .scope) (i + 1) R₂ W₂ K₂ vs
+  part-more {R₂} {W₂} {K₂} {r} x a rs st c z j d M q v =
+      let T : Tables = tablesOf F S in
+      let C : Context ℕ = contextOf (tablesOf F S) W base in
+      let Γ : Scope ℕ = scopeOf (tablesOf F S) W₁ base h in
+      let long : length M ≡ sizeStmt (var x a) = stmt-long T C 0 (var x a) m Γ d M q in
+      let both : length (p .labels ++ M) ≡ length (p .labels) + sizeStmt (var x a) = length-append (p .labels) M ∙ ap (λ k. length (p .labels) + k) long in
+      let there : m + 1 + size a ≡ r .next = omega (arith, v .next) in
+      record {
+        labels = p .labels ++ M;
+        rest = rs;
+        stand = subst (λ k. VarsStand T k rs) there (st .2);
+        counted = omega arith;
+        reached = omega (arith, v .next, p .reached, both);
+        closed = closed-append (p .closed) (stmt-closed T C 0 (var x a) m Γ d M q);
+        sized = omega (arith, z, both);
+        low = omega (arith, p .low, v .low);
+        high = omega (arith, p .high, v .high, both);
+        after = subst (λ k. After F S X base (p .labels ++ M) n k s (r .scope) R W R₂ W₂ K₂) (sym both)
+            (after-both refl (p .closed) (p .low) (p .after) (subst (λ k. After F S X base M k (sizeStmt (var x a)) h (r .scope) R₁ W₁ R₂ W₂ K₂) (p .reached) (v .after)));
+        executed = j
+            ∙ ap (afterThose (p .labels)) (vars-next T C 0 x a rs m Γ
+            ∙ ap (λ o. andThen o λ e L. andThen (executeVars T C rs (m + 1 + size a) (e .scope)) λ Δ N. ok Δ (L ++ N)) q)
+            ∙ those-more (p .labels) M (executeVars T C rs (m + 1 + size a) (d .scope))
+            ∙ ap (λ k. afterThose (p .labels ++ M) (executeVars T C rs k (d .scope))) there
+            ∙ ap (λ E. afterThose (p .labels ++ M) (executeVars T C rs (r .next) E)) (sym (v .scope));
+      }
+
+  module _ (done : left ≤ i) where
+    -- no var is left
+    all-executed : varsIn F S W W base s vs n ≡ ok (scopeOf (tablesOf F S) W₁ base h) (p .labels)
+    unfolding executeVars
+    all-executed = p .executed ∙
+        on-none (λ rs. afterThose (p .labels) (varsIn F S W W₁ base h rs m) ≡ ok (scopeOf (tablesOf F S) W₁ base h) (p .labels))
+        (cc (append-nil (p .labels))) (p .rest) (omega (arith, p .counted))
+
+    all-sized : sizeVars vs ≡ length (p .labels)
+    all-sized = p .sized ∙ on-none (λ rs. length (p .labels) + sizeVars rs ≡ length (p .labels)) (omega arith) (p .rest) (omega (arith, p .counted))
+
+    part-declared : {r : Judged} → r ≡ record { judgement = GoesOn; next = m; scope = h }
+        → Declaring F S X base n (sizeVars vs) s R W R₁ W₁ K₁ r (scopeOf (tablesOf F S) W₁ base h) (p .labels)
+    part-declared {r} e =
+        let eh : r .scope ≡ h = ap (λ q. q .scope) e in
+        record {
+          goes-on = ap (λ q. q .judgement) e;
+          next = ap (λ q. q .next) e ∙ omega (arith, p .reached, all-sized);
+          scope = ap (λ k. scopeOf (tablesOf F S) W₁ base k) eh;
+          low = omega (arith, eh, p .low);
+          high = omega (arith, eh, p .high, all-sized);
+          after = subst (λ k. After F S X base (p .labels) n (sizeVars vs) s k R W R₁ W₁ K₁) (sym eh)
+              (subst (λ k. After F S X base (p .labels) n k s h R W R₁ W₁ K₁) (sym all-sized) (p .after));
+        }
+
+module _ {F : List ℕ} {S : Sections} {X R W K : List ℕ} {base n s left : ℕ} (g : ReadyVars F S X R W K base n s left) where
+  pub vars-start : WalkedVars F S X base n s R W left n s 0 R W K
+  vars-start =
+      record {
+        part = λ vs h c. record {
+          labels = [];
+          rest = vs;
+          stand = h;
+          counted = omega arith;
+          reached = omega arith;
+          closed = closed-none;
+          sized = omega arith;
+          low = omega arith;
+          high = omega arith;
+          after = after-none n (g .fine);
+          executed = those-none _;
+        };
+      }
+
+  module _ {m h i : ℕ} {R₁ W₁ K₁ : List ℕ} (w : WalkedVars F S X base n s R W left m h i R₁ W₁ K₁) where
+    so-far : PrefixVars F S X base n s R W left m h i R₁ W₁ K₁ (g .vars)
+    so-far = w .part (g .vars) (g .stand) (g .counted)
+
+    module _ (more : i < left) where
+      pub vars-kind : nodeAt (tablesOf F S) m .kind ≡ 31
+      vars-kind =
+          on-some (λ vs. VarsStand (tablesOf F S) m vs → nodeAt (tablesOf F S) m .kind ≡ 31) (λ x a vs st. st .0 .kind-is)
+          (so-far .rest) (omega (arith, so-far .counted, more)) (so-far .stand)
+
+      pub vars-ready : ReadyStmt F S X R₁ W₁ K₁ base m h
+      vars-ready =
+          on-some (λ vs. VarsStand (tablesOf F S) m vs → h + sizeVars vs ≤ S .«built_ins» + S .nodes → ReadyStmt F S X R₁ W₁ K₁ base m h)
+          (λ x a vs st l. record {
+            fine = so-far .after .fine;
+            within = subst (λ k. m < k) (nodes-long F S) (st .0 .within);
+            tree = var x a;
+            stands = (st .0, st .1);
+            room = omega arith;
+          })
+          (so-far .rest) (omega (arith, so-far .counted, more)) (so-far .stand) (omega (arith, so-far .high, so-far .sized, g .room))
+
+      module _ {R₂ W₂ K₂ : List ℕ} {r₁ : Judged} (m₁ : ToldAny F S X R₁ W₁ base m h R₂ W₂ K₂ r₁) where
+        pub vars-no : Unlisted r₁ → ToldVars F S X R W base n s left R₂ W₂ K₂ r₁
+        vars-no u = record { tells = λ vs st c. go vs (w .part vs st c) }
+          where
+            go : (vs : Vars) → PrefixVars F S X base n s R W left m h i R₁ W₁ K₁ vs
+                → Meets (Declaring F S X base n (sizeVars vs) s R W R₂ W₂ K₂ r₁) r₁ (varsIn F S W W base s vs n)
+            go vs p =
+                subst (Meets (Declaring F S X base n (sizeVars vs) s R W R₂ W₂ K₂ r₁) r₁) (sym (p .executed))
+                (on-some (λ rs. VarsStand (tablesOf F S) m rs → Meets (Declaring F S X base n (sizeVars vs) s R W R₂ W₂ K₂ r₁) r₁ (afterThose (p .labels) (varsIn F S W W₁ base h rs m)))
+                (λ x a rs st.
+                subst (λ o. Meets (Declaring F S X base n (sizeVars vs) s R W R₂ W₂ K₂ r₁) r₁ (afterThose (p .labels) o))
+                (sym (vars-next (tablesOf F S) (contextOf (tablesOf F S) W base) 0 x a rs m (scopeOf (tablesOf F S) W₁ base h)))
+                (marking-no _ _ _ (var-mark (tablesOf F S) (contextOf (tablesOf F S) W base) 0 x a m (scopeOf (tablesOf F S) W₁ base h)) u
+                (retell-var (p .after .same) (g .fine .above) m₁ x a (st .0, st .1))))
+                (p .rest) (omega (arith, p .counted, more)) (p .stand))
+
+        pub vars-again : r₁ .judgement ≡ GoesOn → WalkedVars F S X base n s R W left (r₁ .next) (r₁ .scope) (i + 1) R₂ W₂ K₂
+        vars-again y = record { part = λ vs st c. go vs (w .part vs st c) }
+          where
+            go : (vs : Vars) → PrefixVars F S X base n s R W left m h i R₁ W₁ K₁ vs → PrefixVars F S X base n s R W left (r₁ .next) (r₁ .scope) (i + 1) R₂ W₂ K₂ vs
+            go vs p =
+                on-some
+                (λ rs. VarsStand (tablesOf F S) m rs → countVars rs + i ≡ left → sizeVars vs ≡ length (p .labels) + sizeVars rs
+                → varsIn F S W W base s vs n ≡ afterThose (p .labels) (varsIn F S W W₁ base h rs m)
+                → PrefixVars F S X base n s R W left (r₁ .next) (r₁ .scope) (i + 1) R₂ W₂ K₂ vs)
+                (λ x a rs st c z j.
+                let (d, M, q, v) = marking-of _ (retell-var (p .after .same) (g .fine .above) m₁ x a (st .0, st .1)) y in
+                part-more p x a rs st c z j d M q v)
+                (p .rest) (omega (arith, p .counted, more)) (p .stand) (p .counted) (p .sized) (p .executed)
+
+    pub vars-done : left ≤ i → {r : Judged} → r ≡ record { judgement = GoesOn; next = m; scope = h } → ToldVars F S X R W base n s left R₁ W₁ K₁ r
+    vars-done done {r} e =
+        record {
+          tells = λ vs st c.
+              let p = w .part vs st c in
+              subst (Meets (Declaring F S X base n (sizeVars vs) s R W R₁ W₁ K₁ r) r) (sym (all-executed p done)) (accepts _ _ (part-declared p done e));
+        }

@@ -1,0 +1,108 @@
+-- What the contracts of statements cite. F is the file, S its sections, X the index of types, R the rows, W the stack, K the chains; a
+-- prime marks a buffer after the call; rt is the number of the return type. Assumes nothing.
+use mathlib.Core.Path.{_≡_}
+use mathlib.Core.Bool.{Bool, true, false}
+use mathlib.Core.List.{List, [], _∷_}
+use Prim.Native.Nat.{ℕ, _+_, _*_, _≤_, _<_}
+use lib.ListN.{length, getD}
+use lib.Dec.{eqb}
+use Rattle.oat.specs.Basics.{pick}
+use Rattle.oat.specs.Tables.{Tables, nodeAt}
+use Rattle.oat.specs.Syntax.{Expr, Target, targetExpr, Vars, Condition, Stmt, sizeVars, sizeCondition, sizeStmt, countVars}
+use Rattle.oat.specs.Nodes.{Stands, VarsStand, ConditionStands, StmtStands}
+use Rattle.typing_rules.specs.Contexts.{Scope}
+use Rattle.typing_rules.specs.Labels.{Label}
+use Rattle.typing_rules.specs.Judge.{Done, assignsTo, executeVars, judgeCondition, execute}
+use Rattle.file_sections.specs.declared.Sections.{Sections}
+use Rattle.file_sections.specs.Layout.{tablesOf}
+use Rattle.bindings.specs.Bindings.{scopeOf, Scoped}
+use Rattle.answers.specs.declared.answer.Judgement.{Judgement}
+use Rattle.answers.specs.declared.answer.Judgement.the-variants.{Typed, GoesOn, Returns, Refused}
+use Rattle.answers.specs.declared.answer.Judged.{Judged}
+use Rattle.expressions.specs.Contract.{contextOf, Fine, After, Meets}
+
+-- the mark of a judgement, and the judgement of a mark
+abbrev pub markOf : Judgement → ℕ
+markOf (Typed t) = 0
+markOf GoesOn = 0
+markOf Returns = 1
+markOf (Refused p q) = 0
+
+abbrev pub marked : ℕ → Judgement
+marked p = pick (eqb p 1) Returns GoesOn
+
+-- the answer to an accepted statement, with its mark and the scope after it
+pub record Marking (F : List ℕ) (S : Sections) (X : List ℕ) (base n k s : ℕ) (R W R′ W′ K′ : List ℕ) (r : Judged) (d : Done) (L : List (Label ℕ)) : Type 0 where
+  pub mark : r .judgement ≡ marked (d .mark)
+  pub next : r .next ≡ n + k
+  pub scope : scopeOf (tablesOf F S) W′ base (r .scope) ≡ d .scope
+  pub low : s ≤ r .scope
+  pub high : r .scope ≤ s + k
+  pub after : After F S X base L n k s (r .scope) R W R′ W′ K′
+
+-- to accepted vars, with the scope after them, and to an accepted condition
+pub record Declaring (F : List ℕ) (S : Sections) (X : List ℕ) (base n k s : ℕ) (R W R′ W′ K′ : List ℕ) (r : Judged) (Δ : Scope ℕ) (L : List (Label ℕ)) : Type 0 where
+  pub goes-on : r .judgement ≡ GoesOn
+  pub next : r .next ≡ n + k
+  pub scope : scopeOf (tablesOf F S) W′ base (r .scope) ≡ Δ
+  pub low : s ≤ r .scope
+  pub high : r .scope ≤ s + k
+  pub after : After F S X base L n k s (r .scope) R W R′ W′ K′
+
+pub record Testing (F : List ℕ) (S : Sections) (X : List ℕ) (base n k s : ℕ) (R W R′ W′ K′ : List ℕ) (r : Judged) (Δ : Scope ℕ) (L : List (Label ℕ)) : Type 0 where
+  pub goes-on : r .judgement ≡ GoesOn
+  pub next : r .next ≡ n + k
+  pub after : After F S X base L n k s s R W R′ W′ K′
+
+-- a statement stands at n, and there is room for what it binds
+pub record ReadyStmt (F : List ℕ) (S : Sections) (X R W K : List ℕ) (base n s : ℕ) : Type 0 where
+  pub fine : Fine F S X R W K base s
+  pub within : n < S .nodes
+  pub tree : Stmt
+  pub stands : StmtStands (tablesOf F S) n tree
+  pub room : s + sizeStmt tree ≤ S .«built_ins» + S .nodes
+
+-- r answers the statement z at n as the definition has it
+abbrev pub AnswersStmt : List ℕ → Sections → (X R W : List ℕ) → (base rt n s : ℕ) → (R′ W′ K′ : List ℕ) → Judged → Stmt → Type 0
+AnswersStmt F S X R W base rt n s R′ W′ K′ r z =
+    Meets (Marking F S X base n (sizeStmt z) s R W R′ W′ K′ r) r
+    (execute (tablesOf F S) (contextOf (tablesOf F S) W base) rt z n (scopeOf (tablesOf F S) W base s))
+
+-- every statement that stands at n is answered so; of some kinds, whatever the return type is
+pub record ToldStmt (F : List ℕ) (S : Sections) (X R W : List ℕ) (base rt n s : ℕ) (R′ W′ K′ : List ℕ) (r : Judged) : Type 0 where
+  pub tells : (z : Stmt) → StmtStands (tablesOf F S) n z → AnswersStmt F S X R W base rt n s R′ W′ K′ r z
+
+pub record ToldAny (F : List ℕ) (S : Sections) (X R W : List ℕ) (base n s : ℕ) (R′ W′ K′ : List ℕ) (r : Judged) : Type 0 where
+  pub tells : (rt : ℕ) → ToldStmt F S X R W base rt n s R′ W′ K′ r
+
+-- the first `left` vars of a for stand at n
+pub record ReadyVars (F : List ℕ) (S : Sections) (X R W K : List ℕ) (base n s left : ℕ) : Type 0 where
+  pub fine : Fine F S X R W K base s
+  pub within : n ≤ S .nodes
+  pub vars : Vars
+  pub stand : VarsStand (tablesOf F S) n vars
+  pub counted : countVars vars ≡ left
+  pub room : s + sizeVars vars ≤ S .«built_ins» + S .nodes
+
+pub record ToldVars (F : List ℕ) (S : Sections) (X R W : List ℕ) (base n s left : ℕ) (R′ W′ K′ : List ℕ) (r : Judged) : Type 0 where
+  pub tells : (vs : Vars) → VarsStand (tablesOf F S) n vs → countVars vs ≡ left
+      → Meets (Declaring F S X base n (sizeVars vs) s R W R′ W′ K′ r) r
+      (executeVars (tablesOf F S) (contextOf (tablesOf F S) W base) vs n (scopeOf (tablesOf F S) W base s))
+
+-- the condition of the for at `parent`, or 40, stands at n
+pub record ReadyCondition (F : List ℕ) (S : Sections) (X R W K : List ℕ) (base n s : ℕ) : Type 0 where
+  pub fine : Fine F S X R W K base s
+  pub within : n < S .nodes
+  pub tree : Condition
+  pub stands : ConditionStands (tablesOf F S) n tree
+  pub room : s + sizeCondition tree ≤ S .«built_ins» + S .nodes
+
+pub record ToldCondition (F : List ℕ) (S : Sections) (X R W : List ℕ) (base n s parent : ℕ) (R′ W′ K′ : List ℕ) (r : Judged) : Type 0 where
+  pub tells : (q : Condition) → ConditionStands (tablesOf F S) n q
+      → Meets (Testing F S X base n (sizeCondition q) s R W R′ W′ K′ r) r
+      (judgeCondition (tablesOf F S) (contextOf (tablesOf F S) W base) q n parent (scopeOf (tablesOf F S) W base s))
+
+-- the left side of the assignment at n is tested as the definition has it
+pub record Assigns (F : List ℕ) (S : Sections) (W K : List ℕ) (base n : ℕ) (r : Bool) : Type 0 where
+  pub tells : (s : ℕ) → Scoped F S W K s → base ≤ s → (g : Target) → Stands (tablesOf F S) n (targetExpr g)
+      → r ≡ assignsTo (contextOf (tablesOf F S) W base) (scopeOf (tablesOf F S) W base s) g

@@ -1,0 +1,45 @@
+// Return marks.
+use answers::answer::Judged;
+use answers::answer::Judgement;
+use answers::answer::row;
+ghost use mathlib.Core.Path.{_≡_};
+ghost use Prim.Native.Nat.{_+_, _*_, _≤_, _<_};
+ghost use lib.ListN.{length};
+ghost use Rattle.answers.specs.Answers.{withRow};
+ghost use Rattle.simple_statements.specs.Contract.{markOf, marked};
+
+// 1 where it returns, else 0.
+pub fn mark_of(judgement: Judgement) -> usize
+    ensures { λ r. ⌜ (r ≡ markOf judgement) × (r ≤ 1) ⌝ }
+{
+    match judgement {
+        Judgement::Typed(_) => 0,
+        Judgement::GoesOn => 0,
+        Judgement::Returns => 1,
+        Judgement::Refused(_, _) => 0,
+    }
+}
+
+// The judgement of a mark.
+pub fn judgement_of(mark: usize) -> Judgement
+    ensures { λ r. ⌜ r ≡ marked mark ⌝ }
+{
+    if mark == 1 {
+        return Judgement::Returns;
+    }
+    Judgement::GoesOn
+}
+
+// A statement or block with the mark: its row and its answer.
+pub fn ends(rows: &mut [u16], node: usize, mark: usize, next: usize, scope: usize) -> Judged
+    requires { ⌜ (node * 2 + 1 < length (now rows)) × (node < 65536) × (mark ≤ 1) ⌝ }
+    ensures { λ r. ⌜ r ≡ record { judgement = marked mark; next = next; scope = scope } ⌝ }
+    ensures { λ _. ⌜ now (rows .exit) ≡ withRow (now (rows .entry)) node mark 65535 ⌝ }
+{
+    row(rows, node, mark, 65535);
+    Judged {
+        judgement: judgement_of(mark),
+        next: next,
+        scope: scope,
+    }
+}
