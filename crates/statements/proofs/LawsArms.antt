@@ -1,0 +1,129 @@
+-- The two blocks of an if: what each asks, and the answers of their returns. Assumes nothing.
+use mathlib.Core.Path.{_≡_, refl, ap, sym, subst, _∙_}
+use mathlib.Core.Bool.{Bool, true, false}
+use mathlib.Core.List.{List, _++_}
+use Prim.Native.Nat.{ℕ, _+_, _≤_, _<_}
+use native.Mathlib.Omega.{arith}
+use lib.Dec.{eqb}
+use borrow.Author.Tests.{eq-eqb, ne-eqb}
+use Rattle.oat.specs.Basics.{pick}
+use Rattle.oat.specs.Tables.{Tables}
+use Rattle.oat.specs.Syntax.{Block, sizeBlock}
+use Rattle.oat.specs.Nodes.{BlockStands}
+use Rattle.typing_rules.specs.Contexts.{Scope, Context}
+use Rattle.typing_rules.specs.Labels.{Label}
+use Rattle.typing_rules.specs.Rules.{both}
+use Rattle.typing_rules.specs.Judge.{Out, ok, no, andThen, executeBlock}
+use Rattle.typing_rules.proofs.LawsInvert.{ok-is, then-ok}
+use Rattle.file_sections.specs.declared.Sections.{Sections}
+use Rattle.file_sections.specs.Layout.{tablesOf}
+use Rattle.bindings.specs.Bindings.{scopeOf, Scoped}
+use Rattle.answers.specs.declared.answer.Judgement.the-variants.{GoesOn, Refused}
+use Rattle.answers.specs.declared.answer.Judged.{Judged}
+use Rattle.expressions.specs.Contract.{contextOf, Fine, After, accepts}
+use Rattle.expressions.proofs.LawsAfter.{after-append}
+use Rattle.simple_statements.specs.Contract.{markOf, marked}
+use Rattle.simple_statements.proofs.LawsLabels.{block-long, block-closed, block-mark, size-block-one}
+use Rattle.statements.specs.Contract.{Blocking, ReadyBlock, ToldBlock, eitherOf, ReadyArms, ToldArms}
+use Rattle.statements.proofs.LawsBlocks.{Unrefused, mark-is, part-no, part-ok, part-of, after-left, after-lower, retell-block}
+use Rattle.statements.proofs.LawsBlock.{ready-block}
+
+-- the mark of two blocks
+pub both-goes : (p q : ℕ) → p ≡ 0 → both p q ≡ 0
+both-goes p q e = rw (eq-eqb p 0 e) refl
+
+pub both-second : (p q : ℕ) → (p ≡ 0 → ⊥) → both p q ≡ q
+both-second p q f = rw (ne-eqb p 0 f) refl
+
+pub both-small : (p q : ℕ) → q ≤ 1 → both p q ≤ 1
+both-small p q h = go (eqb p 0)
+  where
+    go : (b : Bool) → pick b 0 q ≤ 1
+    go true = omega arith
+    go false = h
+
+pub either-mark : (T : Tables) (C : Context ℕ) (rt : ℕ) (b c : Block) (n : ℕ) (Γ Δ : Scope ℕ) (p : ℕ) (L : List (Label ℕ))
+    → eitherOf T C rt b c n Γ Δ ≡ ok p L → p ≤ 1
+either-mark T C rt b c n Γ Δ p L j =
+    then-ok (executeBlock T C rt b n Γ) _ j λ v M i k.
+    then-ok (executeBlock T C rt c (n + sizeBlock b) Δ) _ k λ w N i₂ k₂.
+    ok-is (λ a M. a ≤ 1) k₂ (both-small v w (block-mark T C rt c (n + sizeBlock b) Δ w N i₂))
+
+-- two blocks, as a part of what comes after
+pub either-then : {B : Type 0} (o : Out ℕ) (o₂ : Out ℕ) (k : ℕ → List (Label ℕ) → Out B)
+    → andThen (andThen o λ p L. andThen o₂ λ q M. ok (both p q) (L ++ M)) k ≡ (andThen o λ p L. andThen o₂ λ q M. k (both p q) (L ++ M))
+either-then (ok p L) (ok q M) k = refl
+either-then (ok p L) (no a b) k = refl
+either-then (no a b) o₂ k = refl
+
+module _ {F : List ℕ} {S : Sections} {X R W K : List ℕ} {base rt n s inner : ℕ} (g : ReadyArms F S X R W K base rt n s inner) where
+  pub arms-first : ReadyBlock F S X R W K base rt n inner
+  arms-first = ready-block n (g .first) (g .fine) (g .returned) (g .stands) (omega (arith, g .room))
+
+  module _ {R₁ W₁ K₁ : List ℕ} {r₁ : Judged} (m₁ : ToldBlock F S X R W base rt n inner R₁ W₁ K₁ r₁) where
+    pub arms-no : {p q : ℕ} → r₁ .judgement ≡ Refused p q → ToldArms F S X R W base rt n s inner R₁ W₁ K₁ r₁
+    arms-no e = record { tells = λ b c h h₂. part-no _ _ (λ p L v. (p, v .mark)) e (m₁ .tells b h) }
+
+    module _ (u : Unrefused r₁) where
+      first-said : (p : ℕ) × (L : List (Label ℕ))
+          × (executeBlock (tablesOf F S) (contextOf (tablesOf F S) W base) rt (g .first) n (scopeOf (tablesOf F S) W base inner) ≡ ok p L)
+          × Blocking F S X base n (sizeBlock (g .first)) inner R W R₁ W₁ K₁ r₁ p L
+      first-said = part-of _ (m₁ .tells (g .first) (g .stands)) u
+
+      -- for `leave`
+      pub arms-left : Scoped F S W₁ K₁ inner × (s ≤ inner)
+      arms-left = (first-said .3 .after .fine .scoped, g .higher)
+
+      pub arms-next : n < r₁ .next
+      arms-next = omega (arith, first-said .3 .next, size-block-one (g .first))
+
+      module _ {K₂ : List ℕ} (c₁ : Scoped F S W₁ K₂ s) where
+        -- the first block, seen from the height s
+        lowered : {L : List (Label ℕ)} {k : ℕ} → After F S X base L n k inner inner R W R₁ W₁ K₁ → After F S X base L n k s s R W R₁ W₁ K₂
+        lowered a = after-left (g .lower) (after-lower (g .higher) a) c₁
+
+        pub arms-second : ReadyBlock F S X R₁ W₁ K₂ base rt (r₁ .next) s
+        arms-second =
+            ready-block (r₁ .next) (g .second) (lowered (first-said .3 .after) .fine) (g .returned)
+            (subst (λ i. BlockStands (tablesOf F S) i (g .second)) (sym (first-said .3 .next)) (g .stands-too)) (omega (arith, g .room, g .higher))
+
+        pub arms-asked : (n < r₁ .next) × ReadyBlock F S X R₁ W₁ K₂ base rt (r₁ .next) s
+        arms-asked = (arms-next, arms-second)
+
+        module _ {R₂ W₂ K₃ : List ℕ} {r₂ : Judged} (m₂ : ToldBlock F S X R₁ W₁ base rt (r₁ .next) s R₂ W₂ K₃ r₂) where
+          pub arms-no-2 : {p q : ℕ} → r₂ .judgement ≡ Refused p q → ToldArms F S X R W base rt n s inner R₂ W₂ K₃ r₂
+          arms-no-2 e =
+              record {
+                tells = λ b c h h₂.
+                    part-ok _ _ u (m₁ .tells b h) λ p L q v.
+                    part-no _ _ (λ i N z. (i, z .mark)) e (retell-block (lowered (v .after) .same) (g .lower) (v .next) m₂ c h₂);
+              }
+
+          module _ (u₂ : Unrefused r₂) {m : ℕ} (em : m ≡ markOf (r₁ .judgement)) where
+            -- any answer with the mark of both
+            answered : {r : Judged} → r .next ≡ r₂ .next → ((p q : ℕ) → m ≡ p → r₂ .judgement ≡ marked q → r .judgement ≡ marked (both p q))
+                → ToldArms F S X R W base rt n s inner R₂ W₂ K₃ r
+            answered {r} en f =
+                record {
+                  tells = λ b c h h₂.
+                      part-ok _ _ u (m₁ .tells b h) λ p L q v.
+                      part-ok _ _ u₂ (retell-block (lowered (v .after) .same) (g .lower) (v .next) m₂ c h₂) λ i M q₂ v₂.
+                      accepts (both p i) (L ++ M) (record {
+                        mark = f p i (em ∙ mark-is (r₁ .judgement) p (block-mark _ _ rt b n _ p L q) (v .mark)) (v₂ .mark);
+                        next = en ∙ v₂ .next ∙ omega arith;
+                        after = after-append (block-long _ _ rt b n _ p L q) (block-closed _ _ rt b n _ p L q) (lowered (v .after)) (v₂ .after);
+                      });
+                }
+
+            pub arms-goes : {r : Judged} → m ≡ 0 → r ≡ record { judgement = GoesOn; next = r₂ .next; scope = s } → ToldArms F S X R W base rt n s inner R₂ W₂ K₃ r
+            arms-goes z er =
+                answered (ap (λ x. x .next) er)
+                (λ p q e y. ap (λ x. x .judgement) er ∙ ap marked (sym (both-goes p q (sym e ∙ z))))
+
+            pub arms-ok : (m ≡ 0 → ⊥) → ToldArms F S X R W base rt n s inner R₂ W₂ K₃ r₂
+            arms-ok f = answered refl (λ p q e y. y ∙ ap marked (sym (both-second p q (λ z. f (e ∙ z)))))
+
+  -- what accepted blocks say
+  module _ {R₁ W₁ K₁ : List ℕ} {r : Judged} (told : ToldArms F S X R W base rt n s inner R₁ W₁ K₁ r) (u : Unrefused r) where
+    pub arms-fine : Fine F S X R₁ W₁ K₁ base s
+    arms-fine = part-of _ (told .tells (g .first) (g .second) (g .stands) (g .stands-too)) u .3 .after .fine

@@ -1,0 +1,116 @@
+-- A block: what its statements ask, and the answers of its returns. Assumes nothing.
+use mathlib.Core.Path.{_≡_, ap, sym, subst, _∙_}
+use mathlib.Core.List.{List, _∷_}
+use Prim.Native.Nat.{ℕ, _+_, _*_, _≤_, _<_}
+use native.Mathlib.Omega.{arith}
+use lib.ListN.{length}
+use Rattle.oat.specs.Tables.{nodeAt}
+use Rattle.oat.specs.Syntax.{Block, block, Stmts, sizeBlock}
+use Rattle.oat.specs.Nodes.{BlockStands}
+use Rattle.typing_rules.specs.Labels.{Label}
+use Rattle.typing_rules.specs.Judge.{ok, markedAs, executeBlock}
+use Rattle.file_sections.specs.declared.Sections.{Sections}
+use Rattle.file_sections.specs.Layout.{Has, tablesOf}
+use Rattle.file_sections.proofs.LawsRecords.{nodes-long}
+use Rattle.bindings.specs.Bindings.{scopeOf, Scoped}
+use Rattle.answers.specs.declared.answer.Judgement.the-variants.{Refused}
+use Rattle.answers.specs.declared.answer.Judged.{Judged}
+use Rattle.answers.specs.Answers.{withRow}
+use Rattle.expressions.specs.Contract.{contextOf, Fine, After, Meets, accepts}
+use Rattle.expressions.proofs.LawsChild.{has-node}
+use Rattle.simple_statements.specs.Contract.{markOf, marked}
+use Rattle.simple_statements.proofs.LawsLabels.{all-mark, block-within}
+use Rattle.simple_statements.proofs.LawsMarks.{after-mark, mark-fits}
+use Rattle.statements.specs.Contract.{Blocking, ReadyBlock, ToldBlock, ReadyStmts, ToldStmts}
+use Rattle.statements.proofs.LawsBlocks.{Unrefused, mark-is, part-no, part-ok, part-of, after-left}
+use Rattle.statements.proofs.LawsRun.{run-fine, run-higher, run-scoped}
+
+-- r answers the block b at n as the definition has it
+abbrev pub AnswersBlock : List ℕ → Sections → (X R W : List ℕ) → (base rt n s : ℕ) → (R′ W′ K′ : List ℕ) → Judged → Block → Type 0
+AnswersBlock F S X R W base rt n s R′ W′ K′ r b =
+    Meets (Blocking F S X base n (sizeBlock b) s R W R′ W′ K′ r) r
+    (executeBlock (tablesOf F S) (contextOf (tablesOf F S) W base) rt b n (scopeOf (tablesOf F S) W base s))
+
+-- a block's statements
+on-block : (P : Block → Type 0) → ((ss : Stmts) → P (block ss)) → (b : Block) → P b
+on-block P f (block ss) = f ss
+
+module _ {F : List ℕ} {S : Sections} {X : List ℕ} {base : ℕ} where
+  -- a block that stands in the file, with room for what it binds
+  pub ready-block : {R W K : List ℕ} {rt s : ℕ} (n : ℕ) (b : Block) → Fine F S X R W K base s → rt < S .types → BlockStands (tablesOf F S) n b
+      → s + sizeBlock b ≤ S .«built_ins» + S .nodes → ReadyBlock F S X R W K base rt n s
+  ready-block n b f t h l =
+      record { fine = f; within = subst (λ k. n < k) (nodes-long F S) (block-within (tablesOf F S) n b h); returned = t; tree = b; stands = h; room = l }
+
+  -- an accepted block: its own row over its statements'
+  block-row : {L : List (Label ℕ)} {n k m s h p q : ℕ} {R W R₁ W₁ K₁ K₂ R′ : List ℕ} {r : Judged} → n < S .nodes → base ≤ s
+      → After F S X base L (n + 1) k s h R W R₁ W₁ K₁ → Scoped F S W₁ K₂ s → q ≡ p → r ≡ record { judgement = marked q; next = m; scope = s } → m ≡ n + 1 + k
+      → R′ ≡ withRow R₁ n q 65535
+      → Blocking F S X base n (1 + k) s R W R′ W₁ K₂ r p (markedAs p (scopeOf (tablesOf F S) W base s) (scopeOf (tablesOf F S) W base s) ∷ L)
+  block-row {L} {n} {k} {m} {s} {h} {p} {q} {R} {W} {R₁} {W₁} {K₁} {K₂} {R′} {r} w l a c e er em eR =
+      record {
+        mark = ap (λ x. x .judgement) er ∙ ap marked e;
+        next = ap (λ x. x .next) er ∙ omega arith;
+        after = subst (λ x. After F S X base (markedAs p (scopeOf (tablesOf F S) W base s) (scopeOf (tablesOf F S) W base s) ∷ L) n (1 + k) s s R W x W₁ K₂)
+            (sym (eR ∙ ap (λ i. withRow R₁ n i 65535) e)) (after-mark w (after-left l a c));
+      }
+
+module _ {F : List ℕ} {S : Sections} {X R W K : List ℕ} {base rt n s : ℕ} (g : ReadyBlock F S X R W K base rt n s) where
+  pub block-node : Has F S n (S .nodes)
+  block-node = has-node (g .fine .readable) (g .within)
+
+  pub block-call : {c : ℕ} → c ≡ nodeAt (tablesOf F S) n .children → ReadyStmts F S X R W K base rt (n + 1) s c
+  block-call {c} e =
+      on-block (λ b. BlockStands (tablesOf F S) n b → s + sizeBlock b ≤ S .«built_ins» + S .nodes → ReadyStmts F S X R W K base rt (n + 1) s c)
+      (λ ss h l. record {
+        fine = g .fine;
+        within = omega (arith, g .within);
+        returned = g .returned;
+        trees = ss;
+        stand = h .1;
+        counted = sym (e ∙ h .0 .children-is);
+        room = omega arith;
+      })
+      (g .tree) (g .stands) (g .room)
+
+  module _ {c : ℕ} (e : c ≡ nodeAt (tablesOf F S) n .children) {R₁ W₁ K₁ : List ℕ} {r₁ : Judged} (m₁ : ToldStmts F S X R W base rt (n + 1) s c n R₁ W₁ K₁ r₁) where
+    pub block-refused : {p q : ℕ} → r₁ .judgement ≡ Refused p q → ToldBlock F S X R W base rt n s R₁ W₁ K₁ r₁
+    unfolding executeBlock
+    block-refused f =
+        record {
+          tells = on-block (λ b. BlockStands (tablesOf F S) n b → AnswersBlock F S X R W base rt n s R₁ W₁ K₁ r₁ b)
+              (λ ss h. part-no _ _ (λ p L v. (p, v .mark)) f (m₁ .tells ss (h .1) (sym (e ∙ h .0 .children-is))));
+        }
+
+    module _ (u : Unrefused r₁) where
+      -- for `leave` and for `ends`
+      pub block-left : Scoped F S W₁ K₁ (r₁ .scope) × (s ≤ r₁ .scope)
+      block-left = (run-scoped (block-call e) m₁ u, run-higher (block-call e) m₁ u)
+
+      pub block-ends : {m : ℕ} → m ≤ 1 → (n * 2 + 1 < length R₁) × (n < 65536) × (m ≤ 1)
+      block-ends h = mark-fits (run-fine (block-call e) m₁ u) (g .within) h
+
+      pub block-ok : {m : ℕ} {K₂ R′ : List ℕ} {r : Judged} → Scoped F S W₁ K₂ s → m ≡ markOf (r₁ .judgement)
+          → r ≡ record { judgement = marked m; next = r₁ .next; scope = s } → R′ ≡ withRow R₁ n m 65535 → ToldBlock F S X R W base rt n s R′ W₁ K₂ r
+      unfolding executeBlock
+      block-ok {m} {K₂} {R′} {r} c em er eR =
+          record {
+            tells = on-block (λ b. BlockStands (tablesOf F S) n b → AnswersBlock F S X R W base rt n s R′ W₁ K₂ r b)
+                (λ ss h.
+                part-ok _ _ u (m₁ .tells ss (h .1) (sym (e ∙ h .0 .children-is))) λ p L q v.
+                accepts _ _ (block-row (g .within) (g .fine .above) (v .after) c
+                (em ∙ mark-is (r₁ .judgement) p (all-mark _ _ rt ss (n + 1) n 0 _ p L q (omega arith)) (v .mark)) er (v .next) eR));
+          }
+
+  -- what an accepted block says
+  module _ {R₁ W₁ K₁ : List ℕ} {r : Judged} (told : ToldBlock F S X R W base rt n s R₁ W₁ K₁ r) (u : Unrefused r) where
+    blocked : (p : ℕ) × (L : List (Label ℕ))
+        × (executeBlock (tablesOf F S) (contextOf (tablesOf F S) W base) rt (g .tree) n (scopeOf (tablesOf F S) W base s) ≡ ok p L)
+        × Blocking F S X base n (sizeBlock (g .tree)) s R W R₁ W₁ K₁ r p L
+    blocked = part-of _ (told .tells (g .tree) (g .stands)) u
+
+    pub block-fine : Fine F S X R₁ W₁ K₁ base s
+    block-fine = blocked .3 .after .fine
+
+    pub block-next : r .next ≡ n + sizeBlock (g .tree)
+    block-next = blocked .3 .next

@@ -1,0 +1,215 @@
+-- For: vars, condition, step, block; what it binds is gone after it, and it may always go on. Assumes nothing.
+use mathlib.Core.Path.{_≡_, ap, sym, subst, _∙_}
+use mathlib.Core.List.{List, _++_}
+use Prim.Native.Nat.{ℕ, _+_, _-_, _*_, _≤_, _<_}
+use native.Mathlib.Omega.{arith}
+use lib.ListN.{length}
+use Rattle.oat.specs.Tables.{Tables, nodeAt}
+use Rattle.oat.specs.Syntax.{Vars, Condition, Step, Block, sizeVars, sizeCondition, sizeStmt, sizeStep, sizeBlock, countVars}
+use Rattle.oat.specs.Nodes.{Node, ConditionStands, StepStands, BlockStands}
+use Rattle.typing_rules.specs.Contexts.{Scope, Context}
+use Rattle.typing_rules.specs.Labels.{Label}
+use Rattle.typing_rules.specs.Judge.{Out, ok, no, andThen, Done, ends, judgeCondition, execute, executeStep, executeBlock}
+use Rattle.typing_rules.specs.Check.{nextResult}
+use Rattle.typing_rules.proofs.LawsInvert.{ok-is, then-ok}
+use Rattle.file_sections.specs.declared.Sections.{Sections}
+use Rattle.file_sections.specs.Layout.{tablesOf}
+use Rattle.file_sections.proofs.LawsRecords.{nodes-long}
+use Rattle.type_index.specs.Index.{declared}
+use Rattle.bindings.specs.Bindings.{entryOf, scopeOf, Scoped, Same}
+use Rattle.bindings.proofs.LawsBindings.{scope-same, names-same, same-less}
+use Rattle.answers.specs.declared.answer.Judgement.the-variants.{GoesOn, Refused}
+use Rattle.answers.specs.declared.answer.Judged.{Judged}
+use Rattle.answers.specs.Answers.{withRow}
+use Rattle.expressions.specs.Contract.{contextOf, Fine, After, Meets, accepts}
+use Rattle.expressions.proofs.LawsMeets.{Unlisted}
+use Rattle.expressions.proofs.LawsAfter.{same-more}
+use Rattle.simple_statements.specs.Contract.{marked, Declaring, Testing, AnswersStmt, ReadyStmt, ToldStmt, ReadyVars, ToldVars, ReadyCondition, ToldCondition}
+use Rattle.simple_statements.proofs.LawsLabels.{on-for, vars-long, vars-closed, condition-long, step-head, condition-within, step-within}
+use Rattle.simple_statements.proofs.LawsMarks.{mark-fits, rule-left}
+use Rattle.statements.specs.Contract.{Blocking, turnOf, ReadyTurn, ToldTurn}
+use Rattle.statements.proofs.LawsBlocks.{Unrefused, part-no, part-ok, part-of, after-left}
+use Rattle.statements.proofs.LawsThen.{goes-unrefused, part-never, after-then, after-plain-then}
+
+-- a step and a block as one part
+turn-part : {Q : Done → List (Label ℕ) → Type 0} {r : Judged} (T : Tables) (C : Context ℕ) (rt : ℕ) (z : Step) (b : Block) (n : ℕ) (Δ : Scope ℕ)
+    (k : List (Label ℕ) → Out Done)
+    → Meets Q r (andThen (turnOf T C rt z b n Δ) (λ q P. k P))
+    → Meets Q r (andThen (executeStep T C rt z n Δ) λ p N. andThen (executeBlock T C rt b (n + sizeStep z) Δ) λ q O. k (N ++ O))
+turn-part {Q} {r} T C rt z b n Δ k m = go (executeStep T C rt z n Δ) (executeBlock T C rt b (n + sizeStep z) Δ) m
+  where
+    go : (o₁ o₂ : Out ℕ) → Meets Q r (andThen (andThen o₁ λ p N. andThen o₂ λ q O. ok q (N ++ O)) (λ q P. k P))
+        → Meets Q r (andThen o₁ λ p N. andThen o₂ λ q O. k (N ++ O))
+    go (ok p N) (ok q O) m = m
+    go (ok p N) (no i j) m = m
+    go (no i j) o₂ m = m
+
+-- a for after its parts' labels, those of the turn last
+abbrev closing : Scope ℕ → (L M P : List (Label ℕ)) → Out Done
+closing Γ L M P = ends 0 Γ Γ (L ++ (M ++ P))
+
+turn-head : (T : Tables) (C : Context ℕ) (rt : ℕ) (z : Step) (b : Block) (n : ℕ) (Γ : Scope ℕ) (q : ℕ) (P : List (Label ℕ))
+    → turnOf T C rt z b n Γ ≡ ok q P → nextResult P ≡ 0
+turn-head T C rt z b n Γ q P j =
+    then-ok (executeStep T C rt z n Γ) _ j λ p N i k.
+    then-ok (executeBlock T C rt b (n + sizeStep z) Γ) _ k λ t O i₁ k₁.
+    ok-is (λ q P. nextResult P ≡ 0) k₁ (step-head T C rt z n Γ p N i O)
+
+-- a later part sees the names below s, and a scope Δ of its own height
+seen-on : (F : List ℕ) (S : Sections) (base s h : ℕ) {W W₁ : List ℕ} {Δ : Scope ℕ} → Same (entryOf (tablesOf F S) s) W W₁ → base ≤ s
+    → scopeOf (tablesOf F S) W₁ base h ≡ Δ → (P : Context ℕ → Scope ℕ → Type 0)
+    → P (contextOf (tablesOf F S) W₁ base) (scopeOf (tablesOf F S) W₁ base h) → P (contextOf (tablesOf F S) W base) Δ
+seen-on F S base s h {W} {W₁} {Δ} a l e P x =
+    subst (P (contextOf (tablesOf F S) W base)) e
+    (subst (λ N. P (record { structs = declared (tablesOf F S); names = N }) (scopeOf (tablesOf F S) W₁ base h)) (names-same (tablesOf F S) s a base l) x)
+
+module _ {F : List ℕ} {S : Sections} {X R W K : List ℕ} {base n s : ℕ} (g : ReadyStmt F S X R W K base n s) (kind : nodeAt (tablesOf F S) n .kind ≡ 37) {c : ℕ} (ec : c ≡ nodeAt (tablesOf F S) n .children) where
+  counts : (vs : Vars) → Node (tablesOf F S) n 37 0 0 (countVars vs + 3) → countVars vs ≡ c - 3
+  counts vs h = omega (arith, ec, h .children-is)
+
+  pub for-count : 3 ≤ c
+  for-count = on-for (λ z. 3 ≤ c) (λ vs q z b h. omega (arith, ec, h .0 .children-is)) kind (g .tree) (g .stands)
+
+  pub for-first : ReadyVars F S X R W K base (n + 1) s (c - 3)
+  for-first =
+      on-for (λ z. s + sizeStmt z ≤ S .«built_ins» + S .nodes → ReadyVars F S X R W K base (n + 1) s (c - 3))
+      (λ vs q z b h l. record { fine = g .fine; within = omega (arith, g .within); vars = vs; stand = h .1; counted = counts vs (h .0); room = omega arith }) kind
+      (g .tree) (g .stands) (g .room)
+
+  module _ {R₁ W₁ K₁ : List ℕ} {r₁ : Judged} (m₁ : ToldVars F S X R W base (n + 1) s (c - 3) R₁ W₁ K₁ r₁) where
+    pub for-no : {rt : ℕ} → Unlisted r₁ → ToldStmt F S X R W base rt n s R₁ W₁ K₁ r₁
+    unfolding execute
+    for-no {rt} u =
+        record {
+          tells = on-for (AnswersStmt F S X R W base rt n s R₁ W₁ K₁ r₁)
+              (λ vs q z b h. part-never _ _ (λ Δ L e p. u .never (p .goes-on)) (m₁ .tells vs (h .1) (counts vs (h .0)))) kind;
+        }
+
+    module _ (y₁ : r₁ .judgement ≡ GoesOn) {h : ℕ} (eh : h ≡ r₁ .scope) where
+      -- the vars, at the height h
+      vars-after : {m k : ℕ} {Δ : Scope ℕ} {L : List (Label ℕ)} → Declaring F S X base m k s R W R₁ W₁ K₁ r₁ Δ L → After F S X base L m k s h R W R₁ W₁ K₁
+      vars-after {m} {k} {Δ} {L} p = subst (λ i. After F S X base L m k s i R W R₁ W₁ K₁) (sym eh) (p .after)
+
+      vars-scope : {m k : ℕ} {Δ : Scope ℕ} {L : List (Label ℕ)} → Declaring F S X base m k s R W R₁ W₁ K₁ r₁ Δ L → scopeOf (tablesOf F S) W₁ base h ≡ Δ
+      vars-scope p = ap (λ i. scopeOf (tablesOf F S) W₁ base i) eh ∙ p .scope
+
+      pub for-second : ReadyCondition F S X R₁ W₁ K₁ base (r₁ .next) h
+      for-second =
+          on-for (λ z. s + sizeStmt z ≤ S .«built_ins» + S .nodes → ReadyCondition F S X R₁ W₁ K₁ base (r₁ .next) h)
+          (λ vs q z b i l.
+          let (Δ, L, e, p) = part-of _ (m₁ .tells vs (i .1) (counts vs (i .0))) (goes-unrefused y₁) in
+          let there : ConditionStands (tablesOf F S) (r₁ .next) q = subst (λ j. ConditionStands (tablesOf F S) j q) (sym (p .next)) (i .2) in
+          record {
+            fine = vars-after p .fine;
+            within = subst (λ j. r₁ .next < j) (nodes-long F S) (condition-within (tablesOf F S) (r₁ .next) q there);
+            tree = q;
+            stands = there;
+            room = omega (arith, eh, p .high);
+          }) kind (g .tree) (g .stands) (g .room)
+
+      module _ {R₂ W₂ K₂ : List ℕ} {r₂ : Judged} (m₂ : ToldCondition F S X R₁ W₁ base (r₁ .next) h n R₂ W₂ K₂ r₂) where
+        -- what the condition's answer says of the definition
+        condition-met : {m k : ℕ} {Δ : Scope ℕ} {L : List (Label ℕ)} → Declaring F S X base m k s R W R₁ W₁ K₁ r₁ Δ L
+            → (q : Condition) → ConditionStands (tablesOf F S) (m + k) q
+            → Meets (Testing F S X base (m + k) (sizeCondition q) h R₁ W₁ R₂ W₂ K₂ r₂) r₂
+            (judgeCondition (tablesOf F S) (contextOf (tablesOf F S) W base) q (m + k) n Δ)
+        condition-met {m} {k} p q i =
+            seen-on F S base s h (p .after .same) (g .fine .above) (vars-scope p)
+            (λ C Γ. Meets (Testing F S X base (m + k) (sizeCondition q) h R₁ W₁ R₂ W₂ K₂ r₂) r₂ (judgeCondition (tablesOf F S) C q (m + k) n Γ))
+            (subst (λ j. ToldCondition F S X R₁ W₁ base j h n R₂ W₂ K₂ r₂) (p .next) m₂ .tells q i)
+
+        pub for-no-2 : {rt : ℕ} → Unlisted r₂ → ToldStmt F S X R W base rt n s R₂ W₂ K₂ r₂
+        unfolding execute
+        for-no-2 {rt} u =
+            record {
+              tells = on-for (AnswersStmt F S X R W base rt n s R₂ W₂ K₂ r₂)
+                  (λ vs q z b i.
+                  part-ok _ _ (goes-unrefused y₁) (m₁ .tells vs (i .1) (counts vs (i .0))) λ Δ L e p.
+                  part-never _ _ (λ Δ₁ M e₂ p₂. u .never (p₂ .goes-on)) (condition-met p q (i .2))) kind;
+            }
+
+        module _ (y₂ : r₂ .judgement ≡ GoesOn) where
+          pub for-third : {rt : ℕ} → rt < S .types → (n < r₂ .next) × ReadyTurn F S X R₂ W₂ K₂ base rt (r₂ .next) h
+          for-third {rt} w =
+              on-for (λ z. s + sizeStmt z ≤ S .«built_ins» + S .nodes → (n < r₂ .next) × ReadyTurn F S X R₂ W₂ K₂ base rt (r₂ .next) h)
+              (λ vs q z b i l.
+              let (Δ, L, e, p) = part-of _ (m₁ .tells vs (i .1) (counts vs (i .0))) (goes-unrefused y₁) in
+              let (Δ₁, M, e₂, p₂) = part-of _ (condition-met p q (i .2)) (goes-unrefused y₂) in
+              let there : StepStands (tablesOf F S) (r₂ .next) z = subst (λ j. StepStands (tablesOf F S) j z) (sym (p₂ .next)) (i .3) in (
+                omega (arith, p₂ .next),
+                record {
+                  fine = p₂ .after .fine;
+                  within = subst (λ j. r₂ .next < j) (nodes-long F S) (step-within (tablesOf F S) (r₂ .next) z there);
+                  returned = w;
+                  tree = z;
+                  body = b;
+                  stands = there;
+                  stands-too = subst (λ j. BlockStands (tablesOf F S) (j + sizeStep z) b) (sym (p₂ .next)) (i .4);
+                  room = omega (arith, eh, p .high);
+                },
+              )) kind (g .tree) (g .stands) (g .room)
+
+          module _ {rt : ℕ} {R₃ W₃ K₃ : List ℕ} {r₃ : Judged} (m₃ : ToldTurn F S X R₂ W₂ base rt (r₂ .next) h R₃ W₃ K₃ r₃) where
+            -- what the turn's answer says of the definition
+            turn-met : {m k j : ℕ} {Δ Δ₁ : Scope ℕ} {L M : List (Label ℕ)} → Declaring F S X base m k s R W R₁ W₁ K₁ r₁ Δ L
+                → Testing F S X base (m + k) j h R₁ W₁ R₂ W₂ K₂ r₂ Δ₁ M → (z : Step) (b : Block) → StepStands (tablesOf F S) (m + k + j) z
+                → BlockStands (tablesOf F S) (m + k + j + sizeStep z) b
+                → Meets (Blocking F S X base (m + k + j) (sizeStep z + sizeBlock b) h R₂ W₂ R₃ W₃ K₃ r₃) r₃
+                (turnOf (tablesOf F S) (contextOf (tablesOf F S) W base) rt z b (m + k + j) Δ)
+            turn-met {m} {k} {j} p p₂ z b i i₂ =
+                let low : s ≤ h = omega (arith, eh, p .low) in
+                let same = same-less (entryOf (tablesOf F S) s) (entryOf (tablesOf F S) h) (omega arith) (p₂ .after .same) in
+                seen-on F S base s h (same-more (p .after .same) same) (g .fine .above)
+                (scope-same (tablesOf F S) h (p₂ .after .same) base ∙ vars-scope p)
+                (λ C Γ. Meets (Blocking F S X base (m + k + j) (sizeStep z + sizeBlock b) h R₂ W₂ R₃ W₃ K₃ r₃) r₃
+                (turnOf (tablesOf F S) C rt z b (m + k + j) Γ))
+                (subst (λ v. ToldTurn F S X R₂ W₂ base rt v h R₃ W₃ K₃ r₃) (p₂ .next) m₃ .tells z b i i₂)
+
+            pub for-no-3 : {p q : ℕ} → r₃ .judgement ≡ Refused p q → ToldStmt F S X R W base rt n s R₃ W₃ K₃ r₃
+            unfolding execute
+            for-no-3 f =
+                record {
+                  tells = on-for (AnswersStmt F S X R W base rt n s R₃ W₃ K₃ r₃)
+                      (λ vs q z b i.
+                      part-ok _ _ (goes-unrefused y₁) (m₁ .tells vs (i .1) (counts vs (i .0))) λ Δ L e p.
+                      part-ok _ _ (goes-unrefused y₂) (condition-met p q (i .2)) λ Δ₁ M e₂ p₂.
+                      turn-part (tablesOf F S) (contextOf (tablesOf F S) W base) rt z b (n + 1 + sizeVars vs + sizeCondition q) Δ (closing (scopeOf (tablesOf F S) W base s) L M)
+                      (part-no _ (λ v P. closing (scopeOf (tablesOf F S) W base s) L M P) (λ v P d. (v, d .mark)) f (turn-met p p₂ z b (i .3) (i .4)))) kind;
+                }
+
+            module _ (u : Unrefused r₃) where
+              ended : Fine F S X R₃ W₃ K₃ base h × (s ≤ h)
+              ended =
+                  on-for (λ z. Fine F S X R₃ W₃ K₃ base h × (s ≤ h))
+                  (λ vs q z b i.
+                  let (Δ, L, e, p) = part-of _ (m₁ .tells vs (i .1) (counts vs (i .0))) (goes-unrefused y₁) in
+                  let (Δ₁, M, e₂, p₂) = part-of _ (condition-met p q (i .2)) (goes-unrefused y₂) in
+                  let (v, P, e₃, d) = part-of _ (turn-met p p₂ z b (i .3) (i .4)) u in
+                  (d .after .fine, omega (arith, eh, p .low))) kind (g .tree) (g .stands)
+
+              pub for-leaves : Scoped F S W₃ K₃ h × (s ≤ h)
+              for-leaves = (ended .0 .scoped, ended .1)
+
+              pub for-ends : (n * 2 + 1 < length R₃) × (n < 65536) × (0 ≤ 1)
+              for-ends = mark-fits (ended .0) (g .within) (omega arith)
+
+              pub for-ok : {r : Judged} {R′ K₄ : List ℕ} → Scoped F S W₃ K₄ s
+                  → r ≡ record { judgement = marked 0; next = r₃ .next; scope = s } → R′ ≡ withRow R₃ n 0 65535
+                  → ToldStmt F S X R W base rt n s R′ W₃ K₄ r
+              unfolding execute
+              for-ok {r} {R′} {K₄} left er eR =
+                  record {
+                    tells = on-for (AnswersStmt F S X R W base rt n s R′ W₃ K₄ r)
+                        (λ vs q z b i.
+                        part-ok _ _ (goes-unrefused y₁) (m₁ .tells vs (i .1) (counts vs (i .0))) λ Δ L e p.
+                        part-ok _ _ (goes-unrefused y₂) (condition-met p q (i .2)) λ Δ₁ M e₂ p₂.
+                        turn-part (tablesOf F S) (contextOf (tablesOf F S) W base) rt z b (n + 1 + sizeVars vs + sizeCondition q) Δ (closing (scopeOf (tablesOf F S) W base s) L M)
+                        (part-ok _ (λ v P. closing (scopeOf (tablesOf F S) W base s) L M P) u (turn-met p p₂ z b (i .3) (i .4)) λ v P e₃ d.
+                        accepts _ _
+                        (rule-left (g .within)
+                        (after-left (g .fine .above)
+                        (after-then (vars-long _ _ vs (n + 1) _ Δ L e) (vars-closed _ _ vs (n + 1) _ Δ L e) (ended .1) (vars-after p)
+                        (after-plain-then (condition-long _ _ q (n + 1 + sizeVars vs) n Δ Δ₁ M e₂)
+                        (turn-head _ _ rt z b _ Δ v P e₃) (omega arith) (p₂ .after) (d .after))) left)
+                        er (d .next ∙ omega arith) (omega arith) eR))) kind;
+                  }

@@ -1,0 +1,331 @@
+-- If and if?: what each step asks, and the answers of their returns. Assumes nothing.
+use mathlib.Core.Path.{_≡_, refl, ap, sym, subst, _∙_}
+use mathlib.Core.Bool.{Bool, true, false, not, _&&_}
+use mathlib.Core.List.{List, _++_}
+use Prim.Native.Nat.{ℕ, _+_, _*_, _≤_, _<_}
+use native.Mathlib.Omega.{arith}
+use lib.ListN.{length}
+use borrow.Author.Tests.{eq-eqb, ne-eqb, ltb-true, not-true, not-false}
+use Rattle.oat.specs.Tables.{typeAt, nodeAt}
+use Rattle.oat.specs.Types.{typeOf}
+use Rattle.oat.specs.Decide.{below}
+use Rattle.oat.specs.Syntax.{Block, size, sizeBlock, sizeStmt}
+use Rattle.oat.specs.Nodes.{hasReferenceKind, BlockStands}
+use Rattle.typing_rules.specs.Contexts.{Scope, binds, Context}
+use Rattle.typing_rules.specs.Labels.{Label}
+use Rattle.typing_rules.specs.Rules.{both}
+use Rattle.typing_rules.specs.Judge.{Out, andThen, ends, isBelow, referred, execute, executeBlock}
+use Rattle.file_sections.specs.declared.Sections.{Sections}
+use Rattle.file_sections.specs.Layout.{Has, tablesOf}
+use Rattle.file_sections.proofs.LawsRecords.{types-long, nodes-long}
+use Rattle.type_index.specs.Index.{declared, Indexed, Readable}
+use Rattle.bindings.specs.Bindings.{entryOf, scopeOf, Same, Bindable, Bound}
+use Rattle.bindings.proofs.LawsBindings.{scope-bound, scope-same, names-same}
+use Rattle.answers.specs.declared.answer.Judgement.the-variants.{Typed, Refused}
+use Rattle.answers.specs.declared.answer.Judged.{Judged}
+use Rattle.answers.specs.Answers.{withRow}
+use Rattle.expressions.specs.Contract.{contextOf, Fine, After, Typing, Meets, accepts, Ready, Told}
+use Rattle.expressions.proofs.LawsMeets.{Untyped, stops, passes, child-no, child-ok}
+use Rattle.expressions.proofs.LawsAfter.{ready, typing-of, same-more, after-append}
+use Rattle.expressions.proofs.LawsLabels.{expr-long, expr-closed}
+use Rattle.expressions.proofs.LawsShape.{size-one}
+use Rattle.expressions.proofs.LawsChild.{has-node, child-within, child-type, child-fine, reference-within}
+use Rattle.simple_statements.specs.Contract.{markOf, marked, Marking, AnswersStmt, ReadyStmt, ToldStmt}
+use Rattle.simple_statements.proofs.LawsLabels.{on-if, on-if-null, block-within}
+use Rattle.simple_statements.proofs.LawsMarks.{mark-fits, rule-left}
+use Rattle.statements.specs.Contract.{Blocking, eitherOf, ReadyArms, ToldArms}
+use Rattle.statements.proofs.LawsBlocks.{Unrefused, mark-is, part-no, part-ok}
+use Rattle.statements.proofs.LawsThen.{after-stack}
+use Rattle.statements.proofs.LawsArms.{either-mark, either-then, arms-fine}
+
+-- a type that is a reference
+reference-there : (F : List ℕ) (S : Sections) (t : ℕ) → hasReferenceKind (tablesOf F S) t ≡ true → t < S .types
+unfolding hasReferenceKind
+reference-there F S t e = subst (λ k. t < k) (types-long F S) (ltb-true t (length (tablesOf F S .types)) (first _ _ e))
+  where
+    first : (a b : Bool) → (a && b) ≡ true → a ≡ true
+    first true b h = refl
+    first false b h = h
+
+-- two blocks that stand in the file, with room for what they bind
+ready-arms : {F : List ℕ} {S : Sections} {X R W K : List ℕ} {base rt s inner n m : ℕ} (b c : Block) → Fine F S X R W K base inner → rt < S .types → base ≤ s → s ≤ inner → m ≡ n
+    → BlockStands (tablesOf F S) n b → BlockStands (tablesOf F S) (n + sizeBlock b) c → inner + sizeBlock b + sizeBlock c ≤ S .«built_ins» + S .nodes
+    → ReadyArms F S X R W K base rt m s inner
+ready-arms {F} {S} {X} {R} {W} {K} {base} {rt} {s} {inner} {n} {m} b c f t l u e h h₂ z =
+    subst (λ i. ReadyArms F S X R W K base rt i s inner) (sym e)
+    (record {
+      fine = f;
+      within = subst (λ k. n < k) (nodes-long F S) (block-within (tablesOf F S) n b h);
+      returned = t;
+      lower = l;
+      higher = u;
+      first = b;
+      second = c;
+      stands = h;
+      stands-too = h₂;
+      room = z;
+    })
+
+-- two blocks see the names before them, and a scope Γ that is that of the height `inner`
+retell-arms : {F : List ℕ} {S : Sections} {X W R₁ W₁ R₂ W₂ K₂ : List ℕ} {base rt s inner m i : ℕ} {r : Judged} {Γ : Scope ℕ} → Same (entryOf (tablesOf F S) s) W W₁ → base ≤ s
+    → scopeOf (tablesOf F S) W₁ base inner ≡ Γ → m ≡ i → ToldArms F S X R₁ W₁ base rt m s inner R₂ W₂ K₂ r
+    → (b c : Block) → BlockStands (tablesOf F S) i b → BlockStands (tablesOf F S) (i + sizeBlock b) c
+    → Meets (Blocking F S X base i (sizeBlock b + sizeBlock c) s R₁ W₁ R₂ W₂ K₂ r) r
+    (eitherOf (tablesOf F S) (contextOf (tablesOf F S) W base) rt b c i Γ (scopeOf (tablesOf F S) W base s))
+retell-arms {F} {S} {X} {W} {R₁} {W₁} {R₂} {W₂} {K₂} {base} {rt} {s} {inner} {m} {i} {r} {Γ} a l eΓ e told b c h h₂ =
+    subst (λ Δ. P (contextOf (tablesOf F S) W base) Δ (scopeOf (tablesOf F S) W base s)) eΓ
+    (subst (P (contextOf (tablesOf F S) W base) (scopeOf (tablesOf F S) W₁ base inner)) (scope-same (tablesOf F S) s a base)
+    (subst (λ N. P (record { structs = declared (tablesOf F S); names = N }) (scopeOf (tablesOf F S) W₁ base inner) (scopeOf (tablesOf F S) W₁ base s)) (names-same (tablesOf F S) s a base l)
+    (subst (λ j. ToldArms F S X R₁ W₁ base rt j s inner R₂ W₂ K₂ r) e told .tells b c h h₂)))
+  where
+    P : Context ℕ → Scope ℕ → Scope ℕ → Type 0
+    P C Δ E = Meets (Blocking F S X base i (sizeBlock b + sizeBlock c) s R₁ W₁ R₂ W₂ K₂ r) r (eitherOf (tablesOf F S) C rt b c i Δ E)
+
+-- a block in the context of the buffers
+abbrev blockIn : List ℕ → Sections → List ℕ → (base rt : ℕ) → Block → ℕ → Scope ℕ → Out ℕ
+blockIn F S W base rt b n Γ = executeBlock (tablesOf F S) (contextOf (tablesOf F S) W base) rt b n Γ
+
+-- the two blocks as a part of the statement: refused, and accepted
+module _ (F : List ℕ) (S : Sections) (W : List ℕ) (base rt s : ℕ) (b c : Block) (i : ℕ) (Γ : Scope ℕ) {X R₁ W₁ R₂ W₂ K₂ : List ℕ} {r₂ : Judged}
+    (z : Meets (Blocking F S X base i (sizeBlock b + sizeBlock c) s R₁ W₁ R₂ W₂ K₂ r₂) r₂
+    (eitherOf (tablesOf F S) (contextOf (tablesOf F S) W base) rt b c i Γ (scopeOf (tablesOf F S) W base s))) {B : Type 0} {Q : B → List (Label ℕ) → Type 0} (k : ℕ → List (Label ℕ) → Out B) where
+  either-no : {p q : ℕ} → r₂ .judgement ≡ Refused p q
+      → Meets Q r₂ (andThen (blockIn F S W base rt b i Γ) λ p M. andThen (blockIn F S W base rt c (i + sizeBlock b) (scopeOf (tablesOf F S) W base s)) λ q N. k (both p q) (M ++ N))
+  either-no e =
+      subst (Meets Q r₂) (either-then (blockIn F S W base rt b i Γ) (blockIn F S W base rt c (i + sizeBlock b) (scopeOf (tablesOf F S) W base s)) k) (part-no _ k (λ p L v. (p, v .mark)) e z)
+
+  either-ok : {r : Judged} {m : ℕ} → Unrefused r₂ → m ≡ markOf (r₂ .judgement)
+      → ((p : ℕ) (N : List (Label ℕ)) → m ≡ p → Blocking F S X base i (sizeBlock b + sizeBlock c) s R₁ W₁ R₂ W₂ K₂ r₂ p N → Meets Q r (k p N))
+      → Meets Q r (andThen (blockIn F S W base rt b i Γ) λ p M. andThen (blockIn F S W base rt c (i + sizeBlock b) (scopeOf (tablesOf F S) W base s)) λ q N. k (both p q) (M ++ N))
+  either-ok {r} {m} u em f =
+      subst (Meets Q r) (either-then (blockIn F S W base rt b i Γ) (blockIn F S W base rt c (i + sizeBlock b) (scopeOf (tablesOf F S) W base s)) k)
+      (part-ok _ k u z λ p N q v.
+      f p N (em ∙ mark-is (r₂ .judgement) p (either-mark _ _ rt b c i Γ _ p N q) (v .mark)) v)
+
+-- an accepted if: its own row over those of its test and of its blocks
+if-row : {F : List ℕ} {S : Sections} {X R W R₂ W₂ K₂ R′ : List ℕ} {base n k x e s m p : ℕ} {r : Judged} {M : List (Label ℕ)} → n < S .nodes
+    → After F S X base M (n + 1) k s s R W R₂ W₂ K₂ → m ≡ p → e ≡ n + 1 + k → x ≡ 1 + k
+    → r ≡ record { judgement = marked m; next = e; scope = s } → R′ ≡ withRow R₂ n m 65535
+    → Meets (Marking F S X base n x s R W R′ W₂ K₂ r) r (ends p (scopeOf (tablesOf F S) W base s) (scopeOf (tablesOf F S) W base s) M)
+if-row {R₂ = R₂} {n = n} {e = e} {s = s} w a em en ex er eR =
+    accepts _ _ (rule-left w a (er ∙ ap (λ i. record { judgement = marked i; next = e; scope = s }) em) en ex (eR ∙ ap (λ i. withRow R₂ n i 65535) em))
+
+-- if
+module _ {F : List ℕ} {S : Sections} {X R W K : List ℕ} {base rt n s : ℕ} (asked : ReadyStmt F S X R W K base n s × (rt < S .types)) (kind : nodeAt (tablesOf F S) n .kind ≡ 35) where
+  pub if-first : Ready F S X R W K base (n + 1) s
+  if-first =
+      on-if (λ z. s + sizeStmt z ≤ S .«built_ins» + S .nodes → Ready F S X R W K base (n + 1) s)
+      (λ a b c h l. ready (n + 1) a (asked .0 .fine) (h .1) (omega arith)) kind
+      (asked .0 .tree) (asked .0 .stands) (asked .0 .room)
+
+  module _ {R₁ W₁ K₁ : List ℕ} {r₁ : Judged} (m₁ : Told F S X R W base (n + 1) s R₁ W₁ K₁ r₁) where
+    pub if-no : Untyped r₁ → ToldStmt F S X R W base rt n s R₁ W₁ K₁ r₁
+    unfolding execute
+    if-no u = record { tells = on-if (AnswersStmt F S X R W base rt n s R₁ W₁ K₁ r₁) (λ a b c h. child-no _ _ u (m₁ .tells a (h .1))) kind }
+
+    module _ {t : ℕ} (y₁ : r₁ .judgement ≡ Typed t) where
+      pub if-type : Has F S t (S .types)
+      if-type = child-type if-first m₁ y₁
+
+      pub if-second : (n < r₁ .next) × ReadyArms F S X R₁ W₁ K₁ base rt (r₁ .next) s s
+      if-second =
+          on-if (λ z. s + sizeStmt z ≤ S .«built_ins» + S .nodes → (n < r₁ .next) × ReadyArms F S X R₁ W₁ K₁ base rt (r₁ .next) s s)
+          (λ a b c h l.
+          let (L, q, p) = typing-of _ (m₁ .tells a (h .1)) y₁ in
+          (omega (arith, p .next), ready-arms b c (p .after .fine) (asked .1) (asked .0 .fine .above) (omega arith) (p .next) (h .2) (h .3) (omega arith))) kind
+          (asked .0 .tree) (asked .0 .stands) (asked .0 .room)
+
+      module _ {k₁ : ℕ} (e₁ : k₁ ≡ typeAt (tablesOf F S) t .kind) where
+        pub if-sort : {r : Judged} → (k₁ ≡ 1 → ⊥) → r .judgement ≡ Refused 10 n → ToldStmt F S X R W base rt n s R₁ W₁ K₁ r
+        unfolding execute
+        if-sort {r} f e =
+            record {
+              tells = on-if (AnswersStmt F S X R W base rt n s R₁ W₁ K₁ r)
+                  (λ a b c h. child-ok _ _ t y₁ (m₁ .tells a (h .1)) λ L q p. stops _ 10 n _ (ne-eqb _ _ (λ i. f (e₁ ∙ i))) e) kind;
+            }
+
+        module _ (z₁ : k₁ ≡ 1) {R₂ W₂ K₂ : List ℕ} {r₂ : Judged} (m₂ : ToldArms F S X R₁ W₁ base rt (r₁ .next) s s R₂ W₂ K₂ r₂) where
+          arms-in : {L : List (Label ℕ)} {k : ℕ} → Typing F S X base (n + 1) k s R W R₁ W₁ K₁ r₁ t L → (b c : Block)
+              → BlockStands (tablesOf F S) (n + 1 + k) b → BlockStands (tablesOf F S) (n + 1 + k + sizeBlock b) c
+              → Meets (Blocking F S X base (n + 1 + k) (sizeBlock b + sizeBlock c) s R₁ W₁ R₂ W₂ K₂ r₂) r₂
+              (eitherOf (tablesOf F S) (contextOf (tablesOf F S) W base) rt b c (n + 1 + k) (scopeOf (tablesOf F S) W base s) (scopeOf (tablesOf F S) W base s))
+          arms-in p b c h h₂ = retell-arms (p .after .same) (asked .0 .fine .above) (scope-same (tablesOf F S) s (p .after .same) base) (p .next) m₂ b c h h₂
+
+          pub if-no-2 : {p q : ℕ} → r₂ .judgement ≡ Refused p q → ToldStmt F S X R W base rt n s R₂ W₂ K₂ r₂
+          unfolding execute
+          if-no-2 e =
+              record {
+                tells = on-if (AnswersStmt F S X R W base rt n s R₂ W₂ K₂ r₂)
+                    (λ a b c h.
+                    child-ok _ _ t y₁ (m₁ .tells a (h .1)) λ L q p.
+                    passes _ 10 n _ (eq-eqb _ _ (sym e₁ ∙ z₁))
+                    (either-no F S W base rt s b c (n + 1 + size a) (scopeOf (tablesOf F S) W base s) (arms-in p b c (h .2) (h .3))
+                    (λ v N. ends v (scopeOf (tablesOf F S) W base s) (scopeOf (tablesOf F S) W base s) (L ++ N)) e)) kind;
+              }
+
+          module _ (u₂ : Unrefused r₂) where
+            -- for `ends`
+            pub if-ends : {m : ℕ} → m ≤ 1 → (n * 2 + 1 < length R₂) × (n < 65536) × (m ≤ 1)
+            if-ends h = mark-fits (arms-fine (if-second .1) m₂ u₂) (asked .0 .within) h
+
+            pub if-ok : {m : ℕ} {R′ : List ℕ} {r : Judged} → m ≡ markOf (r₂ .judgement) → r ≡ record { judgement = marked m; next = r₂ .next; scope = s }
+                → R′ ≡ withRow R₂ n m 65535 → ToldStmt F S X R W base rt n s R′ W₂ K₂ r
+            unfolding execute
+            if-ok {m} {R′} {r} em er eR =
+                record {
+                  tells = on-if (AnswersStmt F S X R W base rt n s R′ W₂ K₂ r)
+                      (λ a b c h.
+                      child-ok _ _ t y₁ (m₁ .tells a (h .1)) λ L q p.
+                      passes _ 10 n _ (eq-eqb _ _ (sym e₁ ∙ z₁))
+                      (either-ok F S W base rt s b c (n + 1 + size a) (scopeOf (tablesOf F S) W base s) (arms-in p b c (h .2) (h .3))
+                      (λ v N. ends v (scopeOf (tablesOf F S) W base s) (scopeOf (tablesOf F S) W base s) (L ++ N)) u₂ em λ v N ev w.
+                      if-row (asked .0 .within) (after-append (expr-long _ _ a (n + 1) _ t L q) (expr-closed _ _ a (n + 1) _ t L q) (p .after) (w .after)) ev
+                      (w .next ∙ omega arith) (omega arith) er eR)) kind;
+                }
+
+-- if?
+module _ {F : List ℕ} {S : Sections} {X R W K : List ℕ} {base rt n s : ℕ} (asked : ReadyStmt F S X R W K base n s × (rt < S .types)) (kind : nodeAt (tablesOf F S) n .kind ≡ 36) where
+  pub null-first : Ready F S X R W K base (n + 1) s
+  null-first =
+      on-if-null (λ z. s + sizeStmt z ≤ S .«built_ins» + S .nodes → Ready F S X R W K base (n + 1) s)
+      (λ x t a b c h l. ready (n + 1) a (asked .0 .fine) (h .2) (omega arith)) kind
+      (asked .0 .tree) (asked .0 .stands) (asked .0 .room)
+
+  pub null-node : Has F S n (S .nodes)
+  null-node = has-node (asked .0 .fine .readable) (asked .0 .within)
+
+  module _ {R₁ W₁ K₁ : List ℕ} {r₁ : Judged} (m₁ : Told F S X R W base (n + 1) s R₁ W₁ K₁ r₁) where
+    pub null-no : Untyped r₁ → ToldStmt F S X R W base rt n s R₁ W₁ K₁ r₁
+    unfolding execute
+    null-no u = record { tells = on-if-null (AnswersStmt F S X R W base rt n s R₁ W₁ K₁ r₁) (λ x t a b c h. child-no _ _ u (m₁ .tells a (h .2))) kind }
+
+    module _ {u : ℕ} (y₁ : r₁ .judgement ≡ Typed u) where
+      pub null-type : Has F S u (S .types)
+      null-type = child-type null-first m₁ y₁
+
+      module _ {t₁ : ℕ} (et : t₁ ≡ nodeAt (tablesOf F S) n .t) where
+        null-within : t₁ < S .types
+        null-within =
+            on-if-null (λ z. t₁ < S .types)
+            (λ x t a b c h. subst (λ i. i < S .types) (sym (et ∙ h .0 .t-is)) (reference-there F S t (h .1))) kind (asked .0 .tree) (asked .0 .stands)
+
+        -- for `bind`
+        pub null-bindable : Bindable F S W₁ K₁ s n t₁
+        null-bindable =
+            record {
+              scoped = child-fine null-first m₁ y₁ .scoped;
+              low = omega (arith, asked .0 .fine .low, asked .0 .fine .above);
+              room = omega (arith, null-first .room, size-one (null-first .tree));
+              node-there = asked .0 .within;
+              type-there = null-within;
+            }
+
+        module _ {W₂ K₂ : List ℕ} (bound : Bound F S W₁ K₁ s n t₁ W₂ K₂) where
+          bound-fine : Fine F S X R₁ W₁ K₁ base s → Fine F S X R₁ W₂ K₂ base (s + 1)
+          bound-fine f = record {
+            readable = f .readable;
+            indexed = f .indexed;
+            rows-long = f .rows-long;
+            scoped = bound .scoped;
+            low = f .low;
+            above = omega (arith, f .above);
+          }
+
+          pub null-second : (n < r₁ .next) × ReadyArms F S X R₁ W₂ K₂ base rt (r₁ .next) s (s + 1)
+          null-second =
+              on-if-null (λ z. s + sizeStmt z ≤ S .«built_ins» + S .nodes → (n < r₁ .next) × ReadyArms F S X R₁ W₂ K₂ base rt (r₁ .next) s (s + 1))
+              (λ x t a b c h l.
+              let (L, q, p) = typing-of _ (m₁ .tells a (h .2)) y₁ in
+              (omega (arith, p .next), ready-arms b c (bound-fine (p .after .fine)) (asked .1) (asked .0 .fine .above) (omega arith) (p .next) (h .3) (h .4) (omega (arith, size-one a)))) kind
+              (asked .0 .tree) (asked .0 .stands) (asked .0 .room)
+
+      module _ {k₁ : ℕ} (e₁ : k₁ ≡ typeAt (tablesOf F S) u .kind) where
+        pub null-sort : {r : Judged} → (k₁ ≡ 7 → ⊥) → r .judgement ≡ Refused 10 n → ToldStmt F S X R W base rt n s R₁ W₁ K₁ r
+        unfolding execute
+        null-sort {r} f e =
+            record {
+              tells = on-if-null (AnswersStmt F S X R W base rt n s R₁ W₁ K₁ r)
+                  (λ x t a b c h. child-ok _ _ u y₁ (m₁ .tells a (h .2)) λ L q p. stops _ 10 n _ (ne-eqb _ _ (λ i. f (e₁ ∙ i))) e) kind;
+            }
+
+        module _ (z₁ : k₁ ≡ 7) {t₁ x₁ : ℕ} (et : t₁ ≡ nodeAt (tablesOf F S) n .t) (ex : x₁ ≡ typeAt (tablesOf F S) u .a) where
+          -- for `below`
+          pub null-asked : Readable F S × Indexed X (tablesOf F S) (S .types) × (x₁ < S .types) × (t₁ < S .types)
+          null-asked = (
+            asked .0 .fine .readable,
+            asked .0 .fine .indexed,
+            subst (λ i. i < S .types) (sym ex) (reference-within (asked .0 .fine .readable) (child-within null-first m₁ y₁) (sym e₁ ∙ z₁)),
+            null-within et,
+          )
+
+          module _ {b₁ : Bool} (eb : b₁ ≡ below (declared (tablesOf F S)) (typeOf (tablesOf F S) x₁) (typeOf (tablesOf F S) t₁)) where
+            null-is : (t : ℕ) → nodeAt (tablesOf F S) n .t ≡ t → isBelow (tablesOf F S) (contextOf (tablesOf F S) W base) (referred (tablesOf F S) u) t ≡ b₁
+            null-is t e =
+                sym (eb ∙ ap (λ i. below (declared (tablesOf F S)) (typeOf (tablesOf F S) i) (typeOf (tablesOf F S) t₁)) ex
+                ∙ ap (λ i. below (declared (tablesOf F S)) (typeOf (tablesOf F S) (typeAt (tablesOf F S) u .a)) (typeOf (tablesOf F S) i)) (et ∙ e))
+
+            pub null-below : {r : Judged} → not b₁ ≡ true → r .judgement ≡ Refused 11 n → ToldStmt F S X R W base rt n s R₁ W₁ K₁ r
+            unfolding execute
+            null-below {r} f e =
+                record {
+                  tells = on-if-null (AnswersStmt F S X R W base rt n s R₁ W₁ K₁ r)
+                      (λ x t a b c h.
+                      child-ok _ _ u y₁ (m₁ .tells a (h .2)) λ L q p.
+                      passes _ 10 n _ (eq-eqb _ _ (sym e₁ ∙ z₁))
+                      (stops _ 11 n _ (null-is t (h .0 .t-is) ∙ not-true _ f) e)) kind;
+                }
+
+            module _ (f₁ : not b₁ ≡ false) {W₂ K₂ : List ℕ} (bound : Bound F S W₁ K₁ s n t₁ W₂ K₂) where
+              module _ {R₂ W₃ K₃ : List ℕ} {r₂ : Judged} (m₂ : ToldArms F S X R₁ W₂ base rt (r₁ .next) s (s + 1) R₂ W₃ K₃ r₂) where
+                -- the scope with the name
+                named-is : (x t : ℕ) → nodeAt (tablesOf F S) n .x ≡ x → nodeAt (tablesOf F S) n .t ≡ t → Same (entryOf (tablesOf F S) s) W W₁
+                    → scopeOf (tablesOf F S) W₂ base (s + 1) ≡ binds (scopeOf (tablesOf F S) W base s) x t n
+                named-is x t e e₂ a =
+                    scope-bound base bound (asked .0 .fine .above)
+                    ∙ ap (λ Γ. binds Γ (nodeAt (tablesOf F S) n .x) t₁ n) (scope-same (tablesOf F S) s a base)
+                    ∙ ap (λ i. binds (scopeOf (tablesOf F S) W base s) i t₁ n) e
+                    ∙ ap (λ i. binds (scopeOf (tablesOf F S) W base s) x i n) (et ∙ e₂)
+
+                bound-in : {L : List (Label ℕ)} {k : ℕ} → Typing F S X base (n + 1) k s R W R₁ W₁ K₁ r₁ u L → (x t : ℕ) → nodeAt (tablesOf F S) n .x ≡ x → nodeAt (tablesOf F S) n .t ≡ t
+                    → (b c : Block) → BlockStands (tablesOf F S) (n + 1 + k) b → BlockStands (tablesOf F S) (n + 1 + k + sizeBlock b) c
+                    → Meets (Blocking F S X base (n + 1 + k) (sizeBlock b + sizeBlock c) s R₁ W₂ R₂ W₃ K₃ r₂) r₂
+                    (eitherOf (tablesOf F S) (contextOf (tablesOf F S) W base) rt b c (n + 1 + k) (binds (scopeOf (tablesOf F S) W base s) x t n) (scopeOf (tablesOf F S) W base s))
+                bound-in p x t e e₂ b c h h₂ =
+                    retell-arms (same-more (p .after .same) (bound .same)) (asked .0 .fine .above) (named-is x t e e₂ (p .after .same)) (p .next) m₂ b c h h₂
+
+                pub null-no-2 : {p q : ℕ} → r₂ .judgement ≡ Refused p q → ToldStmt F S X R W base rt n s R₂ W₃ K₃ r₂
+                unfolding execute
+                null-no-2 e =
+                    record {
+                      tells = on-if-null (AnswersStmt F S X R W base rt n s R₂ W₃ K₃ r₂)
+                          (λ x t a b c h.
+                          child-ok _ _ u y₁ (m₁ .tells a (h .2)) λ L q p.
+                          passes _ 10 n _ (eq-eqb _ _ (sym e₁ ∙ z₁))
+                          (passes _ 11 n _ (null-is t (h .0 .t-is) ∙ not-false _ f₁)
+                          (either-no F S W base rt s b c (n + 1 + size a) (binds (scopeOf (tablesOf F S) W base s) x t n)
+                          (bound-in p x t (h .0 .x-is) (h .0 .t-is) b c (h .3) (h .4))
+                          (λ v N. ends v (scopeOf (tablesOf F S) W base s) (scopeOf (tablesOf F S) W base s) (L ++ N)) e))) kind;
+                    }
+
+                module _ (u₂ : Unrefused r₂) where
+                  -- for `ends`
+                  pub null-ends : {m : ℕ} → m ≤ 1 → (n * 2 + 1 < length R₂) × (n < 65536) × (m ≤ 1)
+                  null-ends h = mark-fits (arms-fine (null-second et bound .1) m₂ u₂) (asked .0 .within) h
+
+                  pub null-ok : {m : ℕ} {R′ : List ℕ} {r : Judged} → m ≡ markOf (r₂ .judgement) → r ≡ record { judgement = marked m; next = r₂ .next; scope = s }
+                      → R′ ≡ withRow R₂ n m 65535 → ToldStmt F S X R W base rt n s R′ W₃ K₃ r
+                  unfolding execute
+                  null-ok {m} {R′} {r} em er eR =
+                      record {
+                        tells = on-if-null (AnswersStmt F S X R W base rt n s R′ W₃ K₃ r)
+                            (λ x t a b c h.
+                            child-ok _ _ u y₁ (m₁ .tells a (h .2)) λ L q p.
+                            passes _ 10 n _ (eq-eqb _ _ (sym e₁ ∙ z₁))
+                            (passes _ 11 n _ (null-is t (h .0 .t-is) ∙ not-false _ f₁)
+                            (either-ok F S W base rt s b c (n + 1 + size a) (binds (scopeOf (tablesOf F S) W base s) x t n)
+                            (bound-in p x t (h .0 .x-is) (h .0 .t-is) b c (h .3) (h .4))
+                            (λ v N. ends v (scopeOf (tablesOf F S) W base s) (scopeOf (tablesOf F S) W base s) (L ++ N)) u₂ em λ v N ev w.
+                            if-row (asked .0 .within)
+                            (after-append (expr-long _ _ a (n + 1) _ u L q) (expr-closed _ _ a (n + 1) _ u L q) (p .after) (after-stack (bound .same) (w .after))) ev
+                            (w .next ∙ omega arith) (omega arith) er eR))) kind;
+                      }

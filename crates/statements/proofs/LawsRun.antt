@@ -1,0 +1,292 @@
+-- The loop over the statements of a block: what holds after i of them, and the answers of its returns. Assumes nothing.
+use mathlib.Core.Path.{_≡_, refl, ap, sym, subst, _∙_}
+use mathlib.Core.List.{List, [], _++_, append-nil, append-assoc}
+use Prim.Native.Nat.{ℕ, _+_, _≤_, _<_}
+use native.Mathlib.Omega.{arith}
+use lib.ListN.{length, length-append}
+use borrow.Author.Tests.{eq-eqb, ne-eqb}
+use Rattle.oat.specs.Tables.{Tables}
+use Rattle.oat.specs.Syntax.{Stmt, Stmts, empty, then, sizeStmt, sizeStmts, countStmts}
+use Rattle.oat.specs.Nodes.{StmtsStand}
+use Rattle.typing_rules.specs.Contexts.{Scope, Context}
+use Rattle.typing_rules.specs.Labels.{Label}
+use Rattle.typing_rules.specs.Judge.{Out, ok, no, andThen, Done, execute, executeAll}
+use Rattle.file_sections.specs.declared.Sections.{Sections}
+use Rattle.file_sections.specs.Layout.{tablesOf}
+use Rattle.file_sections.proofs.LawsRecords.{nodes-long}
+use Rattle.bindings.specs.Bindings.{scopeOf, Scoped}
+use Rattle.answers.specs.declared.answer.Judgement.{Judgement}
+use Rattle.answers.specs.declared.answer.Judgement.the-variants.{Refused}
+use Rattle.answers.specs.declared.answer.Judged.{Judged}
+use Rattle.expressions.specs.Contract.{contextOf, Fine, After, Meets, accepts, refuses}
+use Rattle.expressions.proofs.LawsAfter.{after-none}
+use Rattle.expressions.proofs.LawsLabels.{Closed, closed-none, closed-append}
+use Rattle.simple_statements.specs.Contract.{markOf, marked, Marking, ReadyStmt, ToldStmt}
+use Rattle.simple_statements.proofs.LawsLabels.{stmt-long, stmt-closed, stmt-mark, stmt-within}
+use Rattle.statements.specs.Contract.{Running, ReadyStmts, ToldStmts}
+use Rattle.statements.proofs.LawsBlocks.{Unrefused, marked-no, mark-is, part-of}
+use Rattle.statements.proofs.LawsThen.{after-then, retell-stmt}
+
+-- the definition in the context of the buffers before the block, and the scope of the height h of those now
+abbrev pub allIn : List ℕ → Sections → (W W₁ : List ℕ) → (base rt h : ℕ) → Stmts → (n last p : ℕ) → Out ℕ
+allIn F S W W₁ base rt h ss n last p = executeAll (tablesOf F S) (contextOf (tablesOf F S) W base) rt ss n last p (scopeOf (tablesOf F S) W₁ base h)
+
+abbrev stmtIn : List ℕ → Sections → (W W₁ : List ℕ) → (base rt h : ℕ) → Stmt → ℕ → Out Done
+stmtIn F S W W₁ base rt h z n = execute (tablesOf F S) (contextOf (tablesOf F S) W base) rt z n (scopeOf (tablesOf F S) W₁ base h)
+
+-- the outcome of the statements after those so far
+abbrev pub afterRun : List (Label ℕ) → Out ℕ → Out ℕ
+afterRun L o = andThen o λ q M. ok q (L ++ M)
+
+run-none : (o : Out ℕ) → o ≡ afterRun [] o
+run-none (ok q M) = refl
+run-none (no p q) = refl
+
+run-more : (L M : List (Label ℕ)) (o : Out ℕ) → afterRun L (afterRun M o) ≡ afterRun (L ++ M) o
+run-more L M (ok q N) = cc (append-assoc L M N)
+run-more L M (no p q) = refl
+
+-- statements, of which there is one, or none
+on-some : (P : Stmts → Type 0) → ((z : Stmt) (zs : Stmts) → P (then z zs)) → (ss : Stmts) → 1 ≤ countStmts ss → P ss
+on-some P f empty h = absurd (omega arith)
+on-some P f (then z zs) h = f z zs
+
+on-none : (P : Stmts → Type 0) → P empty → (ss : Stmts) → countStmts ss ≤ 0 → P ss
+on-none P f empty h = f
+on-none P f (then z zs) h = absurd (omega arith)
+
+module _ (T : Tables) (C : Context ℕ) (rt : ℕ) (z : Stmt) (zs : Stmts) (n last p : ℕ) (Γ : Scope ℕ) where
+  -- the first of them comes after one that returns
+  all-stops : (p ≡ 0 → ⊥) → executeAll T C rt (then z zs) n last p Γ ≡ no 14 last
+  unfolding executeAll
+  all-stops f = rw (ne-eqb p 0 f)
+
+  -- it is refused, and accepted
+  all-no : (a b : ℕ) → p ≡ 0 → execute T C rt z n Γ ≡ no a b → executeAll T C rt (then z zs) n last p Γ ≡ no a b
+  unfolding executeAll
+  all-no a b e q = rw (eq-eqb p 0 e, q)
+
+  all-ok : (d : Done) (M : List (Label ℕ)) → p ≡ 0 → execute T C rt z n Γ ≡ ok d M
+      → executeAll T C rt (then z zs) n last p Γ ≡ afterRun M (executeAll T C rt zs (n + sizeStmt z) n (d .mark) (d .scope))
+  unfolding executeAll
+  all-ok d M e q = rw (eq-eqb p 0 e, q)
+
+-- a refused statement's outcome
+refusal-of : {P : Done → List (Label ℕ) → Type 0} {r : Judged} {a b : ℕ} (o : Out Done) → Meets P r o → r .judgement ≡ Refused a b
+    → ((d : Done) (L : List (Label ℕ)) → P d L → r .judgement ≡ marked (d .mark)) → (p q : ℕ) × (o ≡ no p q) × (r .judgement ≡ Refused p q)
+refusal-of {a = a} {b = b} o (accepts d L v) e f = absurd (marked-no (d .mark) a b (sym (f d L v) ∙ e))
+refusal-of o (refuses p q j) e f = (p, q, refl, j)
+
+-- the first i statements of ss, which stand at n, are accepted, the last of them at `last` with the mark; the others stand at `at`
+pub record RunPart (F : List ℕ) (S : Sections) (X : List ℕ) (base rt n s : ℕ) (R W : List ℕ) (left parent at height last mark i : ℕ) (R₁ W₁ K₁ : List ℕ) (ss : Stmts) : Type 0 where
+  pub labels : List (Label ℕ)
+  pub rest : Stmts
+  pub stand : StmtsStand (tablesOf F S) at rest
+  pub counted : countStmts rest + i ≡ left
+  pub reached : at ≡ n + length labels
+  pub closed : Closed labels
+  pub sized : sizeStmts ss ≡ length labels + sizeStmts rest
+  pub low : s ≤ height
+  pub high : height ≤ s + length labels
+  pub small : mark ≤ 1
+  pub after : After F S X base labels n (length labels) s height R W R₁ W₁ K₁
+  pub ran : allIn F S W W base rt s ss n parent 0 ≡ afterRun labels (allIn F S W W₁ base rt height rest at last mark)
+
+pub record WalkedStmts (F : List ℕ) (S : Sections) (X : List ℕ) (base rt n s : ℕ) (R W : List ℕ) (left parent at height last mark i : ℕ) (R₁ W₁ K₁ : List ℕ) : Type 0 where
+  pub part : (ss : Stmts) → StmtsStand (tablesOf F S) n ss → countStmts ss ≡ left → RunPart F S X base rt n s R W left parent at height last mark i R₁ W₁ K₁ ss
+
+module _ {F : List ℕ} {S : Sections} {X R W : List ℕ} {base rt n s left parent at height last mark i : ℕ} {R₁ W₁ K₁ : List ℕ} {ss : Stmts}
+    (p : RunPart F S X base rt n s R W left parent at height last mark i R₁ W₁ K₁ ss) where
+  -- one more statement
+  part-more : {R₂ W₂ K₂ : List ℕ} {r : Judged} {m : ℕ} → mark ≡ 0 → (z : Stmt) (zs : Stmts) → StmtsStand (tablesOf F S) at (then z zs) → countStmts (then z zs) + i ≡ left
+      → sizeStmts ss ≡ length (p .labels) + sizeStmts (then z zs)
+      → allIn F S W W base rt s ss n parent 0 ≡ afterRun (p .labels) (allIn F S W W₁ base rt height (then z zs) at last mark)
+      → (d : Done) (M : List (Label ℕ)) → stmtIn F S W W₁ base rt height z at ≡ ok d M
+      → Marking F S X base at (sizeStmt z) height R₁ W₁ R₂ W₂ K₂ r d M → m ≡ markOf (r .judgement)
+      → RunPart F S X base rt n s R W left parent (r .next) (r .scope) at m (i + 1) R₂ W₂ K₂ ss
+  part-more {R₂} {W₂} {K₂} {r} {m} e0 z zs h c sz j d M q v em =
+      let T : Tables = tablesOf F S in
+      let C : Context ℕ = contextOf (tablesOf F S) W base in
+      let Γ : Scope ℕ = scopeOf (tablesOf F S) W₁ base height in
+      let long : length M ≡ sizeStmt z = stmt-long T C rt z at Γ d M q in
+      let most : d .mark ≤ 1 = stmt-mark T C rt z at Γ d M q in
+      let is : m ≡ d .mark = em ∙ mark-is (r .judgement) (d .mark) most (v .mark) in
+      let both : length (p .labels ++ M) ≡ length (p .labels) + sizeStmt z = length-append (p .labels) M ∙ ap (λ k. length (p .labels) + k) long in
+      record {
+        labels = p .labels ++ M;
+        rest = zs;
+        stand = subst (λ k. StmtsStand T k zs) (sym (v .next)) (h .1);
+        counted = omega arith;
+        reached = omega (arith, v .next, p .reached, both);
+        closed = closed-append (p .closed) (stmt-closed T C rt z at Γ d M q);
+        sized = omega (arith, sz, both);
+        low = omega (arith, p .low, v .low);
+        high = omega (arith, p .high, v .high, both);
+        small = omega (arith, is, most);
+        after = subst (λ k. After F S X base (p .labels ++ M) n k s (r .scope) R W R₂ W₂ K₂) (sym both)
+            (after-then refl (p .closed) (p .low) (p .after)
+            (subst (λ k. After F S X base M k (sizeStmt z) height (r .scope) R₁ W₁ R₂ W₂ K₂) (p .reached) (v .after)));
+        ran = j ∙ ap (afterRun (p .labels)) (all-ok T C rt z zs at last mark Γ d M e0 q)
+            ∙ run-more (p .labels) M (executeAll T C rt zs (at + sizeStmt z) at (d .mark) (d .scope))
+            ∙ ap (λ k. afterRun (p .labels ++ M) (executeAll T C rt zs k at (d .mark) (d .scope))) (sym (v .next))
+            ∙ ap (λ k. afterRun (p .labels ++ M) (executeAll T C rt zs (r .next) at k (d .scope))) (sym is)
+            ∙ ap (λ Δ. afterRun (p .labels ++ M) (executeAll T C rt zs (r .next) at m Δ)) (sym (v .scope));
+      }
+
+  module _ (finished : left ≤ i) where
+    -- no statement is left
+    all-ran : allIn F S W W base rt s ss n parent 0 ≡ ok mark (p .labels)
+    unfolding executeAll
+    all-ran = p .ran ∙
+        on-none (λ zs. afterRun (p .labels) (allIn F S W W₁ base rt height zs at last mark) ≡ ok mark (p .labels))
+        (cc (append-nil (p .labels))) (p .rest) (omega (arith, p .counted))
+
+    all-sized : sizeStmts ss ≡ length (p .labels)
+    all-sized = p .sized ∙ on-none (λ zs. length (p .labels) + sizeStmts zs ≡ length (p .labels)) (omega arith) (p .rest) (omega (arith, p .counted))
+
+    part-running : {r : Judged} → r ≡ record { judgement = marked mark; next = at; scope = height }
+        → Running F S X base n (sizeStmts ss) s R W R₁ W₁ K₁ r mark (p .labels)
+    part-running {r} e =
+        let eh : r .scope ≡ height = ap (λ q. q .scope) e in
+        record {
+          mark = ap (λ q. q .judgement) e;
+          next = ap (λ q. q .next) e ∙ omega (arith, p .reached, all-sized);
+          low = subst (λ k. s ≤ k) (sym eh) (p .low);
+          after = subst (λ k. After F S X base (p .labels) n (sizeStmts ss) s k R W R₁ W₁ K₁) (sym eh)
+              (subst (λ k. After F S X base (p .labels) n k s height R W R₁ W₁ K₁) (sym all-sized) (p .after));
+        }
+
+module _ {F : List ℕ} {S : Sections} {X R W K : List ℕ} {base rt n s left parent : ℕ} (g : ReadyStmts F S X R W K base rt n s left) where
+  pub run-start : WalkedStmts F S X base rt n s R W left parent n s parent 0 0 R W K
+  run-start =
+      record {
+        part = λ ss h c. record {
+          labels = [];
+          rest = ss;
+          stand = h;
+          counted = omega arith;
+          reached = omega arith;
+          closed = closed-none;
+          sized = omega arith;
+          low = omega arith;
+          high = omega arith;
+          small = omega arith;
+          after = after-none n (g .fine);
+          ran = run-none _;
+        };
+      }
+
+  module _ {at height last mark i : ℕ} {R₁ W₁ K₁ : List ℕ} (w : WalkedStmts F S X base rt n s R W left parent at height last mark i R₁ W₁ K₁) where
+    so-far : RunPart F S X base rt n s R W left parent at height last mark i R₁ W₁ K₁ (g .trees)
+    so-far = w .part (g .trees) (g .stand) (g .counted)
+
+    -- for the measure
+    pub run-forward : n ≤ at
+    run-forward = omega (arith, so-far .reached)
+
+    pub run-most : i ≤ left
+    run-most = omega (arith, so-far .counted)
+
+    pub run-small : mark ≤ 1
+    run-small = so-far .small
+
+    pub run-low : s ≤ height
+    run-low = so-far .low
+
+    pub run-buffers : Fine F S X R₁ W₁ K₁ base height
+    run-buffers = so-far .after .fine
+
+    module _ (more : i < left) where
+      pub run-stops : {r : Judged} → (mark ≡ 0 → ⊥) → r .judgement ≡ Refused 14 last → ToldStmts F S X R W base rt n s left parent R₁ W₁ K₁ r
+      run-stops {r} f e = record { tells = λ ss h c. go ss (w .part ss h c) }
+        where
+          go : (ss : Stmts) → RunPart F S X base rt n s R W left parent at height last mark i R₁ W₁ K₁ ss
+              → Meets (Running F S X base n (sizeStmts ss) s R W R₁ W₁ K₁ r) r (allIn F S W W base rt s ss n parent 0)
+          go ss p =
+              subst (Meets (Running F S X base n (sizeStmts ss) s R W R₁ W₁ K₁ r) r)
+              (sym (p .ran
+              ∙ ap (afterRun (p .labels))
+              (on-some (λ zs. allIn F S W W₁ base rt height zs at last mark ≡ no 14 last)
+              (λ z zs. all-stops (tablesOf F S) (contextOf (tablesOf F S) W base) rt z zs at last mark (scopeOf (tablesOf F S) W₁ base height) f)
+              (p .rest) (omega (arith, p .counted, more)))))
+              (refuses 14 last e)
+
+      pub run-ready : ReadyStmt F S X R₁ W₁ K₁ base at height
+      run-ready =
+          on-some (λ zs. StmtsStand (tablesOf F S) at zs → height + sizeStmts zs ≤ S .«built_ins» + S .nodes → ReadyStmt F S X R₁ W₁ K₁ base at height)
+          (λ z zs h l. record {
+            fine = so-far .after .fine;
+            within = subst (λ k. at < k) (nodes-long F S) (stmt-within (tablesOf F S) at z (h .0));
+            tree = z;
+            stands = h .0;
+            room = omega arith;
+          })
+          (so-far .rest) (omega (arith, so-far .counted, more)) (so-far .stand) (omega (arith, so-far .sized, so-far .high, g .room))
+
+      pub run-asked : ReadyStmt F S X R₁ W₁ K₁ base at height × (rt < S .types)
+      run-asked = (run-ready, g .returned)
+
+      module _ (goes : mark ≡ 0) {R₂ W₂ K₂ : List ℕ} {r₁ : Judged} (m₁ : ToldStmt F S X R₁ W₁ base rt at height R₂ W₂ K₂ r₁) where
+        pub run-no : {p q : ℕ} → r₁ .judgement ≡ Refused p q → ToldStmts F S X R W base rt n s left parent R₂ W₂ K₂ r₁
+        run-no e = record { tells = λ ss h c. go ss (w .part ss h c) }
+          where
+            refusing : (ss : Stmts) (L : List (Label ℕ)) (z : Stmt) (zs : Stmts) (a b : ℕ) → stmtIn F S W W₁ base rt height z at ≡ no a b → r₁ .judgement ≡ Refused a b
+                → Meets (Running F S X base n (sizeStmts ss) s R W R₂ W₂ K₂ r₁) r₁ (afterRun L (allIn F S W W₁ base rt height (then z zs) at last mark))
+            refusing ss L z zs a b q j =
+                subst (λ o. Meets (Running F S X base n (sizeStmts ss) s R W R₂ W₂ K₂ r₁) r₁ (afterRun L o))
+                (sym (all-no (tablesOf F S) (contextOf (tablesOf F S) W base) rt z zs at last mark (scopeOf (tablesOf F S) W₁ base height) a b goes q)) (refuses a b j)
+
+            go : (ss : Stmts) → RunPart F S X base rt n s R W left parent at height last mark i R₁ W₁ K₁ ss
+                → Meets (Running F S X base n (sizeStmts ss) s R W R₂ W₂ K₂ r₁) r₁ (allIn F S W W base rt s ss n parent 0)
+            go ss p =
+                subst (Meets (Running F S X base n (sizeStmts ss) s R W R₂ W₂ K₂ r₁) r₁) (sym (p .ran))
+                (on-some (λ zs. StmtsStand (tablesOf F S) at zs
+                → Meets (Running F S X base n (sizeStmts ss) s R W R₂ W₂ K₂ r₁) r₁ (afterRun (p .labels) (allIn F S W W₁ base rt height zs at last mark)))
+                (λ z zs h.
+                let (a, b, q, j) = refusal-of _ (retell-stmt (p .after .same) (g .fine .above) m₁ z (h .0)) e (λ d L v. v .mark) in
+                refusing ss (p .labels) z zs a b q j)
+                (p .rest) (omega (arith, p .counted, more)) (p .stand))
+
+        pub run-again : {m : ℕ} → Unrefused r₁ → m ≡ markOf (r₁ .judgement)
+            → WalkedStmts F S X base rt n s R W left parent (r₁ .next) (r₁ .scope) at m (i + 1) R₂ W₂ K₂
+        run-again {m} u em = record { part = λ ss h c. go ss (w .part ss h c) }
+          where
+            go : (ss : Stmts) → RunPart F S X base rt n s R W left parent at height last mark i R₁ W₁ K₁ ss
+                → RunPart F S X base rt n s R W left parent (r₁ .next) (r₁ .scope) at m (i + 1) R₂ W₂ K₂ ss
+            go ss p =
+                on-some
+                (λ zs. StmtsStand (tablesOf F S) at zs → countStmts zs + i ≡ left → sizeStmts ss ≡ length (p .labels) + sizeStmts zs
+                → allIn F S W W base rt s ss n parent 0 ≡ afterRun (p .labels) (allIn F S W W₁ base rt height zs at last mark)
+                → RunPart F S X base rt n s R W left parent (r₁ .next) (r₁ .scope) at m (i + 1) R₂ W₂ K₂ ss)
+                (λ z zs h c sz j.
+                let (d, M, q, v) = part-of _ (retell-stmt (p .after .same) (g .fine .above) m₁ z (h .0)) u in
+                part-more p goes z zs h c sz j d M q v em)
+                (p .rest) (omega (arith, p .counted, more)) (p .stand) (p .counted) (p .sized) (p .ran)
+
+    module _ (finished : left ≤ i) {r : Judged} where
+      pub run-done : r ≡ record { judgement = marked mark; next = at; scope = height } → ToldStmts F S X R W base rt n s left parent R₁ W₁ K₁ r
+      run-done e =
+          record {
+            tells = λ ss h c.
+                let p = w .part ss h c in
+                subst (Meets (Running F S X base n (sizeStmts ss) s R W R₁ W₁ K₁ r) r) (sym (all-ran p finished)) (accepts mark (p .labels) (part-running p finished e));
+          }
+
+      pub run-told : {j : Judgement} → j ≡ marked mark → r ≡ record { judgement = j; next = at; scope = height }
+          → ToldStmts F S X R W base rt n s left parent R₁ W₁ K₁ r
+      run-told e er = run-done (er ∙ ap (λ j. record { judgement = j; next = at; scope = height }) e)
+
+  -- what accepted statements say
+  module _ {R₁ W₁ K₁ : List ℕ} {r : Judged} (told : ToldStmts F S X R W base rt n s left parent R₁ W₁ K₁ r) (u : Unrefused r) where
+    all-run : (p : ℕ) × (L : List (Label ℕ)) × (allIn F S W W base rt s (g .trees) n parent 0 ≡ ok p L)
+        × Running F S X base n (sizeStmts (g .trees)) s R W R₁ W₁ K₁ r p L
+    all-run = part-of _ (told .tells (g .trees) (g .stand) (g .counted)) u
+
+    pub run-fine : Fine F S X R₁ W₁ K₁ base (r .scope)
+    run-fine = all-run .3 .after .fine
+
+    pub run-higher : s ≤ r .scope
+    run-higher = all-run .3 .low
+
+    pub run-scoped : Scoped F S W₁ K₁ (r .scope)
+    run-scoped = run-fine .scoped

@@ -1,0 +1,73 @@
+-- The step and the block of a for. Assumes nothing.
+use mathlib.Core.Path.{_≡_, refl, ap, sym, subst, _∙_}
+use mathlib.Core.List.{List, []}
+use Prim.Native.Nat.{ℕ, _+_, _≤_, _<_}
+use native.Mathlib.Omega.{arith}
+use lib.Dec.{eqb}
+use Rattle.oat.specs.Tables.{Tables}
+use Rattle.oat.specs.Syntax.{Step, noStep, step, Block, sizeBlock}
+use Rattle.oat.specs.Nodes.{BlockStands}
+use Rattle.typing_rules.specs.Contexts.{Scope, Context}
+use Rattle.typing_rules.specs.Labels.{Label}
+use Rattle.typing_rules.specs.Judge.{ok, execute, executeStep}
+use Rattle.typing_rules.proofs.LawsInvert.{ok-is, then-ok, needs-ok}
+use Rattle.file_sections.specs.declared.Sections.{Sections}
+use Rattle.file_sections.specs.Layout.{tablesOf}
+use Rattle.file_sections.proofs.LawsRecords.{nodes-long}
+use Rattle.answers.specs.declared.answer.Judgement.the-variants.{GoesOn}
+use Rattle.answers.specs.declared.answer.Judged.{Judged}
+use Rattle.expressions.specs.Contract.{Fine, accepts}
+use Rattle.expressions.proofs.LawsMeets.{Unlisted}
+use Rattle.simple_statements.specs.Contract.{marked}
+use Rattle.simple_statements.proofs.LawsLabels.{step-long, block-head, block-within, size-step-one}
+use Rattle.statements.specs.Contract.{ReadyBlock, ToldBlock, ReadyStep, ToldStep, ReadyTurn, ToldTurn}
+use Rattle.statements.proofs.LawsBlocks.{part-ok, part-of, retell-block}
+use Rattle.statements.proofs.LawsBlock.{ready-block}
+use Rattle.statements.proofs.LawsThen.{goes-unrefused, part-never, part-last, head-plain, after-plain-then}
+
+-- an accepted step goes on
+pub step-mark : (T : Tables) (C : Context ℕ) (rt : ℕ) (z : Step) (n : ℕ) (Γ : Scope ℕ) (p : ℕ) (L : List (Label ℕ))
+    → executeStep T C rt z n Γ ≡ ok p L → p ≡ 0
+unfolding executeStep
+step-mark T C rt noStep n Γ p L j = ok-is (λ p L. p ≡ 0) j refl
+step-mark T C rt (step y) n Γ p L j =
+    then-ok (execute T C rt y n Γ) _ j λ d M i k.
+    needs-ok (eqb (d .mark) 0) _ _ _ k λ q k1.
+    ok-is (λ p L. p ≡ 0) k1 refl
+
+module _ {F : List ℕ} {S : Sections} {X R W K : List ℕ} {base rt n s : ℕ} (g : ReadyTurn F S X R W K base rt n s) where
+  pub turn-first : ReadyStep F S X R W K base rt n s
+  turn-first = record { fine = g .fine; within = g .within; returned = g .returned; tree = g .tree; stands = g .stands; room = omega (arith, g .room) }
+
+  module _ {R₁ W₁ K₁ : List ℕ} {r₁ : Judged} (m₁ : ToldStep F S X R W base rt n s R₁ W₁ K₁ r₁) where
+    pub turn-no : Unlisted r₁ → ToldTurn F S X R W base rt n s R₁ W₁ K₁ r₁
+    turn-no u =
+        record {
+          tells = λ z b h i.
+              part-never _ _ (λ p L q d. u .never (d .mark ∙ ap marked (step-mark _ _ rt z n _ p L q))) (m₁ .tells z h);
+        }
+
+    module _ (y₁ : r₁ .judgement ≡ GoesOn) where
+      pub turn-second : (n < r₁ .next) × ReadyBlock F S X R₁ W₁ K₁ base rt (r₁ .next) s
+      turn-second =
+          let (p, L, q, d) = part-of _ (m₁ .tells (g .tree) (g .stands)) (goes-unrefused y₁) in (
+            omega (arith, d .next, size-step-one (g .tree)),
+            ready-block (r₁ .next) (g .body) (d .after .fine) (g .returned) (subst (λ i. BlockStands (tablesOf F S) i (g .body)) (sym (d .next)) (g .stands-too))
+                (omega (arith, g .room)),
+          )
+
+      pub turn-told : {R₂ W₂ K₂ : List ℕ} {r₂ : Judged} → ToldBlock F S X R₁ W₁ base rt (r₁ .next) s R₂ W₂ K₂ r₂
+          → ToldTurn F S X R W base rt n s R₂ W₂ K₂ r₂
+      turn-told m₂ =
+          record {
+            tells = λ z b h i.
+                part-ok _ _ (goes-unrefused y₁) (m₁ .tells z h) λ p L q d.
+                part-last _ _ (retell-block (d .after .same) (g .fine .above) (d .next) m₂ b i) λ p₂ M q₂ d₂.
+                accepts _ _
+                (record {
+                  mark = d₂ .mark;
+                  next = d₂ .next ∙ omega arith;
+                  after = after-plain-then (step-long _ _ rt z n _ p L q) (head-plain M (block-head _ _ rt b _ _ p₂ M q₂ []))
+                      (omega arith) (d .after) (d₂ .after);
+                });
+          }

@@ -1,0 +1,90 @@
+-- While: condition, its sort, block; it may always go on. Assumes nothing.
+use mathlib.Core.Path.{_≡_, sym, subst, _∙_}
+use mathlib.Core.List.{List}
+use Prim.Native.Nat.{ℕ, _+_, _*_, _≤_, _<_}
+use native.Mathlib.Omega.{arith}
+use lib.ListN.{length}
+use borrow.Author.Tests.{eq-eqb, ne-eqb}
+use Rattle.oat.specs.Tables.{typeAt, nodeAt}
+use Rattle.oat.specs.Syntax.{sizeStmt}
+use Rattle.oat.specs.Nodes.{BlockStands}
+use Rattle.typing_rules.specs.Judge.{execute}
+use Rattle.file_sections.specs.declared.Sections.{Sections}
+use Rattle.file_sections.specs.Layout.{tablesOf}
+use Rattle.answers.specs.declared.answer.Judgement.the-variants.{Typed, Refused}
+use Rattle.answers.specs.declared.answer.Judged.{Judged}
+use Rattle.answers.specs.Answers.{withRow}
+use Rattle.expressions.specs.Contract.{accepts, Ready, Told}
+use Rattle.expressions.proofs.LawsMeets.{Untyped, stops, passes, child-no, child-ok}
+use Rattle.expressions.proofs.LawsAfter.{ready, typing-of, after-append}
+use Rattle.expressions.proofs.LawsLabels.{expr-long, expr-closed}
+use Rattle.simple_statements.specs.Contract.{marked, AnswersStmt, ReadyStmt, ToldStmt}
+use Rattle.simple_statements.proofs.LawsLabels.{on-while}
+use Rattle.simple_statements.proofs.LawsMarks.{mark-fits, rule-left}
+use Rattle.statements.specs.Contract.{ReadyBlock, ToldBlock}
+use Rattle.statements.proofs.LawsBlocks.{Unrefused, part-no, part-ok, part-of, retell-block}
+use Rattle.statements.proofs.LawsBlock.{ready-block}
+
+module _ {F : List ℕ} {S : Sections} {X R W K : List ℕ} {base n s : ℕ} (g : ReadyStmt F S X R W K base n s) (kind : nodeAt (tablesOf F S) n .kind ≡ 38) where
+  pub while-first : Ready F S X R W K base (n + 1) s
+  while-first =
+      on-while (λ z. s + sizeStmt z ≤ S .«built_ins» + S .nodes → Ready F S X R W K base (n + 1) s) (λ a b h l. ready (n + 1) a (g .fine) (h .1) (omega arith)) kind
+      (g .tree) (g .stands) (g .room)
+
+  module _ {R₁ W₁ K₁ : List ℕ} {r₁ : Judged} (m₁ : Told F S X R W base (n + 1) s R₁ W₁ K₁ r₁) where
+    pub while-no : {rt : ℕ} → Untyped r₁ → ToldStmt F S X R W base rt n s R₁ W₁ K₁ r₁
+    unfolding execute
+    while-no {rt} u = record { tells = on-while (AnswersStmt F S X R W base rt n s R₁ W₁ K₁ r₁) (λ a b h. child-no _ _ u (m₁ .tells a (h .1))) kind }
+
+    module _ {t k₁ : ℕ} (y₁ : r₁ .judgement ≡ Typed t) (e₁ : k₁ ≡ typeAt (tablesOf F S) t .kind) where
+      pub while-sort : {rt : ℕ} {r : Judged} → (k₁ ≡ 1 → ⊥) → r .judgement ≡ Refused 10 n → ToldStmt F S X R W base rt n s R₁ W₁ K₁ r
+      unfolding execute
+      while-sort {rt} {r} f e =
+          record {
+            tells = on-while (AnswersStmt F S X R W base rt n s R₁ W₁ K₁ r)
+                (λ a b h. child-ok _ _ t y₁ (m₁ .tells a (h .1)) λ L q p. stops _ 10 n _ (ne-eqb _ _ (λ i. f (e₁ ∙ i))) e) kind;
+          }
+
+      pub while-second : {rt : ℕ} → rt < S .types → (n < r₁ .next) × ReadyBlock F S X R₁ W₁ K₁ base rt (r₁ .next) s
+      while-second {rt} w =
+          on-while (λ z. s + sizeStmt z ≤ S .«built_ins» + S .nodes → (n < r₁ .next) × ReadyBlock F S X R₁ W₁ K₁ base rt (r₁ .next) s)
+          (λ a b h l.
+          let (L, q, p) = typing-of _ (m₁ .tells a (h .1)) y₁ in
+          (omega (arith, p .next), ready-block (r₁ .next) b (p .after .fine) w (subst (λ i. BlockStands (tablesOf F S) i b) (sym (p .next)) (h .2)) (omega arith))) kind
+          (g .tree) (g .stands) (g .room)
+
+      module _ (z₁ : k₁ ≡ 1) {rt : ℕ} {R₂ W₂ K₂ : List ℕ} {r₂ : Judged} (m₂ : ToldBlock F S X R₁ W₁ base rt (r₁ .next) s R₂ W₂ K₂ r₂) where
+        pub while-no-2 : {p q : ℕ} → r₂ .judgement ≡ Refused p q → ToldStmt F S X R W base rt n s R₂ W₂ K₂ r₂
+        unfolding execute
+        while-no-2 e =
+            record {
+              tells = on-while (AnswersStmt F S X R W base rt n s R₂ W₂ K₂ r₂)
+                  (λ a b h.
+                  child-ok _ _ t y₁ (m₁ .tells a (h .1)) λ L q p.
+                  passes _ 10 n _ (eq-eqb _ _ (sym e₁ ∙ z₁))
+                  (part-no _ _ (λ i M d. (i, d .mark)) e (retell-block (p .after .same) (g .fine .above) (p .next) m₂ b (h .2)))) kind;
+            }
+
+        module _ (u : Unrefused r₂) where
+          pub while-ends : (n * 2 + 1 < length R₂) × (n < 65536) × (0 ≤ 1)
+          while-ends =
+              on-while (λ z. (n * 2 + 1 < length R₂) × (n < 65536) × (0 ≤ 1))
+              (λ a b h.
+              let (L, q, p) = typing-of _ (m₁ .tells a (h .1)) y₁ in
+              let (i, M, q₂, d) = part-of _ (retell-block (p .after .same) (g .fine .above) (p .next) m₂ b (h .2)) u in
+              mark-fits (d .after .fine) (g .within) (omega arith)) kind (g .tree) (g .stands)
+
+          pub while-ok : {r : Judged} {R′ : List ℕ} → r ≡ record { judgement = marked 0; next = r₂ .next; scope = s } → R′ ≡ withRow R₂ n 0 65535
+              → ToldStmt F S X R W base rt n s R′ W₂ K₂ r
+          unfolding execute
+          while-ok {r} {R′} er eR =
+              record {
+                tells = on-while (AnswersStmt F S X R W base rt n s R′ W₂ K₂ r)
+                    (λ a b h.
+                    child-ok _ _ t y₁ (m₁ .tells a (h .1)) λ L q p.
+                    passes _ 10 n _ (eq-eqb _ _ (sym e₁ ∙ z₁))
+                    (part-ok _ _ u (retell-block (p .after .same) (g .fine .above) (p .next) m₂ b (h .2)) λ i M q₂ d.
+                    accepts _ _
+                    (rule-left (g .within) (after-append (expr-long _ _ a (n + 1) _ t L q) (expr-closed _ _ a (n + 1) _ t L q) (p .after) (d .after))
+                    er (d .next ∙ omega arith) (omega arith) eR))) kind;
+              }

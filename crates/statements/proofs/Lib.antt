@@ -1,0 +1,11 @@
+pub mod LawsBlocks
+pub mod LawsThen
+pub mod LawsRun
+pub mod LawsBlock
+pub mod LawsArms
+pub mod LawsIfs
+pub mod LawsStep
+pub mod LawsTurn
+pub mod LawsWhile
+pub mod LawsFor
+pub mod LawsStatement

@@ -1,0 +1,58 @@
+-- What `step` needs. Assumes nothing.
+use borrow.Author.Needs.{needs}
+use Prim.Native.Nat.{ℕ, _+_, _*_, _-_, _≤_, _<_}
+use native.Mathlib.Omega.{arith}
+use mathlib.Core.Path.{_≡_, refl, sym, _∙_}
+use Rattle.statements.proofs.cycle.+arms+block+for_loop+if_else+if_null+statement+statements+step+turn+while_loop.Lts-step as step-lts
+use Rattle.statements.proofs.cycle.statement.Reads as statement′
+use Rattle.statements.proofs.cycle.step.Reads as step
+use Rattle.answers.proofs.answer.refused.Reads as refused-reads
+use Rattle.bindings.proofs.leave.Reads as leave-reads
+use Rattle.file_sections.proofs.records.node_kind.Reads as node-kind-reads
+use Rattle.simple_statements.proofs.marks.ends.Reads as ends-reads
+use Rattle.simple_statements.proofs.marks.mark_of.Reads as mark-of-reads
+use Rattle.statements.proofs.cycle.+arms+block+for_loop+if_else+if_null+statement+statements+step+turn+while_loop.Proof.Measures.{step-at, statement-below}
+use Rattle.statements.proofs.LawsBlocks.{unrefused}
+use Rattle.statements.proofs.LawsStep.{step-node, step-fits, step-absent, step-first, step-no, step-returns, step-leaves, step-ok}
+
+abbrev claims : ℕ → step-lts.Claims
+claims t = (node-kind-reads.Asked, node-kind-reads.Learnt, ends-reads.Asked, ends-reads.Learnt, statement-below t, statement′.Post, mark-of-reads.Asked, mark-of-reads.Learnt, refused-reads.Asked, refused-reads.Learnt, leave-reads.Asked, leave-reads.Learnt)
+
+node-kind-requires : (t : ℕ) → step-lts.Need-node-kind-requires (claims t) (step-at t) step.Post
+node-kind-requires t c κs = step-node (c .before .before .before .before .before .pre .1)
+
+add-ends : (t : ℕ) → step-lts.Need-add-ends (claims t) (step-at t) step.Post
+add-ends t c = omega (arith, (c .before .before .before .before .before .before .before .before .pre .1) .within, (c .before .before .before .before .before .before .before .before .pre .1) .fine .readable .laid .nodes-most)
+
+ends-requires : (t : ℕ) → step-lts.Need-ends-requires (claims t) (step-at t) step.Post
+ends-requires t c κs = step-fits (c .before .before .before .before .before .before .before .before .pre .1)
+
+returns : (t : ℕ) → step-lts.Need-returns (claims t) (step-at t) step.Post
+returns t c = step-absent (c .before .before .before .before .before .before .before .before .before .before .before .pre .1) (c .before .before .before .before .before .node-kind .ensures .0) (c .before .before .before .before .if1 .taken) (c .before .before .ends .ensures .0) (c .before .before .ends .ensures .1)
+
+statement-requires : (t : ℕ) → step-lts.Need-statement-requires (claims t) (step-at t) step.Post
+statement-requires t c κs = (omega (arith, c .before .before .before .before .before .before .before .before .before .before .pre .0), step-first (c .before .before .before .before .before .before .before .before .before .before .pre .1) (c .before .before .before .before .node-kind .ensures .0) (c .before .before .before .if1 .left))
+
+returns-2 : (t : ℕ) → step-lts.Need-returns-2 (claims t) (step-at t) step.Post
+returns-2 t c = step-no (c .before .before .before .before .before .before .before .before .before .before .before .before .before .before .before .before .before .before .before .pre .1) (c .before .before .before .before .before .before .before .before .before .before .before .before .before .node-kind .ensures .0) (c .before .before .before .before .before .before .before .before .before .before .before .before .if1 .left) (c .before .before .before .before .before .before .before .before .statement .ensures) (c .enum-told .given .1)
+
+returns-3 : (t : ℕ) → step-lts.Need-returns-3 (claims t) (step-at t) step.Post
+returns-3 t c = step-returns (c .before .before .before .before .before .before .before .before .before .before .before .before .before .before .before .before .before .before .before .before .before .pre .1) (c .before .before .before .before .before .before .before .before .before .before .before .before .before .before .before .node-kind .ensures .0) (c .before .before .before .before .before .before .before .before .before .before .before .before .before .before .if1 .left) (c .before .before .before .before .before .before .before .before .before .before .statement .ensures) (unrefused _ (c .before .before .before .match .keys2)) (c .before .before .mark-of .ensures .0) (c .before .if2 .taken) (c .refused .ensures)
+
+leave-requires : (t : ℕ) → step-lts.Need-leave-requires (claims t) (step-at t) step.Post
+leave-requires t c κs = step-leaves (c .before .before .before .before .before .before .before .before .before .before .before .before .before .before .before .before .before .before .before .before .before .before .pre .1) (c .before .before .before .before .before .before .before .before .before .before .before .before .before .before .before .before .node-kind .ensures .0) (c .before .before .before .before .before .before .before .before .before .before .before .before .before .before .before .if1 .left) (c .before .before .before .before .before .before .before .before .before .before .before .statement .ensures) (unrefused _ (c .before .before .before .before .match .keys2))
+
+same-length-8 : (t : ℕ) → step-lts.Need-same-length-8 (claims t) (step-at t) step.Post
+same-length-8 t c = omega (arith, c .before .before .before .before .before .before .before .before .before .before .before .before .before .before .statement, c .before .before .leave)
+
+same-length-9 : (t : ℕ) → step-lts.Need-same-length-9 (claims t) (step-at t) step.Post
+same-length-9 t c = omega (arith, c .before .before .before .before .before .before .before .before .before .before .before .before .before .before .statement, c .before .before .leave)
+
+same-length-10 : (t : ℕ) → step-lts.Need-same-length-10 (claims t) (step-at t) step.Post
+same-length-10 t c = omega (arith, c .before .before .before .before .before .before .before .before .before .before .before .before .before .before .statement, c .before .before .leave)
+
+returns-4 : (t : ℕ) → step-lts.Need-returns-4 (claims t) (step-at t) step.Post
+returns-4 t c = step-ok (c .before .before .before .before .before .before .before .before .before .before .before .before .before .before .before .before .before .before .before .before .before .before .before .before .before .pre .1) (c .before .before .before .before .before .before .before .before .before .before .before .before .before .before .before .before .before .before .before .node-kind .ensures .0) (c .before .before .before .before .before .before .before .before .before .before .before .before .before .before .before .before .before .before .if1 .left) (c .before .before .before .before .before .before .before .before .before .before .before .before .before .before .statement .ensures) (unrefused _ (c .before .before .before .before .before .before .before .match .keys2)) (c .before .before .before .before .before .before .mark-of .ensures .0) (c .before .before .before .before .before .if2 .left) (c .before .before .leave .ensures) refl
+
+pub closed : {M : Type 1} (t : ℕ) → step-lts.Closed (claims t) (step-at t) step.Post M
+closed t = step-lts.spec (claims t) (step-at t) step.Post (node-kind-requires t) (add-ends t) (ends-requires t) (λ c. search needs) (returns t) (statement-requires t) (λ c. search needs) (λ c. search needs) (λ c. search needs) (λ c. search needs) (returns-2 t) (λ c κs. search needs) (λ c κs. search needs) (λ c. search needs) (λ c. search needs) (λ c. search needs) (returns-3 t) (leave-requires t) (same-length-8 t) (same-length-9 t) (same-length-10 t) (returns-4 t)
