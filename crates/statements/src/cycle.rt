@@ -427,7 +427,7 @@ fn for_loop(
     let Judgement::GoesOn = first else {
         return one;
     };
-    let inner = one.scope;
+    let height = one.scope;
     let two = condition(
         file,
         sections,
@@ -437,7 +437,7 @@ fn for_loop(
         chains,
         base,
         one.next,
-        inner,
+        height,
         node,
     );
     let second = two.judgement;
@@ -454,13 +454,13 @@ fn for_loop(
         base,
         result,
         two.next,
-        inner,
+        height,
     );
     let third = three.judgement;
     if let Judgement::Refused(_, _) = third {
         return three;
     }
-    leave(file, sections, &*work, chains, inner, scope);
+    leave(file, sections, &*work, chains, height, scope);
     ends(rows, node, 0, three.next, scope)
 }
 
