@@ -2,7 +2,6 @@
 use mathlib.Core.Path.{_≡_, refl, sym, subst, _∙_}
 use mathlib.Core.Bool.{Bool, true, false, _||_}
 use mathlib.Core.List.{List}
-use mathlib.Core.Logic.{_⊎_, inl, inr}
 use Prim.Native.Nat.{ℕ, _+_, _≤_, _<_}
 use native.Mathlib.Omega.{arith}
 use lib.Dec.{eqb, leb}
@@ -11,9 +10,8 @@ use Rattle.oat.specs.Basics.{pick}
 use Rattle.oat.specs.Tables.{nodeAt}
 use Rattle.typing_rules.specs.Operators.{isEquality, operandType, resultType}
 use Rattle.file_sections.specs.declared.Sections.{Sections}
-use Rattle.file_sections.specs.Layout.{Has, tablesOf}
+use Rattle.file_sections.specs.Layout.{tablesOf}
 use Rattle.expressions.specs.Contract.{Ready}
-use Rattle.expressions.proofs.LawsChild.{has-node}
 use Rattle.expressions.proofs.LawsShape.{on-binary, expr-kind}
 
 -- a number that is not the lowest is above it
@@ -38,9 +36,6 @@ last-kind k l m f22 f10 r f15 f16 f17 f18 f19 f20 f21 f23 f24 f25 =
 
 -- the kind of an expression that is ready, as the dispatcher reads it
 module _ {F : List ℕ} {S : Sections} {X R W K : List ℕ} {base n s : ℕ} (g : Ready F S X R W K base n s) where
-  pub ready-node : Has F S n (S .nodes)
-  ready-node = has-node (g .fine .readable) (g .within)
-
   module _ {k : ℕ} (ek : k ≡ nodeAt (tablesOf F S) n .kind) where
     pub kind-at : {i : ℕ} → k ≡ i → nodeAt (tablesOf F S) n .kind ≡ i
     kind-at e = sym ek ∙ e
@@ -61,26 +56,16 @@ module _ {F : List ℕ} {S : Sections} {X R W K : List ℕ} {base n s : ℕ} (g 
     pub literal-to : k < 15 → nodeAt (tablesOf F S) n .kind ≤ 14
     literal-to h = subst (λ i. i ≤ 14) ek (omega arith)
 
-    pub literal-kinds : 11 ≤ k → k < 15 → (11 ≤ nodeAt (tablesOf F S) n .kind) × (nodeAt (tablesOf F S) n .kind ≤ 14)
-    literal-kinds a b = (literal-from a, literal-to b)
-
     -- the last arm
     pub binary-kind : (k ≡ 10 → ⊥) → (11 ≤ k → 14 < k) → (k ≡ 15 → ⊥) → (k ≡ 16 → ⊥) → (k ≡ 17 → ⊥) → (k ≡ 18 → ⊥) → (k ≡ 19 → ⊥)
         → (k ≡ 20 → ⊥) → (k ≡ 21 → ⊥) → (k ≡ 23 → ⊥) → (k ≡ 24 → ⊥) → (k ≡ 25 → ⊥) → nodeAt (tablesOf F S) n .kind ≡ 26
     binary-kind f10 r f15 f16 f17 f18 f19 f20 f21 f23 f24 f25 =
         kind-at (last-kind k kind-low kind-high kind-gap f10 r f15 f16 f17 f18 f19 f20 f21 f23 f24 f25)
 
-    -- below the range of literals there is no kind but 10
-    pub kind-none : {A : Type 0} → (k ≡ 10 → ⊥) → k < 11 → A
-    kind-none f h = absurd (f (omega (arith, kind-low)))
-
   -- the operator of a binary expression
   module _ (kind : nodeAt (tablesOf F S) n .kind ≡ 26) where
     pub operator-low : nodeAt (tablesOf F S) n .x ≤ 15
     operator-low = on-binary (λ e. nodeAt (tablesOf F S) n .x ≤ 15) (λ x a b h. subst (λ i. i ≤ 15) (sym (h .0 .x-is)) (h .1)) kind (g .tree) (g .stands)
-
-    pub operator-read : {x₁ : ℕ} → x₁ ≡ nodeAt (tablesOf F S) n .x → x₁ ≤ 15
-    operator-read e = subst (λ i. i ≤ 15) (sym e) operator-low
 
 -- the operators by their numbers
 module _ (x : ℕ) where
@@ -124,10 +109,6 @@ module _ {x y : ℕ} (e : x ≡ y) where
 
   pub ints-high : 14 ≤ x → (isEquality y ≡ false) × (operandType y ≡ 0) × (resultType y ≡ 0)
   ints-high h = subst (λ i. Operates i 0 0) e (no-equality x (λ i. omega arith) (λ i. omega arith), of-ints x (λ i. omega arith) (λ i. omega arith), to-int-high x h)
-
-  pub ints-to-int : (x ≤ 5) ⊎ ((14 ≤ x) × (x ≤ 15)) → (isEquality y ≡ false) × (operandType y ≡ 0) × (resultType y ≡ 0)
-  ints-to-int (inl h) = ints-low (omega arith)
-  ints-to-int (inr h) = ints-high (h .0)
 
   -- 6..=9
   pub ints-to-bool : 6 ≤ x → x < 10 → (isEquality y ≡ false) × (operandType y ≡ 0) × (resultType y ≡ 1)

@@ -151,9 +151,6 @@ module _ {F : List ℕ} {S : Sections} {X R W K : List ℕ} {base n s m : ℕ} (
                       }));
                 }
 
-            pub filling-same : {r : Judged} → not b₁ ≡ false → r ≡ record { judgement = r₁ .judgement; next = r₁ .next; scope = s } → ToldFilling F S X R W base n s m R₂ W₂ K₃ r
-            filling-same f er = filling-ok f (er ∙ ap (λ j. record { judgement = j; next = r₁ .next; scope = s }) y)
-
 -- a value and its test, as a part of what comes after
 fills-then : {A B : Type 0} (o : Out A) (t : A → Bool) (p q : ℕ) (k : A → List (Label ℕ) → Out B)
     → andThen (andThen o λ v M. needs (t v) p q (ok v M)) k ≡ andThen o λ v M. needs (t v) p q (k v M)
@@ -226,14 +223,6 @@ module _ {F : List ℕ} {S : Sections} {X R W K : List ℕ} {base n s : ℕ} (g 
           room = omega (arith, l, size-one a);
         }) kind
         (g .tree) (g .stands) (g .room)
-
-    pub filled-second : (n < r₁ .next) × ReadyFilling F S X R₁ W₁ K₁ base n s (r₁ .next)
-    filled-second = (filled-filling .after-node, filled-filling)
-
-    pub filled-child : u < S .types
-    filled-child =
-        on-filled (λ e. u < S .types)
-        (λ t x a b h. typing-of _ (m₁ .tells a (h .2)) y₁ .2 .within) kind (g .tree) (g .stands)
 
   module _ {t₁ : ℕ} (et : t₁ ≡ nodeAt (tablesOf F S) n .t) where
     pub filled-within : t₁ < S .types

@@ -213,12 +213,6 @@ module _ {F : List ℕ} {S : Sections} {X R W K : List ℕ} {base n s left owner
     pub inits-forward : n ≤ m
     inits-forward = omega (arith, so-far .reached)
 
-    pub inits-most : i ≤ left
-    inits-most = omega (arith, so-far .counted)
-
-    pub inits-fine : Fine F S X R₁ W₁ K₁ base s
-    inits-fine = so-far .after .fine
-
     module _ (more : i < left) where
       pub inits-here : m < S .nodes
       inits-here =

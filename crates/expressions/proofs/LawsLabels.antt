@@ -207,16 +207,6 @@ module _ (T : Tables) (C : Context ℕ) where
   pub list-long : (es : Exprs) (n : ℕ) (Γ : Scope ℕ) (ts : List ℕ) (L : List (Label ℕ)) → judges T C es n Γ ≡ ok ts L → length L ≡ sizes es
   list-long es n Γ ts L j = list-run es n Γ ts L j .long
 
-  pub list-closed : (es : Exprs) (n : ℕ) (Γ : Scope ℕ) (ts : List ℕ) (L : List (Label ℕ)) → judges T C es n Γ ≡ ok ts L → Closed L
-  list-closed es n Γ ts L j = list-run es n Γ ts L j .closed
-
-  -- field initializers
-  pub inits-long : (is : Inits) (n : ℕ) (Γ : Scope ℕ) (ts : List ℕ) (L : List (Label ℕ)) → judgeInits T C is n Γ ≡ ok ts L → length L ≡ sizeInits is
-  inits-long is n Γ ts L j = inits-labels is n Γ ts L j .long
-
-  pub inits-closed : (is : Inits) (n : ℕ) (Γ : Scope ℕ) (ts : List ℕ) (L : List (Label ℕ)) → judgeInits T C is n Γ ≡ ok ts L → Closed L
-  inits-closed is n Γ ts L j = inits-labels is n Γ ts L j .closed
-
 -- a row among the labels L, and among more labels
 row-more : (r : Result ℕ) (L M : List (Label ℕ)) → (lastResult r L ≡ nothing → nextResult M ≡ 0) → rowResult r L ≡ rowResult r (L ++ M)
 unfolding lastResult
@@ -244,7 +234,3 @@ rows-join R n L M h p q = rows-after R n (marks 0) L M h p q
 pub rows-append : (R : List ℕ) (n : ℕ) (L M : List (Label ℕ)) → Closed L
     → RowsAt R n L → RowsAt R (n + length L) M → RowsAt R n (L ++ M)
 rows-append R n L M c p q = rows-join R n L M (λ e. absurd (c .last e)) p q
-
-pub rows-append-plain : (R : List ℕ) (n : ℕ) (L M : List (Label ℕ)) → nextResult M ≡ 0
-    → RowsAt R n L → RowsAt R (n + length L) M → RowsAt R n (L ++ M)
-rows-append-plain R n L M h p q = rows-join R n L M (λ e. h) p q

@@ -14,7 +14,6 @@ use Rattle.typing_rules.specs.Labels.{Label}
 use Rattle.typing_rules.specs.Judge.{Out, ok, no, andThen, needs, isBelow, eachBelow, argumentsBelow, judge, judges}
 use Rattle.file_sections.specs.declared.Sections.{Sections}
 use Rattle.file_sections.specs.Layout.{tablesOf}
-use Rattle.file_sections.proofs.LawsRecords.{nodes-long}
 use Rattle.type_index.specs.Index.{Indexed, Readable}
 use Rattle.bindings.specs.Bindings.{scopeOf}
 use Rattle.answers.specs.declared.answer.Judgement.the-variants.{Typed, GoesOn, Refused}
@@ -26,7 +25,6 @@ use Rattle.expressions.specs.Contract.{contextOf, Fine, After, Typing, L
 use Rattle.expressions.proofs.LawsMeets.{Untyped, stops, passes}
 use Rattle.expressions.proofs.LawsAfter.{ready, typing-of, retell, after-none, after-append}
 use Rattle.expressions.proofs.LawsChild.{child-within}
-use Rattle.expressions.proofs.LawsShape.{list-end}
 use Rattle.expressions.proofs.LawsLabels.{Closed, closed-none, closed-append, expr-long, expr-closed}
 
 -- the definition in the scope and the context of the buffers
@@ -220,9 +218,6 @@ module _ {F : List ℕ} {S : Sections} {X R W K : List ℕ} {base n s left : ℕ
     pub list-most : i ≤ left
     list-most = omega (arith, so-far .counted)
 
-    pub list-fine : Fine F S X R₁ W₁ K₁ base s
-    list-fine = so-far .after .fine
-
     module _ (more : i < left) where
       pub list-ready : Ready F S X R₁ W₁ K₁ base m s
       list-ready =
@@ -303,8 +298,3 @@ module _ {F : List ℕ} {S : Sections} {X R W K : List ℕ} {base n s left : ℕ
     (told : ToldList F S X R W base n s left x parent R₁ W₁ K₁ r) (y : r .judgement ≡ GoesOn) where
   pub listed-fine : Fine F S X R₁ W₁ K₁ base s
   listed-fine = let (ts, L, q, p) = listing-of _ (told .tells (g .trees) (g .stand) (g .counted)) y in p .after .fine
-
-  pub listed-next : (n ≤ r .next) × (r .next ≤ S .nodes)
-  listed-next =
-      let (ts, L, q, p) = listing-of _ (told .tells (g .trees) (g .stand) (g .counted)) y in
-      (omega (arith, p .next), omega (arith, p .next, list-end (tablesOf F S) n (g .trees) (g .stand) (subst (λ k. n ≤ k) (sym (nodes-long F S)) (g .within)), nodes-long F S))

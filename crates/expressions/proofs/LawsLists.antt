@@ -12,13 +12,12 @@ use Rattle.oat.specs.Tables.{Tables, typeAt, nodeAt}
 use Rattle.oat.specs.Types.{Field, structOf, Lookup, found, missing, lookup}
 use Rattle.oat.specs.Syntax.{Expr, arrayLiteral, structLiteral, call, size, Exprs, sizes, count, Inits, noInit, init, sizeInits, countInits}
 use Rattle.oat.specs.Nodes.{Stands, StandAll, InitsStand}
-use Rattle.oat.proofs.LawsTypes.{types-formed}
 use Rattle.oat.proofs.LawsTables.{has-kind}
 use Rattle.typing_rules.specs.Labels.{Label}
 use Rattle.typing_rules.specs.Judge.{Out, ok, no, andThen, needs, onDeclared, plain, referred, formed, eachBelow, argumentsBelow, judge}
 use Rattle.file_sections.specs.declared.Sections.{Sections}
 use Rattle.file_sections.specs.Layout.{Has, tablesOf}
-use Rattle.file_sections.proofs.LawsRecords.{nodes-long, types-long, list-long, structs-long, built-ins-long}
+use Rattle.file_sections.proofs.LawsRecords.{nodes-long, structs-long, built-ins-long}
 use Rattle.type_index.specs.Index.{declared, recordOf, structNamed}
 use Rattle.type_index.proofs.LawsIndex.{lookup-is}
 use Rattle.bindings.specs.Bindings.{entryOf, scopeOf, Same}
@@ -323,9 +322,6 @@ module _ {F : List ℕ} {S : Sections} {X R W K : List ℕ} {base n s : ℕ} (g 
 
   pub struct-within : t < S .types
   struct-within = struct-kind .0
-
-  pub struct-entry : 512 + t < length X
-  struct-entry = omega (arith, struct-within, g .fine .readable .laid .types-most, g .fine .indexed .long)
 
   -- names are kept above the scope's entries
   pub struct-low : S .«built_ins» ≤ s

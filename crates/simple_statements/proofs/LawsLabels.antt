@@ -19,7 +19,7 @@ use Rattle.typing_rules.specs.Judge.{ok, markedAs, isKind, referred, isBelow, a
 use Rattle.typing_rules.specs.Check.{nextResult}
 use Rattle.typing_rules.proofs.LawsInvert.{ok-is, then-ok, needs-ok}
 use Rattle.expressions.proofs.LawsLabels.{lastResult, last-append, Closed, closed-append, closed-marked, Run, run-none, run-append, expr-run, list-run}
-use Rattle.expressions.proofs.LawsShape.{size-one, stands-within, stands-end, list-end}
+use Rattle.expressions.proofs.LawsShape.{stands-within, stands-end, list-end}
 
 -- there are labels, and the last gives something
 record Ended (L : List (Label ℕ)) : Type 0 where
@@ -231,10 +231,6 @@ module _ (T : Tables) (C : Context ℕ) where
     pub stmt-mark : (s : Stmt) (n : ℕ) (Γ : Scope ℕ) (d : Done) (L : List (Label ℕ)) → execute T C rt s n Γ ≡ ok d L → d .mark ≤ 1
     stmt-mark s n Γ d L j = mark-marked (stmt-labels s n Γ d L j)
 
-    pub stmt-head : (s : Stmt) (n : ℕ) (Γ : Scope ℕ) (d : Done) (L : List (Label ℕ)) → execute T C rt s n Γ ≡ ok d L
-        → (M : List (Label ℕ)) → nextResult (L ++ M) ≡ 0
-    stmt-head s n Γ d L j M = head-marked (stmt-labels s n Γ d L j) M
-
     -- the step of a for
     pub step-long : (s : Step) (n : ℕ) (Γ : Scope ℕ) (p : ℕ) (L : List (Label ℕ)) → executeStep T C rt s n Γ ≡ ok p L → length L ≡ sizeStep s
     step-long s n Γ p L j = step-labels s n Γ p L j .long
@@ -256,14 +252,6 @@ module _ (T : Tables) (C : Context ℕ) where
     pub block-head : (b : Block) (n : ℕ) (Γ : Scope ℕ) (p : ℕ) (L : List (Label ℕ)) → executeBlock T C rt b n Γ ≡ ok p L
         → (M : List (Label ℕ)) → nextResult (L ++ M) ≡ 0
     block-head b n Γ p L j M = head-marked (block-labels b n Γ p L j) M
-
-    -- statements
-    pub all-long : (ss : Stmts) (n last p : ℕ) (Γ : Scope ℕ) (q : ℕ) (L : List (Label ℕ)) → executeAll T C rt ss n last p Γ ≡ ok q L
-        → length L ≡ sizeStmts ss
-    all-long ss n last p Γ q L j = all-labels ss n last p Γ q L j .run .long
-
-    pub all-closed : (ss : Stmts) (n last p : ℕ) (Γ : Scope ℕ) (q : ℕ) (L : List (Label ℕ)) → executeAll T C rt ss n last p Γ ≡ ok q L → Closed L
-    all-closed ss n last p Γ q L j = all-labels ss n last p Γ q L j .run .closed
 
     pub all-mark : (ss : Stmts) (n last p : ℕ) (Γ : Scope ℕ) (q : ℕ) (L : List (Label ℕ)) → executeAll T C rt ss n last p Γ ≡ ok q L → p ≤ 1 → q ≤ 1
     all-mark ss n last p Γ q L j h = all-labels ss n last p Γ q L j .mark h
@@ -404,10 +392,6 @@ size-stmt-one (while a b) = omega arith
 pub size-block-one : (b : Block) → 1 ≤ sizeBlock b
 size-block-one (block ss) = omega arith
 
-pub size-condition-one : (c : Condition) → 1 ≤ sizeCondition c
-size-condition-one noCondition = omega arith
-size-condition-one (condition a) = size-one a
-
 pub size-step-one : (s : Step) → 1 ≤ sizeStep s
 size-step-one noStep = omega arith
 size-step-one (step s) = size-stmt-one s
@@ -440,10 +424,6 @@ module _ (T : Tables) where
   vars-end n noVar h k = omega arith
   vars-end n (nextVar x a vs) h k = omega (arith, vars-end (n + 1 + size a) vs (h .2) (stands-end T (n + 1) a (h .1)))
 
-  pub condition-end : (n : ℕ) (c : Condition) → ConditionStands T n c → n + sizeCondition c ≤ length (T .nodes)
-  condition-end n noCondition h = omega (arith, h .within)
-  condition-end n (condition a) h = stands-end T n a h
-
   mutual
     pub stmt-end : (n : ℕ) (z : Stmt) → StmtStands T n z → n + sizeStmt z ≤ length (T .nodes)
     stmt-end n (assign g a) h = omega (arith, stands-end T (n + 1 + sizeTarget g) a (h .2))
@@ -455,10 +435,6 @@ module _ (T : Tables) where
     stmt-end n (ifNull x t a b c) h = omega (arith, block-end (n + 1 + size a + sizeBlock b) c (h .4))
     stmt-end n (for vs q s b) h = omega (arith, block-end (n + 1 + sizeVars vs + sizeCondition q + sizeStep s) b (h .4))
     stmt-end n (while a b) h = omega (arith, block-end (n + 1 + size a) b (h .2))
-
-    pub step-end : (n : ℕ) (s : Step) → StepStands T n s → n + sizeStep s ≤ length (T .nodes)
-    step-end n noStep h = omega (arith, h .within)
-    step-end n (step s) h = stmt-end n s h
 
     pub block-end : (n : ℕ) (b : Block) → BlockStands T n b → n + sizeBlock b ≤ length (T .nodes)
     block-end n (block ss) h = omega (arith, stmts-end (n + 1) ss (h .1) (omega (arith, h .0 .within)))

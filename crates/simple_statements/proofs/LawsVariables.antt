@@ -78,11 +78,6 @@ module _ {F : List ℕ} {S : Sections} {X : List ℕ} {base n k s : ℕ} {R W R�
   marking-of o (accepts d L p) y = (d, L, refl, p)
   marking-of o (refuses p q e) y = absurd (let z : _≡_ {A = ℕ} 0 1 = cc in omega arith)
 
-  pub declaring-of : (o : Out (Scope ℕ)) → Meets (Declaring F S X base n k s R W R₁ W₁ K₁ r) r o → r .judgement ≡ GoesOn
-      → (Δ : Scope ℕ) × (L : List (Label ℕ)) × (o ≡ ok Δ L) × Declaring F S X base n k s R W R₁ W₁ K₁ r Δ L
-  declaring-of o (accepts Δ L p) y = (Δ, L, refl, p)
-  declaring-of o (refuses p q e) y = absurd (let z : _≡_ {A = ℕ} 0 1 = cc in omega arith)
-
 -- the outcome of the vars after those so far
 abbrev afterThose : List (Label ℕ) → Out (Scope ℕ) → Out (Scope ℕ)
 afterThose L o = andThen o λ Δ M. ok Δ (L ++ M)

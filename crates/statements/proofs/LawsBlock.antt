@@ -109,8 +109,5 @@ module _ {F : List ℕ} {S : Sections} {X R W K : List ℕ} {base rt n s : ℕ} 
         × Blocking F S X base n (sizeBlock (g .tree)) s R W R₁ W₁ K₁ r p L
     blocked = part-of _ (told .tells (g .tree) (g .stands)) u
 
-    pub block-fine : Fine F S X R₁ W₁ K₁ base s
-    block-fine = blocked .3 .after .fine
-
     pub block-next : r .next ≡ n + sizeBlock (g .tree)
     block-next = blocked .3 .next

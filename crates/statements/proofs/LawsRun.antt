@@ -184,17 +184,8 @@ module _ {F : List ℕ} {S : Sections} {X R W K : List ℕ} {base rt n s left pa
     pub run-forward : n ≤ at
     run-forward = omega (arith, so-far .reached)
 
-    pub run-most : i ≤ left
-    run-most = omega (arith, so-far .counted)
-
-    pub run-small : mark ≤ 1
-    run-small = so-far .small
-
     pub run-low : s ≤ height
     run-low = so-far .low
-
-    pub run-buffers : Fine F S X R₁ W₁ K₁ base height
-    run-buffers = so-far .after .fine
 
     module _ (more : i < left) where
       pub run-stops : {r : Judged} → (mark ≡ 0 → ⊥) → r .judgement ≡ Refused 14 last → ToldStmts F S X R W base rt n s left parent R₁ W₁ K₁ r

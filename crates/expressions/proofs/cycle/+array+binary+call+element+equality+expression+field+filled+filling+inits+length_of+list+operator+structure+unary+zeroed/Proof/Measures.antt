@@ -1,4 +1,4 @@
--- The measures of the cycle: four for each remaining node, and a rank for calls at the same node. Assumes nothing.
+-- The measures of the cycle: a multiple of the remaining nodes, and a rank for calls at the same node. Assumes nothing.
 use Prim.Native.Nat.{ℕ, _+_, _*_, _-_, _<_}
 use borrow.Fn.Kinds.{In}
 use borrow.Fn.PlainCycle.{Measures, is, falls, and}

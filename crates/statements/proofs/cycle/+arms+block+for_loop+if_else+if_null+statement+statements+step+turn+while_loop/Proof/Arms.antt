@@ -22,7 +22,7 @@ returns : (t : ℕ) → arms-lts.Need-returns (claims t) (arms-at t) arms.Post
 returns t c = arms-no (c .before .before .before .before .before .before .before .before .before .before .before .before .before .before .before .before .before .pre .1) (c .before .before .before .before .before .before .before .before .block .ensures) (c .enum-told .given .1)
 
 leave-requires : (t : ℕ) → arms-lts.Need-leave-requires (claims t) (arms-at t) arms.Post
-leave-requires t c κs = arms-left (c .before .before .before .before .before .before .before .before .before .before .before .before .before .before .before .before .before .before .pre .1) (c .before .before .before .before .before .before .before .before .before .block .ensures) (unrefused _ (c .before .before .match .keys2))
+leave-requires t c κs = let l = arms-left (c .before .before .before .before .before .before .before .before .before .before .before .before .before .before .before .before .before .before .pre .1) (c .before .before .before .before .before .before .before .before .before .block .ensures) (unrefused _ (c .before .before .match .keys2)) in (l .0, omega (arith, l .1))
 
 block-requires-2 : (t : ℕ) → arms-lts.Need-block-requires-2 (claims t) (arms-at t) arms.Post
 block-requires-2 t c κs = let g = arms-asked (c .before .before .before .before .before .before .before .before .before .before .before .before .before .before .before .before .before .before .before .before .before .before .before .before .pre .1) (c .before .before .before .before .before .before .before .before .before .before .before .before .before .before .before .block .ensures) (unrefused _ (c .before .before .before .before .before .before .before .before .match .keys2)) (c .before .before .before .before .before .leave .ensures) in (omega (arith, g .0, c .before .before .before .before .before .before .before .before .before .before .before .before .before .before .before .before .before .before .before .before .before .before .before .before .pre .0, (c .before .before .before .before .before .before .before .before .before .before .before .before .before .before .before .before .before .before .before .before .before .before .before .before .pre .1) .within), g .1)
