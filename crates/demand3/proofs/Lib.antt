@@ -1,1 +1,2 @@
+pub mod LawsPlaces
 pub mod Theorem

@@ -22,37 +22,24 @@ use Rattle.file_sections.specs.declared.Reading.the-variants.{Refused, Good}
 use Rattle.program_file.specs.Reading.{readingOf}
 use Rattle.program_file.proofs.Theorem.{Bytes, program-of, reading-of, one-program}
 use Rattle.typing_rules.specs.Contexts.{Context}
-use Rattle.typing_rules.specs.Labels.{Label, Labels}
+use Rattle.typing_rules.specs.Labels.{Labels}
 use Rattle.typing_rules.specs.Steps.{Step, structName, stepsOf, StepRule, SameOn, same-none, same-step, DerivesFirst, OneFirst, DerivesFile}
 use Rattle.typing_rules.specs.Check.{Segment, Ran, accepted, refused, rowsFrom, Answer, answerOf, checkOf}
-use Rattle.typing_rules.specs.Rows.{RowsAre, rows-none, rows-node, labelsFrom, ParametersAre, parameters-none, parameters-next, DeclRows, no-rows, global-rows, function-rows}
+use Rattle.typing_rules.specs.Rows.{DeclRows, no-rows, global-rows, function-rows}
 use Rattle.typing_rules.proofs.Theorem.{Fits, runOf, accepted-derives, derives-accepted, refused-step}
 use Rattle.typing_rules.proofs.LawsNumbers.{refused-number}
-use Rattle.typing_rules.proofs.RowsTheorem.{rows-are-derived}
+use Rattle.typing_rules.proofs.RowsTheorem.{rows-are-derived, rows-long, parameters-long, labels-long}
 use Rattle.demand3.specs.CheckFile.{limits, needed, Outcome, outcome, Checks, unreadable, rows-short, work-short, checked}
 use Rattle.demand3.specs.Demand3.{Derivable, StopsAt, Demand3}
 
 -- a file's program keeps the rules
-fits : (bytes : List ℕ) (p : Program) → IsFile limits bytes p → Fits p
+pub fits : (bytes : List ℕ) (p : Program) → IsFile limits bytes p → Fits p
 fits bytes p f = record {
   file = record { types = types-formed 200 (p .tables) (f .types); tables = tables-formed (p .tables) (f .tables) };
   stand = f .stand;
 }
 
 -- how many numbers rows are
-rows-long : {T : Tables} {L : List (Label Ty)} {R : List ℕ} → RowsAre T L R → length R ≡ 2 * length L
-rows-long rows-none = refl
-rows-long (rows-node {L = L} {R = R} r b s) = omega (arith, rows-long s)
-
-parameters-long : {T : Tables} {p : ℕ} {xs R : List ℕ} → ParametersAre T p xs R → length R ≡ 2 * length xs
-parameters-long parameters-none = refl
-parameters-long (parameters-next r s) = omega (arith, parameters-long s)
-
-labels-long : (D : Labels Ty) (n k : ℕ) → length (labelsFrom D n k) ≡ k
-unfolding labelsFrom
-labels-long D n zero = refl
-labels-long D n (suc k) = ap suc (labels-long D (n + 1) k)
-
 decls-long : {T : Tables} {D : Labels Ty} {n : ℕ} {ds : List Decl} {R : List ℕ} → DeclRows T D n ds R → length R ≡ 2 * sizeDecls ds
 decls-long no-rows = refl
 decls-long {D = D} (global-rows {n = n} {a = a} {R = R} {Q = Q} r s) =

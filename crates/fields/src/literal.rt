@@ -48,7 +48,7 @@ fn initializer_names(
 }
 
 // Copies the names of `count` fields from `first` on to `work` from `top` on.
-fn field_names(
+pub fn field_names(
     file: &[u8],
     sections: Sections,
     work: &mut [u16],
@@ -67,7 +67,7 @@ fn field_names(
 }
 
 // How often the name stands among `count` numbers from `from` on.
-fn times(names: &[u16], from: usize, count: usize, name: u16) -> u16
+pub fn times(names: &[u16], from: usize, count: usize, name: u16) -> u16
     requires { ⌜ (from + count ≤ length (now names)) × (count < 65536) ⌝ }
     ensures { λ r. ⌜ r ≡ timesIn (now (names .entry)) from count name ⌝ }
 {

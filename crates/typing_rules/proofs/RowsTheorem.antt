@@ -1,25 +1,25 @@
 -- The rows of an accepted program are those of its derivation. Assumes nothing.
-use mathlib.Core.Path.{_≡_, sym, subst, _∙_}
+use mathlib.Core.Path.{_≡_, refl, ap, sym, subst, _∙_}
 use mathlib.Core.List.{List, [], _∷_, _++_}
-use Prim.Native.Nat.{ℕ, _+_, _≤_}
+use Prim.Native.Nat.{ℕ, zero, suc, _+_, _*_, _≤_}
 use native.Mathlib.Omega.{arith}
-use lib.ListN.{length}
+use lib.ListN.{length, length-append}
 use lib.Seq.{take-length}
 use Rattle.oat.specs.Basics.{tabulate}
 use Rattle.oat.specs.Tables.{Tables}
 use Rattle.oat.specs.Types.{Ty}
-use Rattle.oat.specs.Syntax.{Expr, Block, Decl, global, function, size, sizeDecl}
+use Rattle.oat.specs.Syntax.{Expr, Block, Decl, global, function, size, sizeBlock, sizeDecl}
 use Rattle.oat.specs.ProgramFile.{Program}
 use Rattle.typing_rules.specs.Contexts.{Context}
-use Rattle.typing_rules.specs.Labels.{Labels}
+use Rattle.typing_rules.specs.Labels.{Label, Labels}
 use Rattle.typing_rules.specs.Steps.{Step, structName, builtIn, globalValue, structFields, body, headings, globals, bodies, stepsOf, emptyContext, DerivesFile}
 use Rattle.typing_rules.specs.Check.{Segment, accepted, rowsBegin, segmentAt, rowsFrom}
-use Rattle.typing_rules.specs.Rows.{RowsAre, labelsFrom, DeclRows, no-rows, global-rows, function-rows}
+use Rattle.typing_rules.specs.Rows.{RowsAre, rows-none, rows-node, labelsFrom, ParametersAre, parameters-none, parameters-next, DeclRows, no-rows, global-rows, function-rows}
 use Rattle.typing_rules.proofs.LawsSteps.{nodeCount}
 use Rattle.typing_rules.proofs.LawsRuns.{Labelled}
 use Rattle.typing_rules.proofs.LawsProgram.{steps-apart}
 use Rattle.typing_rules.proofs.LawsSegments.{RowsFit, no-nodes, of-global, of-body, Segments, run-segments, In, in-first, in-later, found-rows}
-use Rattle.typing_rules.proofs.Theorem.{Fits, runOf, empty-fits, trees, derives-labelled}
+use Rattle.typing_rules.proofs.Theorem.{Fits, runOf, empty-fits, trees, derives-labelled, accepted-derives}
 
 -- steps of a part are steps of the whole
 in-left : {s : Step} {xs : List Step} (ys : List Step) → In s xs → In s (xs ++ ys)
@@ -83,8 +83,52 @@ derived-segments p f gs k e D C d =
     let (hs, r, w) = run-segments (f .file) l′ (empty-fits T) (trees p f) 0 in
     subst (Segments T D (stepsOf p)) (same-segments (sym r ∙ e)) w
 
-pub rows-are-derived : (p : Program) → Fits p → (gs : List Segment) (k : ℕ) → runOf p ≡ accepted gs k → (D : Labels Ty) (C : Context Ty) → DerivesFile p D C → DeclRows (p .tables) D 0 (p .declarations) (rowsFrom gs 0 (p .declarations))
-rows-are-derived p f gs k e D C d =
-    let w = derived-segments p f gs k e D C d in
-    decl-rows (p .tables) D gs (p .declarations) 0 (λ s i h. found-rows w (global-in p s i) h (steps-apart (rowsBegin s) p))
-    (λ s i h. found-rows w (body-in p s i) h (steps-apart (rowsBegin s) p))
+-- so every step of a declaration finds its rows
+module _ (p : Program) (f : Fits p) (gs : List Segment) (k : ℕ) (e : runOf p ≡ accepted gs k) (D : Labels Ty) (C : Context Ty) (d : DerivesFile p D C) where
+  globals-found : AllFound (p .tables) D gs (globals 0 (p .declarations))
+  globals-found s i h = found-rows (derived-segments p f gs k e D C d) (global-in p s i) h (steps-apart (rowsBegin s) p)
+
+  bodies-found : AllFound (p .tables) D gs (bodies 0 (p .declarations))
+  bodies-found s i h = found-rows (derived-segments p f gs k e D C d) (body-in p s i) h (steps-apart (rowsBegin s) p)
+
+  pub rows-are-derived : DeclRows (p .tables) D 0 (p .declarations) (rowsFrom gs 0 (p .declarations))
+  rows-are-derived = decl-rows (p .tables) D gs (p .declarations) 0 globals-found bodies-found
+
+-- how many numbers rows are
+pub rows-long : {T : Tables} {L : List (Label Ty)} {R : List ℕ} → RowsAre T L R → length R ≡ 2 * length L
+rows-long rows-none = refl
+rows-long (rows-node {L = L} {R = R} r b s) = omega (arith, rows-long s)
+
+pub parameters-long : {T : Tables} {p : ℕ} {xs R : List ℕ} → ParametersAre T p xs R → length R ≡ 2 * length xs
+parameters-long parameters-none = refl
+parameters-long (parameters-next r s) = omega (arith, parameters-long s)
+
+pub labels-long : (D : Labels Ty) (n k : ℕ) → length (labelsFrom D n k) ≡ k
+unfolding labelsFrom
+labels-long D n zero = refl
+labels-long D n (suc k) = ap suc (labels-long D (n + 1) k)
+
+fit-long : {T : Tables} {D : Labels Ty} {s : Step} {R : List ℕ} → RowsFit T D s R → length R ≡ 2 * nodeCount s
+fit-long (no-nodes e) = omega arith
+fit-long {D = D} (of-global {n = n} {a = a} r) = omega (arith, rows-long r, labels-long D n (1 + size a))
+fit-long {D = D} (of-body {n = n} {ps = ps} {b = b} m q r) =
+    simp length-append (omega (arith, parameters-long q, rows-long r, labels-long D (n + 1 + length ps) (sizeBlock b)))
+
+-- the segment found at each declaration has two numbers for each of its nodes
+pub data SegmentsLong (gs : List Segment) : ℕ → List Decl → Type 0 where
+  long-none : {n : ℕ} → SegmentsLong gs n []
+  long-next : {n : ℕ} {d : Decl} {ds : List Decl} → length (segmentAt n gs) ≡ 2 * sizeDecl d → SegmentsLong gs (n + sizeDecl d) ds → SegmentsLong gs n (d ∷ ds)
+
+decls-long : (T : Tables) (D : Labels Ty) (gs : List Segment) (ds : List Decl) (n : ℕ) → AllFound T D gs (globals n ds) → AllFound T D gs (bodies n ds)
+    → SegmentsLong gs n ds
+unfolding globals bodies rowsBegin
+decls-long T D gs [] n g b = long-none
+decls-long T D gs (global x a ∷ ds) n g b =
+    long-next (fit-long (g (globalValue n x a) in-first (omega arith))) (decls-long T D gs ds (n + sizeDecl (global x a)) (λ s i. g s (in-later i)) b)
+decls-long T D gs (function x t ps c ∷ ds) n g b =
+    long-next (fit-long (b (body n t ps c) in-first (omega arith))) (decls-long T D gs ds (n + sizeDecl (function x t ps c)) g (λ s i. b s (in-later i)))
+
+pub segments-long : (p : Program) → Fits p → (gs : List Segment) (k : ℕ) → runOf p ≡ accepted gs k → SegmentsLong gs 0 (p .declarations)
+segments-long p f gs k e =
+    let (n, D, C, o) = accepted-derives p f gs k e in
+    decls-long (p .tables) D gs (p .declarations) 0 (globals-found p f gs k e D C (o .derives)) (bodies-found p f gs k e D C (o .derives))

@@ -1,0 +1,54 @@
+-- A step's answer against the outcome of the definition, premise by premise, and the context of a file all of whose structs are
+-- declared. Assumes nothing.
+use mathlib.Core.Path.{_≡_, refl, ap, sym, subst, _∙_}
+use mathlib.Core.Bool.{Bool, true, false}
+use mathlib.Core.List.{List, [], _∷_}
+use Prim.Native.Nat.{ℕ, _+_, _*_, _≤_, _<_}
+use native.Mathlib.Omega.{arith}
+use lib.ListN.{length, getD}
+use Rattle.oat.specs.Tables.{Tables}
+use Rattle.oat.specs.Types.{structsOf}
+use Rattle.typing_rules.specs.Contexts as Contexts
+use Rattle.typing_rules.specs.Labels.{Label}
+use Rattle.typing_rules.specs.Judge.{Out, ok, no, needs}
+use Rattle.typing_rules.specs.Steps.{Step}
+use Rattle.typing_rules.specs.Check.{rowsBegin, stepRows}
+use Rattle.file_sections.specs.declared.Sections.{Sections}
+use Rattle.file_sections.specs.Layout.{tablesOf}
+use Rattle.file_sections.proofs.LawsRecords.{structs-long}
+use Rattle.bindings.specs.Bindings.{namesOf}
+use Rattle.expressions.specs.Contract.{contextOf, Kept}
+use Rattle.steps.specs.declared.context.Context.{Context}
+use Rattle.steps.specs.declared.context.Stepped.{Stepped}
+use Rattle.steps.specs.declared.context.Stepped.the-variants.{Next, Refused}
+use Rattle.steps.specs.Contract.{contextAt, afterStep, spanOf, Held, ListAt, Accepted, Stepping, accepts, refuses, Whole}
+
+-- a premise that is tested
+module _ {F : List ℕ} {S : Sections} {X : List ℕ} {c : Context} {s : Step} {R R′ W′ K′ : List ℕ} {r : Stepped} where
+  pub stops : (b : Bool) (p q : ℕ) (o : Out (Contexts.Context ℕ)) → b ≡ false → r ≡ Refused p (c .steps) q → Stepping F S X c s R R′ W′ K′ r (needs b p q o)
+  stops b p q o f e = rw f (refuses p q e)
+
+  pub passes : (b : Bool) (p q : ℕ) (o : Out (Contexts.Context ℕ)) → b ≡ true → Stepping F S X c s R R′ W′ K′ r o → Stepping F S X c s R R′ W′ K′ r (needs b p q o)
+  passes b p q o t m = rw t m
+
+-- an accepted step without rows
+pub rowless : {F : List ℕ} {S : Sections} {X : List ℕ} {c : Context} {s : Step} {W′ K′ : List ℕ} {r : Stepped} (R : List ℕ) (C : Contexts.Context ℕ)
+    → spanOf s ≡ 0 → stepRows (tablesOf F S) s [] ≡ [] → r ≡ Next (afterStep s c) → Held F S X W′ K′ (afterStep s c)
+    → contextAt (tablesOf F S) W′ (afterStep s c) ≡ C → Stepping F S X c s R R W′ K′ r (ok C [])
+rowless {F} {S} {X} {c} {s} {W′} {K′} {r} R C z n e h m =
+    accepts C [] e
+    (record {
+      held = h;
+      made = m;
+      long = ap length n ∙ omega arith;
+      rows = record { at = λ j l. absurd (none j (ap length n) l) };
+      kept = record { before = λ i l. refl; after = λ i l. refl };
+    })
+  where
+    none : (j : ℕ) → length (stepRows (tablesOf F S) s []) ≡ 0 → j < length (stepRows (tablesOf F S) s []) → ⊥
+    none j e l = omega arith
+
+-- all structs are declared
+pub whole-context : (F : List ℕ) (S : Sections) (W : List ℕ) (c : Context) → Whole S c → contextAt (tablesOf F S) W c ≡ contextOf (tablesOf F S) W (c .names)
+whole-context F S W c w =
+    ap (λ k. record { structs = structsOf (tablesOf F S) k; names = namesOf (tablesOf F S) W (c .names) }) (w .structs ∙ sym (structs-long F S))

@@ -1,0 +1,66 @@
+-- `parameters::parameters` meets its contract. Assumes nothing.
+use borrow.Author.Needs.{needs}
+use native.Mathlib.Omega.{arith}
+use mathlib.Core.Path.{_≡_, refl}
+use Prim.Native.Nat.{_-_}
+use lib.ListN.{length}
+use Rattle.steps.proofs.LawsParameters.{Walked, parameters-start, parameter-some, parameter-node, parameter-entry, parameter-bindable, parameter-fits, parameter-taken, parameter-again, parameters-done}
+use Rattle.steps.proofs.parameters.parameters.Statement.{statement}
+use Rattle.steps.proofs.parameters.parameters.Tie as tie
+
+abbrev Inv-loop : tie.InvT-loop
+Inv-loop file sections index rows₀ work₀ chains₀ base node first count i₀ rows work chains i =
+    Walked file sections index base node first count i rows₀ work₀ rows work chains × (length rows ≡ length rows₀) × (length work ≡ length work₀) × (length chains ≡ length chains₀)
+
+abbrev μ-loop : tie.MeasureT-loop
+μ-loop file sections index rows₀ work₀ chains₀ base node first count i₀ rows work chains i = count - i
+
+loop-holds : tie.Need-loop-holds Inv-loop μ-loop
+loop-holds c = (parameters-start (c .before .before .before .before .before .pre), refl, refl, refl)
+
+add-at : tie.Need-add-at Inv-loop μ-loop
+add-at c = omega (arith, parameter-node (c .before .before .before .before .before .before .before .pre) (c .before .loop .inv .0) (c .loop-test .taken) .within, c .before .before .before .before .before .before .before .pre .fine .readable .laid .nodes-most)
+
+add-at-2 : tie.Need-add-at-2 Inv-loop μ-loop
+add-at-2 c = omega (arith, parameter-node (c .before .before .before .before .before .before .before .pre) (c .before .loop .inv .0) (c .loop-test .taken) .within, c .before .before .before .before .before .before .before .pre .fine .readable .laid .nodes-most)
+
+node-x-requires : tie.Need-node-x-requires Inv-loop μ-loop
+node-x-requires c κs = parameter-node (c .before .before .before .before .before .before .before .pre) (c .before .loop .inv .0) (c .loop-test .taken)
+
+is-fresh-requires : tie.Need-is-fresh-requires Inv-loop μ-loop
+is-fresh-requires c κs = parameter-some (c .before .before .before .before .before .before .before .before .before .before .pre) (c .before .before .before .before .loop .inv .0)
+
+returns : tie.Need-returns Inv-loop μ-loop
+returns c = parameter-taken (c .before .before .before .before .before .before .before .before .before .before .before .before .pre) (c .before .before .before .before .before .before .loop .inv .0) (c .before .before .before .before .before .loop-test .taken) (c .before .before .before .before .node-x .ensures .0) (c .before .is-fresh .ensures) (c .if1 .taken)
+
+add-list-entry : tie.Need-add-list-entry Inv-loop μ-loop
+add-list-entry c = omega (arith, parameter-entry (c .before .before .before .before .before .before .before .before .before .before .before .before .pre) (c .before .before .before .before .before .before .loop .inv .0) (c .before .before .before .before .before .loop-test .taken) .within, c .before .before .before .before .before .before .before .before .before .before .before .before .pre .fine .readable .laid .list-most)
+
+list-entry-requires : tie.Need-list-entry-requires Inv-loop μ-loop
+list-entry-requires c κs = parameter-entry (c .before .before .before .before .before .before .before .before .before .before .before .before .pre) (c .before .before .before .before .before .before .loop .inv .0) (c .before .before .before .before .before .loop-test .taken)
+
+add-bind : tie.Need-add-bind Inv-loop μ-loop
+add-bind c = omega (arith, c .before .before .before .before .before .before .before .before .loop-test .taken, c .before .before .before .before .before .before .before .before .before .before .before .before .before .before .before .pre .room, c .before .before .before .before .before .before .before .before .before .before .before .before .before .before .before .pre .fine .readable .laid .nodes-most, c .before .before .before .before .before .before .before .before .before .before .before .before .before .before .before .pre .fine .readable .laid .built-ins-most)
+
+bind-requires : tie.Need-bind-requires Inv-loop μ-loop
+bind-requires c κs = parameter-bindable (c .before .before .before .before .before .before .before .before .before .before .before .before .before .before .before .pre) (c .before .before .before .before .before .before .before .before .before .loop .inv .0) (c .before .before .before .before .before .before .before .before .loop-test .taken) (c .before .before .list-entry .ensures .0)
+
+row-requires : tie.Need-row-requires Inv-loop μ-loop
+row-requires c κs = parameter-fits (c .before .before .before .before .before .before .before .before .before .before .before .before .before .before .before .before .before .before .before .before .before .pre) (c .before .before .before .before .before .before .before .before .before .before .before .before .before .before .before .loop .inv .0) (c .before .before .before .before .before .before .before .before .before .before .before .before .before .before .loop-test .taken) (c .before .before .before .before .before .before .before .before .list-entry .ensures .0)
+
+add-i : tie.Need-add-i Inv-loop μ-loop
+add-i c = omega (arith, c .before .before .before .before .before .before .before .before .before .before .before .before .before .before .before .before .before .loop-test .taken, c .before .before .before .before .before .before .before .before .before .before .before .before .before .before .before .before .before .before .before .before .before .before .before .before .fits .count)
+
+loop-less : tie.Need-loop-less Inv-loop μ-loop
+loop-less c = omega (arith, c .before .before .before .before .before .before .before .before .before .before .before .before .before .before .before .before .before .loop-test .taken)
+
+loop-again : tie.Need-loop-again Inv-loop μ-loop
+loop-again c = (parameter-again (c .before .before .before .before .before .before .before .before .before .before .before .before .before .before .before .before .before .before .before .before .before .before .before .before .pre) (c .before .before .before .before .before .before .before .before .before .before .before .before .before .before .before .before .before .before .loop .inv .0) (c .before .before .before .before .before .before .before .before .before .before .before .before .before .before .before .before .before .loop-test .taken) (c .before .before .before .before .before .before .before .before .before .before .before .before .before .before .before .before .node-x .ensures .0) (c .before .before .before .before .before .before .before .before .before .before .before .before .before .is-fresh .ensures) (c .before .before .before .before .before .before .before .before .before .before .before .before .if1 .left) (c .before .before .before .before .before .before .before .before .before .before .before .list-entry .ensures .0) (c .before .before .before .before .before .before .before .before .bind .ensures) (c .before .before .row .ensures), search needs, search needs, search needs)
+
+returns-2 : tie.Need-returns-2 Inv-loop μ-loop
+returns-2 c = parameters-done (c .before .before .before .before .before .before .before .pre) (c .before .loop .inv .0) (c .loop-test .left)
+
+pub parameters-spec : {M : Type 1} → statement M
+parameters-spec =
+    tie.close
+    (tie.spec Inv-loop μ-loop loop-holds add-at add-at-2 node-x-requires is-fresh-requires (λ c. search needs) (λ c. search needs) (λ c. search needs) returns add-list-entry list-entry-requires add-bind bind-requires row-requires add-i loop-less loop-again (λ c. search needs) (λ c. search needs) (λ c. search needs) returns-2)

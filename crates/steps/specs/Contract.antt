@@ -1,0 +1,222 @@
+-- What the contracts of the steps cite: the context that the by-value struct stands for, and what a step answers and leaves. F is the
+-- file, S its sections, X the index of types, R the rows, W the stack, K the chains; a prime marks a buffer after the call. Assumes
+-- nothing.
+use mathlib.Core.Path.{_≡_}
+use mathlib.Core.Bool.{Bool, true, _&&_}
+use mathlib.Core.List.{List, [], _∷_}
+use Prim.Native.Nat.{ℕ, zero, suc, _+_, _*_, _≤_, _<_}
+use lib.ListN.{length, getD}
+use lib.Dec.{eqb}
+use Rattle.oat.specs.Basics.{allBelow}
+use Rattle.oat.specs.Tables.{Tables, typeAt, entryAt, structAt, nodeAt, fieldAt}
+use Rattle.oat.specs.Types.{structsOf}
+use Rattle.oat.specs.Syntax.{Expr, Block, global, function, size, sizeBlock}
+use Rattle.oat.specs.Nodes.{ParametersStand, DeclStands}
+use Rattle.typing_rules.specs.Contexts as Contexts
+use Rattle.typing_rules.specs.Contexts.{empty, findName}
+use Rattle.typing_rules.specs.Labels.{Label}
+use Rattle.typing_rules.specs.Judge.{Out, ok, no}
+use Rattle.typing_rules.specs.Steps.{Step, structName, builtIn, heading, globalValue, structFields, body, distinctNames, parameters}
+use Rattle.typing_rules.specs.Check.{isMiss, runStep, rowsBegin, stepRows, parameterRows}
+use Rattle.file_sections.specs.declared.Sections.{Sections}
+use Rattle.file_sections.specs.Layout.{Laid, tablesOf}
+use Rattle.type_index.specs.Index.{Indexed, Readable}
+use Rattle.bindings.specs.Bindings.{entryOf, namesOf, scopeOf, Scoped, Same}
+use Rattle.answers.specs.declared.answer.Judgement.{Judgement}
+use Rattle.answers.specs.declared.answer.Judgement.the-variants.{Typed, GoesOn, Returns}
+use Rattle.answers.specs.declared.answer.Judgement.the-variants as judgement
+use Rattle.expressions.specs.Contract.{Fine, Kept}
+use Rattle.fields.specs.Literal.{timesIn}
+use Rattle.steps.specs.declared.context.Context.{Context}
+use Rattle.steps.specs.declared.context.Stepped.{Stepped}
+use Rattle.steps.specs.declared.context.Stepped.the-variants.{Next, Refused}
+
+-- the context that c stands for: the first structs of the file, and the names at the positions below a height
+abbrev pub contextAt : Tables → List ℕ → Context → Contexts.Context ℕ
+contextAt T W c = record { structs = structsOf T (c .structs); names = namesOf T W (c .names) }
+
+-- after a step that adds a struct, a name, or nothing
+abbrev pub withStruct : Context → Context
+withStruct c = record { structs = c .structs + 1; names = c .names; steps = c .steps + 1 }
+
+abbrev pub withName : Context → Context
+withName c = record { structs = c .structs; names = c .names + 1; steps = c .steps + 1 }
+
+abbrev pub withStep : Context → Context
+withStep c = record { structs = c .structs; names = c .names; steps = c .steps + 1 }
+
+abbrev pub afterStep : Step → Context → Context
+afterStep (structName i) c = withStruct c
+afterStep (builtIn i) c = withName c
+afterStep (heading n x t) c = withName c
+afterStep (globalValue n x a) c = withName c
+afterStep (structFields i) c = withStep c
+afterStep (body n t ps b) c = withStep c
+
+-- how many nodes a step has rows for
+abbrev pub spanOf : Step → ℕ
+spanOf (structName i) = 0
+spanOf (builtIn i) = 0
+spanOf (heading n x t) = 0
+spanOf (globalValue n x a) = 1 + size a
+spanOf (structFields i) = 0
+spanOf (body n t ps b) = 1 + length ps + sizeBlock b
+
+-- the buffers hold the names of the context c
+pub record Held (F : List ℕ) (S : Sections) (X W K : List ℕ) (c : Context) : Type 0 where
+  pub readable : Readable F S
+  pub indexed : Indexed X (tablesOf F S) (S .types)
+  pub scoped : Scoped F S W K (c .names)
+
+-- the numbers of l stand in R from the number i on
+pub record ListAt (R : List ℕ) (i : ℕ) (l : List ℕ) : Type 0 where
+  pub at : (j : ℕ) → j < length l → getD R (i + j) 0 ≡ getD l j 0
+
+-- the step s is accepted, with the context C after it and the labels L: the buffers hold C, the rows of the step are written, and no
+-- other row has changed
+pub record Accepted (F : List ℕ) (S : Sections) (X : List ℕ) (c : Context) (s : Step) (R R′ W′ K′ : List ℕ) (C : Contexts.Context ℕ) (L : List (Label ℕ)) : Type 0 where
+  pub held : Held F S X W′ K′ (afterStep s c)
+  pub made : contextAt (tablesOf F S) W′ (afterStep s c) ≡ C
+  pub long : length (stepRows (tablesOf F S) s L) ≡ spanOf s * 2
+  pub rows : ListAt R′ (rowsBegin s * 2) (stepRows (tablesOf F S) s L)
+  pub kept : Kept (rowsBegin s * 2) ((rowsBegin s + spanOf s) * 2) R R′
+
+-- the answer r of the step s in the context c meets the outcome of the definition
+pub data Stepping (F : List ℕ) (S : Sections) (X : List ℕ) (c : Context) (s : Step) (R R′ W′ K′ : List ℕ) (r : Stepped) : Out (Contexts.Context ℕ) → Type 0 where
+  accepts : (C : Contexts.Context ℕ) (L : List (Label ℕ)) → r ≡ Next (afterStep s c) → Accepted F S X c s R R′ W′ K′ C L → Stepping F S X c s R R′ W′ K′ r (ok C L)
+  refuses : (p q : ℕ) → r ≡ Refused p (c .steps) q → Stepping F S X c s R R′ W′ K′ r (no p q)
+
+-- r answers the step as the definition has it, in the context of the buffers before
+abbrev pub Steps : List ℕ → Sections → (X : List ℕ) → Context → Step → (R W R′ W′ K′ : List ℕ) → Stepped → Type 0
+Steps F S X c s R W R′ W′ K′ r = Stepping F S X c s R R′ W′ K′ r (runStep (tablesOf F S) (contextAt (tablesOf F S) W c) s)
+
+-- the refusal of a judgement, at a step
+abbrev pub handedUp : Judgement → ℕ → Stepped
+handedUp (Typed t) step = Refused 0 step 0
+handedUp GoesOn step = Refused 0 step 0
+handedUp Returns step = Refused 0 step 0
+handedUp (judgement.Refused p q) step = Refused p step q
+
+-- what `is_new` answers: in the scope that the buffers hold, the name is nowhere
+pub record Newness (F : List ℕ) (S : Sections) (W K : List ℕ) (x : ℕ) (r : Bool) : Type 0 where
+  pub tells : (s : ℕ) → Scoped F S W K s → r ≡ isMiss (findName x (namesOf (tablesOf F S) W s))
+
+-- all structs are declared, and the count of steps has room
+pub record Whole (S : Sections) (c : Context) : Type 0 where
+  pub structs : c .structs ≡ S .structs
+  pub few : c .steps < 65536
+
+-- a step that writes no rows: whatever they hold
+pub record Rowless (F : List ℕ) (S : Sections) (X : List ℕ) (c : Context) (s : Step) (W W′ K′ : List ℕ) (r : Stepped) : Type 0 where
+  pub tells : (R : List ℕ) → Steps F S X c s R W R W′ K′ r
+
+-- struct names: those of the structs before i stand in N
+pub record Copied (F : List ℕ) (S : Sections) (N : List ℕ) (i : ℕ) : Type 0 where
+  pub laid : Laid F S
+  pub long : 1024 ≤ length N
+  pub names : (j : ℕ) → j < i → getD N j 0 ≡ structAt (tablesOf F S) j .name
+
+pub record ReadyStruct (F : List ℕ) (S : Sections) (N : List ℕ) (c : Context) (i : ℕ) : Type 0 where
+  pub copied : Copied F S N i
+  pub there : i < S .structs
+  pub next : c .structs ≡ i
+  pub few : c .steps < 65536
+
+pub record ToldStruct (F : List ℕ) (S : Sections) (c : Context) (i : ℕ) (N′ : List ℕ) (r : Stepped) : Type 0 where
+  pub tells : (X W K : List ℕ) → Held F S X W K c → Rowless F S X c (structName i) W W K r
+  pub copied : r ≡ Next (withStruct c) → Copied F S N′ (i + 1)
+  pub next : (d : Context) → r ≡ Next d → d ≡ withStruct c
+
+-- built-ins
+pub record ReadyBuiltIn (F : List ℕ) (S : Sections) (X W K : List ℕ) (c : Context) (i : ℕ) : Type 0 where
+  pub held : Held F S X W K c
+  pub whole : Whole S c
+  pub there : i < S .«built_ins»
+  pub next : c .names ≡ i
+
+-- function headings: a function stands at n
+pub record ReadyHeading (F : List ℕ) (S : Sections) (X W K : List ℕ) (c : Context) (n : ℕ) : Type 0 where
+  pub held : Held F S X W K c
+  pub whole : Whole S c
+  pub low : S .«built_ins» ≤ c .names
+  pub room : c .names < S .«built_ins» + S .nodes
+  pub name : ℕ
+  pub type : ℕ
+  pub parameters : List ℕ
+  pub block : Block
+  pub stands : DeclStands (tablesOf F S) n (function name type parameters block)
+
+pub record ToldHeading (F : List ℕ) (S : Sections) (X W : List ℕ) (c : Context) (n : ℕ) (W′ K′ : List ℕ) (r : Stepped) : Type 0 where
+  pub tells : (x t : ℕ) (ps : List ℕ) (b : Block) → DeclStands (tablesOf F S) n (function x t ps b) → Rowless F S X c (heading n x t) W W′ K′ r
+
+-- globals: one stands at n, and there is room for what its initializer binds, and for it
+pub record ReadyGlobal (F : List ℕ) (S : Sections) (X R W K : List ℕ) (c : Context) (n : ℕ) : Type 0 where
+  pub held : Held F S X W K c
+  pub whole : Whole S c
+  pub rows-long : S .nodes * 2 ≤ length R
+  pub low : S .«built_ins» ≤ c .names
+  pub name : ℕ
+  pub initializer : Expr
+  pub stands : DeclStands (tablesOf F S) n (global name initializer)
+  pub room : c .names + size initializer ≤ S .«built_ins» + S .nodes
+
+pub record ToldGlobal (F : List ℕ) (S : Sections) (X R W : List ℕ) (c : Context) (n : ℕ) (R′ W′ K′ : List ℕ) (r : Stepped) : Type 0 where
+  pub tells : (x : ℕ) (a : Expr) → DeclStands (tablesOf F S) n (global x a) → Steps F S X c (globalValue n x a) R W R′ W′ K′ r
+
+-- struct fields
+pub record ReadyFields (F : List ℕ) (S : Sections) (X N : List ℕ) (c : Context) (i : ℕ) : Type 0 where
+  pub readable : Readable F S
+  pub indexed : Indexed X (tablesOf F S) (S .types)
+  pub long : 1024 ≤ length N
+  pub whole : Whole S c
+  pub there : i < S .structs
+
+pub record ToldFields (F : List ℕ) (S : Sections) (X : List ℕ) (c : Context) (i : ℕ) (r : Stepped) : Type 0 where
+  pub tells : (W K : List ℕ) → Held F S X W K c → Rowless F S X c (structFields i) W W K r
+  pub next : (d : Context) → r ≡ Next d → d ≡ withStep c
+
+-- the types of `count` fields from `first` on are well-formed, as the index has it
+unfoldable pub typesFormed : List ℕ → Tables → ℕ → ℕ → Bool
+typesFormed X T first count = allBelow count (λ j. eqb (getD X (1024 + fieldAt T (first + j) .type) 0) 1)
+
+-- none of the first `count` numbers stands before itself
+unfoldable pub allNew : List ℕ → ℕ → Bool
+allNew N count = allBelow count (λ i. eqb (timesIn N 0 i (getD N i 0)) 0)
+
+-- parameters: those of the function at n, whose types stand in the type list from `first` on, are to be bound from the height `base` on
+pub record ReadyParameters (F : List ℕ) (S : Sections) (X R W K : List ℕ) (base n first count : ℕ) : Type 0 where
+  pub fine : Fine F S X R W K base base
+  pub parameters : List ℕ
+  pub stand : ParametersStand (tablesOf F S) (n + 1) parameters
+  pub counted : length parameters ≡ count
+  pub listed : first + count ≤ S .list
+  pub types : (j : ℕ) → j < count → entryAt (tablesOf F S) (first + j) < S .types
+  pub room : base + count ≤ S .«built_ins» + S .nodes
+
+-- they are bound, and their rows are written
+pub record BoundAll (F : List ℕ) (S : Sections) (X : List ℕ) (base n first : ℕ) (ps : List ℕ) (R W R′ W′ K′ : List ℕ) : Type 0 where
+  pub fine : Fine F S X R′ W′ K′ base (base + length ps)
+  pub scope : scopeOf (tablesOf F S) W′ base (base + length ps) ≡ parameters (λ a. a) (tablesOf F S) empty first (n + 1) ps
+  pub same : Same (entryOf (tablesOf F S) base) W W′
+  pub rows : ListAt R′ ((n + 1) * 2) (parameterRows (tablesOf F S) first ps)
+  pub kept : Kept ((n + 1) * 2) ((n + 1 + length ps) * 2) R R′
+
+pub record ToldParameters (F : List ℕ) (S : Sections) (X : List ℕ) (base n first count : ℕ) (R W R′ W′ K′ : List ℕ) (r : Bool) : Type 0 where
+  pub distinct : (ps : List ℕ) → ParametersStand (tablesOf F S) (n + 1) ps → length ps ≡ count → r ≡ distinctNames ps
+  pub bound : (ps : List ℕ) → ParametersStand (tablesOf F S) (n + 1) ps → length ps ≡ count → r ≡ true → BoundAll F S X base n first ps R W R′ W′ K′
+
+-- function bodies: a function stands at n, and there is room for what it binds
+pub record ReadyBody (F : List ℕ) (S : Sections) (X R W K : List ℕ) (c : Context) (n : ℕ) : Type 0 where
+  pub held : Held F S X W K c
+  pub whole : Whole S c
+  pub rows-long : S .nodes * 2 ≤ length R
+  pub low : S .«built_ins» ≤ c .names
+  pub name : ℕ
+  pub type : ℕ
+  pub parameters : List ℕ
+  pub block : Block
+  pub stands : DeclStands (tablesOf F S) n (function name type parameters block)
+  pub room : c .names + (length parameters + sizeBlock block) ≤ S .«built_ins» + S .nodes
+
+pub record ToldBody (F : List ℕ) (S : Sections) (X R W : List ℕ) (c : Context) (n : ℕ) (R′ W′ K′ : List ℕ) (r : Stepped) : Type 0 where
+  pub tells : (x t : ℕ) (ps : List ℕ) (b : Block) → DeclStands (tablesOf F S) n (function x t ps b) → Steps F S X c (body n t ps b) R W R′ W′ K′ r
