@@ -1,5 +1,12 @@
 #!/bin/sh
-# Writes the stored vectors, tests/vectors/*.bin and *.txt, anew.
+# Writes the stored vectors, tests/vectors/*.bin and *.txt, anew, and the input and the expected output of the programs that run over them.
 set -eu
 cd "$(dirname "$0")"
 cargo run --offline --release --quiet -- vectors ../vectors
+cd ../..
+cp tests/vectors/check.bin crates/check_vectors/stdin
+cp tests/vectors/check.txt crates/check_vectors/stdout
+cp tests/vectors/sub.bin crates/subtype_vectors/stdin
+cp tests/vectors/sub.txt crates/subtype_vectors/stdout
+tests/reading/pack.sh
+tests/buffers/pack.py

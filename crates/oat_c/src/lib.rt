@@ -31,3 +31,19 @@ pub extern "C" fn oat_subtype(file: &[u8], a: usize, b: usize, yes: &mut u8) -> 
         }
     }
 }
+
+// Checks a file: 0 where it is accepted, or the number under which it is refused, with the step and the place of the answer. `rows` and
+// `work` are as `typing::check::check` leaves them.
+#[no_mangle]
+pub extern "C" fn oat_check(
+    file: &[u8],
+    rows: &mut [u16],
+    work: &mut [u16],
+    step: &mut u16,
+    place: &mut u16,
+) -> u16 {
+    let answer = typing::check::check(file, rows, work);
+    *step = answer.step;
+    *place = answer.place;
+    answer.number
+}

@@ -1,30 +1,7 @@
 // Reads packed files from standard input, each as 4 length bytes, low first, and then the file, and prints for each a line
 // with 0, or the number under which it is refused.
-
-ghost use Prim.Native.Nat.{_<_};
-
-fn wide(x: u8) -> usize
-    ensures { λ r. ⌜ r < 256 ⌝ }
-{
-    x as usize
-}
-
-// The next four bytes as a length; 65536 where the input has ended.
-fn next_length() -> usize {
-    let mut head = [0u8; 4];
-    let got = io::read_full(0, &mut head);
-    if got < 4 {
-        return 65536;
-    }
-    wide(head[0]) + 256 * wide(head[1])
-}
-
-// Reads a file of this length from the input.
-fn read_one(file: &mut [u8], length: usize) {
-    if length <= file.len() {
-        io::read_full(0, &mut file[..length]);
-    }
-}
+use vector_input::next_length;
+use vector_input::read_one;
 
 // Prints the line of a file of this length.
 fn answer_one(file: &[u8], length: usize) {

@@ -2,23 +2,8 @@
 // whether the first is below the second. It prints for each file a line for each type, with 1 for yes and 0 for no, and then a
 // line `--`. The types end where the question is refused under 17; any other refusal is printed.
 use subtyping::question::Answer;
-ghost use Prim.Native.Nat.{_<_};
-
-fn wide(x: u8) -> usize
-    ensures { λ r. ⌜ r < 256 ⌝ }
-{
-    x as usize
-}
-
-// The next four bytes as a length; 65536 where the input has ended.
-fn next_length() -> usize {
-    let mut head = [0u8; 4];
-    let got = io::read_full(0, &mut head);
-    if got < 4 {
-        return 65536;
-    }
-    wide(head[0]) + 256 * wide(head[1])
-}
+use vector_input::next_length;
+use vector_input::read_one;
 
 // Prints 1 or 0; false where the question is refused.
 fn pair(file: &[u8], a: usize, b: usize) -> bool {
@@ -67,13 +52,6 @@ fn table(file: &[u8]) {
         a += 1;
     }
     io::write_all(1, b"--\n");
-}
-
-// Reads a file of this length from the input.
-fn read_one(file: &mut [u8], length: usize) {
-    if length <= file.len() {
-        io::read_full(0, &mut file[..length]);
-    }
 }
 
 // Answers a file of this length.

@@ -75,7 +75,9 @@ pub fn generated() -> [Vec<u8>; 3] {
 
 fn typing_cases() -> Vec<Vec<u8>> {
     let mut files: Vec<Vec<u8>> = cases::typing().into_iter().map(|c| c.file).collect();
-    files.extend(cases::reading().into_iter().map(|c| c.1).filter(|f| f.len() < 1000));
+    let kept =
+        |(name, file, number): &(&str, Vec<u8>, u16)| file.len() < 1000 || *number > 0 && name.starts_with("Pan: ");
+    files.extend(cases::reading().into_iter().filter(kept).map(|c| c.1));
     files
 }
 

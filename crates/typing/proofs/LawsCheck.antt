@@ -1,0 +1,243 @@
+-- The check of a readable file: the answer and the rows are the definition's; and the check on bytes and buffers. Assumes nothing.
+use mathlib.Core.Path.{_≡_, refl, ap, ap₂, sym, subst, _∙_}
+use mathlib.Core.List.{List, [], _∷_, _++_, append-nil}
+use Prim.Native.Nat.{ℕ, zero, suc, _+_, _*_, _≤_, _<_}
+use native.Mathlib.Omega.{arith}
+use mir.Syntax.{w8}
+use mir.Val.{Fits}
+use lib.ListN.{length, getD, take, drop, replicate}
+use lib.Seq.{drop-at, length-take-le}
+use Rattle.oat.specs.Basics.{tabulate}
+use Rattle.oat.specs.Tables.{Tables}
+use Rattle.oat.specs.Types.{structsOf}
+use Rattle.oat.specs.Syntax.{Decl, sizeDecls}
+use Rattle.oat.specs.Nodes.{DeclsStand}
+use Rattle.oat.specs.ProgramFile.{Program, IsFile}
+use Rattle.typing_rules.specs.Contexts as Contexts
+use Rattle.typing_rules.specs.Steps.{Step, structName, builtIn, structFields, headings, globals, bodies, stepsOf, emptyContext}
+use Rattle.typing_rules.specs.Check.{Segment, Ran, accepted, refused, withSegment, run, rowsFrom, answerOf as programAnswer, checkOf}
+use Rattle.typing_rules.proofs.Theorem.{runOf}
+use Rattle.typing_rules.proofs.LawsNumbers.{refused-number}
+use Rattle.typing_rules.proofs.RowsTheorem.{segments-long}
+use Rattle.file_sections.specs.declared.Sections.{Sections}
+use Rattle.file_sections.specs.declared.Reading.{Reading}
+use Rattle.file_sections.specs.declared.Reading.the-variants.{Refused as Unread, Good}
+use Rattle.file_sections.specs.Layout.{Laid, tablesOf}
+use Rattle.file_sections.proofs.LawsRecords.{structs-long, built-ins-long, nodes-long}
+use Rattle.program_file.specs.Reading.{readingOf, numberOf}
+use Rattle.program_file.proofs.Theorem.{Bytes, program-of, read-tables}
+use Rattle.type_index.specs.Index.{Indexed, Readable}
+use Rattle.bindings.specs.Bindings.{namesOf, Scoped}
+use Rattle.bindings.proofs.LawsBindings.{scoped-none}
+use Rattle.subtyping.proofs.LawsQuestion.{readable}
+use Rattle.demand3.specs.CheckFile.{limits, needed, Outcome, outcome, Checks, unreadable, rows-short, work-short, checked}
+use Rattle.demand3.proofs.Theorem.{fits, demand3}
+use Rattle.demand3.proofs.LawsPlaces.{refused-fits, accepted-fits}
+use Rattle.steps.specs.declared.context.Context.{Context}
+use Rattle.steps.specs.declared.context.Stepped.{Stepped}
+use Rattle.steps.specs.declared.context.Stepped.the-variants.{Next, Refused}
+use Rattle.steps.specs.Contract.{contextAt, Held}
+use Rattle.typing.specs.declared.check.Answer.{Answer}
+use Rattle.typing.specs.Runs.{start, afterSteps, withSegments, Written, Run, Runs, goes, stops, Declares, ReadyRun, allSteps, ToldRun}
+use Rattle.typing.specs.Check.{outcomeOf, Checked, Demands, answerOf, rowsAfter, Small, ReadyCheck, AnswersAs, ToldCheck}
+use Rattle.typing.proofs.LawsRows.{rows-are}
+
+-- segments, with nothing after them
+segments-all : (gs : List Segment) (k : ℕ) → withSegments gs (accepted [] k) ≡ accepted gs k
+unfolding withSegments
+segments-all [] k = refl
+segments-all (g ∷ gs) k = ap (withSegment g) (segments-all gs k)
+
+empty-start : (T : Tables) (W : List ℕ) → contextAt T W start ≡ emptyContext
+unfolding namesOf structsOf tabulate
+empty-start T W = refl
+
+-- a file's program, and its sections
+module _ {F : List ℕ} {S : Sections} (p : Program) (f : IsFile limits F p) (e : readingOf limits F ≡ Good S) where
+  tables-are : p .tables ≡ tablesOf F S
+  tables-are = read-tables limits F S p e f
+
+  nodes-are : length (p .tables .nodes) ≡ S .nodes
+  nodes-are = ap (λ T. length (T .nodes)) tables-are ∙ nodes-long F S
+
+  declares : Declares F S (p .declarations)
+  declares = record { stand = subst (λ T. DeclsStand T 0 (p .declarations)) tables-are (f .stand); used-up = f .used-up ∙ nodes-are }
+
+  steps-are : stepsOf p ≡ allSteps S (p .declarations)
+  unfolding stepsOf
+  steps-are =
+      ap₂ (λ m n. tabulate m structName ++ (tabulate n builtIn ++ (headings 0 (p .declarations) ++ (globals 0 (p .declarations) ++ (tabulate m structFields ++ bodies 0 (p .declarations))))))
+      (ap (λ T. length (T .structs)) tables-are ∙ structs-long F S) (ap (λ T. length (T .builtIns)) tables-are ∙ built-ins-long F S)
+
+  run-is : (W : List ℕ) → runOf p ≡ run (tablesOf F S) (contextAt (tablesOf F S) W start) (allSteps S (p .declarations) ++ []) 0
+  run-is W =
+      ap₂ (λ T ss. run T emptyContext ss 0) tables-are (steps-are ∙ sym (append-nil (allSteps S (p .declarations))))
+      ∙ ap (λ C. run (tablesOf F S) C (allSteps S (p .declarations) ++ []) 0) (sym (empty-start (tablesOf F S) W))
+
+-- what a run of all steps of the program p says
+pub data Ends (p : Program) (S : Sections) (R′ : List ℕ) (r : Stepped) : Type 0 where
+  ends-next : (c : Context) (gs : List Segment) → r ≡ Next c → runOf p ≡ accepted gs (c .steps) → Written R′ (allSteps S (p .declarations)) gs → Ends p S R′ r
+  ends-refused : (n s q : ℕ) → r ≡ Refused n s q → runOf p ≡ refused n s q → Ends p S R′ r
+
+run-ends : {F : List ℕ} {S : Sections} {X R W R′ W′ K′ : List ℕ} {r : Stepped} (p : Program) → IsFile limits F p → readingOf limits F ≡ Good S
+    → Runs F S X start (allSteps S (p .declarations)) R W R′ W′ K′ r → Ends p S R′ r
+unfolding run
+run-ends {F} {S} {W = W} p f e (goes gs q m) = ends-next (afterSteps (allSteps S (p .declarations)) start) gs q (run-is p f e W ∙ m .on [] ∙ segments-all gs _) (m .written)
+run-ends {F} {S} {W = W} p f e (stops n s u q m) = ends-refused n s u q (run-is p f e W ∙ m [])
+
+-- the numbers of the answer
+ends-small : {F : List ℕ} {S : Sections} {R′ : List ℕ} {r : Stepped} (p : Program) → IsFile limits F p → Ends p S R′ r → Small r
+ends-small {F} p f (ends-next c gs q e w) = record {
+  next = λ d i. let same : c ≡ d = cc in subst (λ x. x .steps < 65536) same (accepted-fits F p f gs (c .steps) e);
+  refused = λ n s u i. absurd (let z : _≡_ {A = ℕ} 0 1 = cc in omega arith);
+}
+ends-small {F} {r = r} p f (ends-refused n s u q e) = record {
+  next = λ d i. absurd (let z : _≡_ {A = ℕ} 0 1 = cc in omega arith);
+  refused = λ n′ s′ u′ i.
+      let same : Refused n s u ≡ Refused n′ s′ u′ = sym q ∙ i in
+      let (a, b, c) = refused-fits F p f n s u e in
+      let first : n ≡ n′ = cc in
+      let second : s ≡ s′ = cc in
+      let third : u ≡ u′ = cc in
+      (omega arith, omega arith, omega arith);
+}
+
+-- the answer and the rows
+check-is : (p : Program) (a : Ran) → runOf p ≡ a → checkOf p ≡ programAnswer p a
+unfolding checkOf
+check-is p a e = ap (programAnswer p) e
+
+ends-answer : {F : List ℕ} {S : Sections} {R′ : List ℕ} {r : Stepped} (p : Program) → IsFile limits F p → readingOf limits F ≡ Good S → length R′ ≡ S .nodes * 2
+    → Ends p S R′ r → AnswersAs p (rowsAfter r R′) (answerOf r)
+ends-answer {F} {S} {R′} p f e l (ends-next c gs q h w) =
+    let long : length R′ ≡ 2 * sizeDecls (p .declarations) = omega (arith, nodes-are p f e, f .used-up) in
+    let rows = rows-are (p .declarations) (segments-long p (fits F p f) gs (c .steps) h) w long in
+    let is = sym (check-is p (accepted gs (c .steps)) h) in
+    subst (λ x. AnswersAs p (rowsAfter x R′) (answerOf x)) (sym q)
+    (record { number = ap (λ a. a .number) is; step = ap (λ a. a .step) is; place = ap (λ a. a .place) is; rows = rows ∙ ap (λ a. a .rows) is })
+ends-answer {F} {S} {R′} p f e l (ends-refused n s u q h) =
+    let long : length R′ ≡ 2 * length (p .tables .nodes) = omega (arith, nodes-are p f e) in
+    let is = sym (check-is p (refused n s u) h) in
+    subst (λ x. AnswersAs p (rowsAfter x R′) (answerOf x)) (sym q)
+    (record {
+      number = ap (λ a. a .number) is;
+      step = ap (λ a. a .step) is;
+      place = ap (λ a. a .place) is;
+      rows = ap (λ k. replicate k 65535) long ∙ ap (λ a. a .rows) is;
+    })
+
+-- the check of a readable file
+module _ {F : List ℕ} {S : Sections} {R W : List ℕ} (z : ReadyCheck F S R W) where
+  pub check-readable : Readable F S
+  check-readable = readable F (Good S) S (sym (z .reads)) refl
+
+  pub check-run : {X N K : List ℕ} → Indexed X (tablesOf F S) (S .types) → 1024 ≤ length N → 4736 ≤ length K → ((h : ℕ) → h < 512 → getD K h 0 ≡ 0) → ReadyRun F S X N W K
+  check-run {X} {N} {K} x n k h = record {
+    held = record { readable = check-readable; indexed = x; scoped = scoped-none F S W K (check-readable .laid) (omega (arith, z .work-long)) k h };
+    long = n;
+    declarations = z .program .declarations;
+    declares = declares (z .program) (z .file) (z .reads);
+  }
+
+  module _ {X R₁ W₁ K₁ : List ℕ} {r : Stepped} (m : ToldRun F S X R W R₁ W₁ K₁ r) where
+    pub check-small : Small r
+    check-small =
+        let p = z .program in
+        ends-small p (z .file) (run-ends p (z .file) (z .reads) (m .tells (p .declarations) (declares p (z .file) (z .reads))))
+
+    pub check-told : {R′ : List ℕ} {a : Answer} → length R₁ ≡ length R → length W₁ ≡ length W → a ≡ answerOf r → R′ ≡ rowsAfter r R₁ → ToldCheck F S R′ W₁ a
+    check-told {R′} {a} l w ea eR = record {
+      tells = λ p f.
+          subst (λ x. AnswersAs p R′ x) (sym ea)
+          (subst (λ x. AnswersAs p x (answerOf r)) (sym eR)
+          (ends-answer p f (z .reads) (l ∙ z .rows-long) (run-ends p f (z .reads) (m .tells (p .declarations) (declares p f (z .reads))))));
+      work-long = w ∙ z .work-long;
+    }
+
+-- the definition of the check refuses under 7 to 16
+check-numbers : (p : Program) → 1 ≤ checkOf p .number → checkOf p .number ≤ 6 → ⊥
+check-numbers p = go (runOf p) refl
+  where
+    go : (a : Ran) → runOf p ≡ a → 1 ≤ checkOf p .number → checkOf p .number ≤ 6 → ⊥
+    go (accepted gs k) e l h = omega (arith, ap (λ x. x .number) (check-is p (accepted gs k) e))
+    go (refused m k q) e l h = omega (arith, ap (λ x. x .number) (check-is p (refused m k q) e), refused-number p m k q e .0)
+
+-- a readable file has few nodes
+pub nodes-few : (F : List ℕ) {S : Sections} {g : Reading} → g ≡ readingOf limits F → g ≡ Good S → S .nodes ≤ 4096
+nodes-few F {S} {g} i j = readable F g S i j .laid .nodes-most
+
+-- a slice of bytes holds bytes
+pub bytes-of : (F : List ℕ) → ((i : ℕ) → Fits w8 (getD F i 0)) → Bytes F
+bytes-of F h = record { each = λ i. omega (arith, h i) }
+
+-- the check on bytes and buffers: 1 to 5
+needed-is : {F : List ℕ} {S : Sections} (p : Program) → IsFile limits F p → readingOf limits F ≡ Good S → needed p ≡ S .nodes * 2
+needed-is p f e = omega (arith, nodes-are p f e)
+
+module _ {F R W : List ℕ} where
+  pub check-unread : {a : Answer} {r : Reading} {n m : ℕ} → r ≡ readingOf limits F → r ≡ Unread n → m ≡ numberOf r → a ≡ record { number = m; step = 0; place = 0 } → Checked F R W R W a
+  check-unread {a} {r} {n} {m} e h k q =
+      let same : m ≡ n = k ∙ ap numberOf h in
+      record {
+        checks = subst (λ x. Checks F R W (outcomeOf x R)) (sym q) (subst (λ k. Checks F R W (outcome k 0 0 R)) (sym same) (unreadable n (sym e ∙ h)));
+        unchanged = λ a b. refl;
+        rest = λ p f. refl;
+      }
+
+  -- 6
+  pub check-rows-short : {S : Sections} {r : Answer} {g : Reading} → Bytes F → g ≡ readingOf limits F → g ≡ Good S → length R < S .nodes * 2 → r ≡ record { number = 6; step = 0; place = 0 } → Checked F R W R W r
+  check-rows-short {S} {r} b i j h q =
+      let e : readingOf limits F ≡ Good S = sym i ∙ j in
+      let (p, f) = program-of limits F S b e in
+      record {
+        checks = subst (λ x. Checks F R W (outcomeOf x R)) (sym q) (rows-short p f (omega (arith, needed-is p f e)));
+        unchanged = λ a b. refl;
+        rest = λ p f. refl;
+      }
+
+  pub check-work-short : {S : Sections} {r : Answer} {g : Reading} → Bytes F → g ≡ readingOf limits F → g ≡ Good S → S .nodes * 2 ≤ length R → length W < S .nodes * 2 → r ≡ record { number = 6; step = 0; place = 0 } → Checked F R W R W r
+  check-work-short {S} {r} b i j l h q =
+      let e : readingOf limits F ≡ Good S = sym i ∙ j in
+      let (p, f) = program-of limits F S b e in
+      record {
+        checks = subst (λ x. Checks F R W (outcomeOf x R)) (sym q) (work-short p f (omega (arith, needed-is p f e)) (omega (arith, needed-is p f e)));
+        unchanged = λ a b. refl;
+        rest = λ p f. refl;
+      }
+
+-- the check itself, on the parts that are lent
+module _ (F R W : List ℕ) where
+  module _ {S : Sections} {g : Reading} (b : Bytes F) (i : g ≡ readingOf limits F) (j : g ≡ Good S) (l : S .nodes * 2 ≤ length R) (k : S .nodes * 2 ≤ length W) where
+    pub check-ready : ReadyCheck F S (take (S .nodes * 2) R) (take (S .nodes * 2) W)
+    check-ready =
+        let (p, f) = program-of limits F S b (sym i ∙ j) in
+        record { reads = sym i ∙ j; program = p; file = f; rows-long = length-take-le (S .nodes * 2) R l; work-long = length-take-le (S .nodes * 2) W k }
+
+    pub check-good : {R₁ W₁ : List ℕ} {a : Answer} → ToldCheck F S R₁ W₁ a → Checked F R W (R₁ ++ drop (S .nodes * 2) R) (W₁ ++ drop (S .nodes * 2) W) a
+    check-good {R₁} {W₁} {a} told =
+        let e : readingOf limits F ≡ Good S = sym i ∙ j in
+        let (p, f) = program-of limits F S b e in
+        let n : needed p ≡ S .nodes * 2 = needed-is p f e in
+        let t = told .tells p f in
+        let c : Checks F R W (outcome (checkOf p .number) (checkOf p .step) (checkOf p .place) (checkOf p .rows ++ drop (needed p) R)) = checked p f (omega arith) (omega arith) in
+        record {
+          checks = same-checks (t .number) (t .step) (t .place) (ap₂ (λ x m. x ++ drop m R) (t .rows) (sym n)) c;
+          unchanged = λ x y. absurd (not-low p f t x y);
+          rest = λ q h. rest-stays (needed q) (needed-is q h e ∙ sym (told .work-long));
+        }
+      where
+        same-checks : {n s q n′ s′ q′ : ℕ} {A B : List ℕ} → n ≡ n′ → s ≡ s′ → q ≡ q′ → A ≡ B → Checks F R W (outcome n′ s′ q′ B) → Checks F R W (outcome n s q A)
+        same-checks e f g h c = rw (e, f, g, h) c
+
+        rest-stays : (m : ℕ) → m ≡ length W₁ → drop m (W₁ ++ drop (S .nodes * 2) W) ≡ drop m W
+        rest-stays m e = drop-at W₁ (drop (S .nodes * 2) W) m (sym e) ∙ ap (λ x. drop x W) (sym (e ∙ told .work-long))
+
+        not-low : (p : Program) → IsFile limits F p → AnswersAs p R₁ a → 1 ≤ a .number → a .number ≤ 6 → ⊥
+        not-low p f t x y = check-numbers p (subst (λ m. 1 ≤ m) (t .number) x) (subst (λ m. m ≤ 6) (t .number) y)
+
+-- demand 3, of any of these
+demands : {F R W R′ W′ : List ℕ} {r : Answer} → Checked F R W R′ W′ r → Demands F R W R′ r
+demands {F} {R} {W} {R′} {W′} {r} c = record { demand3 = λ p f l k. demand3 F R W p f l k (outcomeOf r R′) (c .checks) }
+
+pub with-demands : {F R W R′ W′ : List ℕ} {r : Answer} → Checked F R W R′ W′ r → Checked F R W R′ W′ r × Demands F R W R′ r
+with-demands c = (c, demands c)

@@ -1,0 +1,53 @@
+-- Rows that are filled, and the answer after the last step. Assumes nothing.
+use mathlib.Core.Path.{_≡_, ap, sym, _∙_}
+use mathlib.Core.List.{List, _++_, append-nil}
+use Prim.Native.Nat.{ℕ, _+_, _≤_, _<_}
+use native.Mathlib.Omega.{arith}
+use lib.ListN.{length, set, drop, replicate}
+use lib.Seq.{drop-length}
+use borrow.Author.Fill.{fill-more}
+use Rattle.steps.specs.declared.context.Context.{Context}
+use Rattle.steps.specs.declared.context.Stepped.{Stepped}
+use Rattle.steps.specs.declared.context.Stepped.the-variants.{Next, Refused}
+use Rattle.typing.specs.declared.check.Answer.{Answer}
+use Rattle.typing.specs.Check.{answerOf, rowsAfter, Small}
+
+pub fill-step : (R R₀ : List ℕ) (i : ℕ) → R ≡ replicate i 65535 ++ drop i R₀ → length R ≡ length R₀ → i < length R → set R i 65535 ≡ replicate (i + 1) 65535 ++ drop (i + 1) R₀
+fill-step R R₀ i e l h = ap (λ x. set x i 65535) e ∙ fill-more i 65535 R₀ (omega arith)
+
+pub fill-done : (R R₀ : List ℕ) (i : ℕ) → R ≡ replicate i 65535 ++ drop i R₀ → length R ≡ length R₀ → i ≤ length R₀ → length R ≤ i → R ≡ replicate (length R₀) 65535
+fill-done R R₀ i e l h g =
+    e
+    ∙ ap (λ d. replicate i 65535 ++ d) (ap (λ k. drop k R₀) all ∙ drop-length R₀)
+    ∙ append-nil (replicate i 65535)
+    ∙ ap (λ k. replicate k 65535) all
+  where
+    all : i ≡ length R₀
+    all = omega arith
+
+-- the answer
+module _ {r : Stepped} (h : Small r) where
+  pub next-fits : {c : Context} → r ≡ Next c → c .steps < 65536
+  next-fits {c} e = h .next c e
+
+  pub number-fits : {n s q : ℕ} → r ≡ Refused n s q → n < 65536
+  number-fits {n} {s} {q} e = h .refused n s q e .0
+
+  pub step-fits : {n s q : ℕ} → r ≡ Refused n s q → s < 65536
+  step-fits {n} {s} {q} e = h .refused n s q e .1
+
+  pub place-fits : {n s q : ℕ} → r ≡ Refused n s q → q < 65536
+  place-fits {n} {s} {q} e = h .refused n s q e .2
+
+module _ {r : Stepped} where
+  pub next-answer : {c : Context} → r ≡ Next c → record { number = 0; step = c .steps; place = 0 } ≡ answerOf r
+  next-answer e = sym (ap answerOf e)
+
+  pub next-rows : {c : Context} (R : List ℕ) → r ≡ Next c → R ≡ rowsAfter r R
+  next-rows R e = sym (ap (λ x. rowsAfter x R) e)
+
+  pub refused-answer : {n s q : ℕ} → r ≡ Refused n s q → record { number = n; step = s; place = q } ≡ answerOf r
+  refused-answer e = sym (ap answerOf e)
+
+  pub refused-rows : {n s q : ℕ} {R′ : List ℕ} (R : List ℕ) → r ≡ Refused n s q → R′ ≡ replicate (length R) 65535 → R′ ≡ rowsAfter r R
+  refused-rows R e f = f ∙ sym (ap (λ x. rowsAfter x R) e)

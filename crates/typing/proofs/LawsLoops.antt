@@ -1,0 +1,179 @@
+-- The loops over records: struct names, built-ins and struct fields. Assumes nothing.
+use mathlib.Core.Path.{_≡_, refl, ap, sym, subst, _∙_}
+use mathlib.Core.List.{List, [], _∷_, _++_}
+use Prim.Native.Nat.{ℕ, zero, suc, _+_, _*_, _≤_, _<_}
+use native.Mathlib.Omega.{arith}
+use lib.ListN.{length, getD}
+use Rattle.oat.specs.Basics.{tabulate}
+use Rattle.oat.proofs.LawsBasics.{tabulate-long}
+use Rattle.typing_rules.specs.Steps.{Step, structName, builtIn, structFields}
+use Rattle.file_sections.specs.declared.Sections.{Sections}
+use Rattle.file_sections.specs.Layout.{Laid, tablesOf}
+use Rattle.steps.specs.declared.context.Context.{Context}
+use Rattle.steps.specs.declared.context.Stepped.{Stepped}
+use Rattle.steps.specs.declared.context.Stepped.the-variants.{Next}
+use Rattle.steps.specs.Contract.{withStruct, withName, withStep, spanOf, Held, Whole, Steps, Rowless, Copied, ReadyStruct, ToldStruct, ReadyBuiltIn, ReadyFields, ToldFields}
+use Rattle.typing.specs.Runs.{start, afterSteps, Runs, ToldStructs, ReadyBuiltIns, ToldBuiltIns, ReadyStructs, ToldFieldsOf}
+use Rattle.typing.proofs.LawsRuns.{Stopped, Apart, runs-none, runs-one, runs-then, runs-stop, runs-next}
+use Rattle.typing.proofs.LawsCounts.{More, after-counted, built-ins-alike, Bare, bare-none, bare-next, bare-untouched, tabulate-more, tabulate-rest}
+
+pub apart-bare : (ss : List Step) {ts : List Step} → Bare ts → Apart ss ts
+apart-bare ss b = record { never = λ i t u. bare-untouched b u }
+
+-- the first i records have had their steps
+module _ (f : ℕ → Step) (b : (i : ℕ) → spanOf (f i) ≡ 0) {F : List ℕ} {S : Sections} {X : List ℕ} {c₀ c : Context} {R₀ W₀ R W K R′ W′ K′ : List ℕ} {t : Stepped} {i : ℕ} where
+  one-after : Runs F S X c₀ (tabulate i f) R₀ W₀ R W K (Next c) → Steps F S X c (f i) R W R′ W′ K′ t → Runs F S X c₀ (tabulate (i + 1) f) R₀ W₀ R′ W′ K′ t
+  one-after a h =
+      subst (λ ss. Runs F S X c₀ ss R₀ W₀ R′ W′ K′ t) (tabulate-more i f)
+      (runs-then (apart-bare (tabulate i f) (bare-next (b i) bare-none)) refl a (runs-one h))
+
+  records-stop : (n : ℕ) → i < n → Stopped t → Runs F S X c₀ (tabulate i f) R₀ W₀ R W K (Next c) → Steps F S X c (f i) R W R′ W′ K′ t
+      → Runs F S X c₀ (tabulate n f) R₀ W₀ R′ W′ K′ t
+  records-stop n l e a h =
+      let (rest, q) = tabulate-rest (i + 1) n f (omega arith) in
+      subst (λ ss. Runs F S X c₀ ss R₀ W₀ R′ W′ K′ t) q (runs-stop rest e (one-after a h))
+
+  records-next : {d : Context} → t ≡ Next d → Runs F S X c₀ (tabulate i f) R₀ W₀ R W K (Next c) → Steps F S X c (f i) R W R′ W′ K′ t
+      → Runs F S X c₀ (tabulate (i + 1) f) R₀ W₀ R′ W′ K′ (Next d)
+  records-next e a h = subst (Runs F S X c₀ (tabulate (i + 1) f) R₀ W₀ R′ W′ K′) e (one-after a h)
+
+same-record : (i n : ℕ) → i ≤ n → n ≤ i → i ≡ n
+same-record i n a b = omega arith
+
+no-records : {A : Type 0} (f : ℕ → A) → tabulate 0 f ≡ []
+unfolding tabulate
+no-records f = refl
+
+-- struct names
+pub record StructsDone (F : List ℕ) (S : Sections) (N : List ℕ) (i : ℕ) (c : Context) : Type 0 where
+  pub copied : Copied F S N i
+  pub counted : c ≡ record { structs = i; names = 0; steps = i }
+  pub runs : (X R W K : List ℕ) → Held F S X W K start → Runs F S X start (tabulate i structName) R W R W K (Next c)
+
+module _ {F : List ℕ} {S : Sections} where
+  structs-start : {N : List ℕ} → Laid F S → 1024 ≤ length N → StructsDone F S N 0 start
+  structs-start {N} l h = record {
+    copied = record { laid = l; long = h; names = λ j z. absurd (omega arith) };
+    counted = refl;
+    runs = λ X R W K held. subst (λ ss. Runs F S X start ss R W R W K (Next start)) (sym (no-records structName)) (runs-none refl held);
+  }
+
+  pub structs-first : {N : List ℕ} {c : Context} → Laid F S × (1024 ≤ length N) → c ≡ start → StructsDone F S N 0 c
+  structs-first {N} (l, h) e = subst (StructsDone F S N 0) (sym e) (structs-start l h)
+
+  module _ {N : List ℕ} {i : ℕ} {c : Context} (a : StructsDone F S N i c) where
+    pub structs-ready : i < S .structs → ReadyStruct F S N c i
+    structs-ready h = record {
+      copied = a .copied;
+      there = h;
+      next = ap (λ x. x .structs) (a .counted);
+      few = omega (arith, ap (λ x. x .steps) (a .counted), a .copied .laid .structs-most);
+    }
+
+    held-there : {X W K : List ℕ} → Held F S X W K start → (R : List ℕ) → Held F S X W K c
+    held-there {X} {W} {K} h R = runs-next refl (a .runs X R W K h) .1
+
+    module _ {N′ : List ℕ} {t : Stepped} (told : ToldStruct F S c i N′ t) where
+      pub structs-stop : i < S .structs → Stopped t → ToldStructs F S t
+      structs-stop l e = record {
+        tells = λ X R W K h. records-stop structName (λ j. refl) (S .structs) l e (a .runs X R W K h) (told .tells X W K (held-there h R) .tells R);
+      }
+
+      pub structs-next : {d : Context} → t ≡ Next d → StructsDone F S N′ (i + 1) d
+      structs-next {d} e = record {
+        copied = told .copied (e ∙ ap (λ x. Next x) (told .next d e));
+        counted = told .next d e ∙ ap withStruct (a .counted);
+        runs = λ X R W K h. records-next structName (λ j. refl) e (a .runs X R W K h) (told .tells X W K (held-there h R) .tells R);
+      }
+
+  pub structs-done : {N : List ℕ} {i : ℕ} {c : Context} → StructsDone F S N i c → i ≤ S .structs → S .structs ≤ i → ToldStructs F S (Next c)
+  structs-done {N} {i} {c} a l h = record {
+    tells = λ X R W K z. subst (λ n. Runs F S X start (tabulate n structName) R W R W K (Next c)) (same-record i (S .structs) l h) (a .runs X R W K z);
+  }
+
+-- built-ins
+pub record BuiltInsDone (F : List ℕ) (S : Sections) (X W : List ℕ) (c₀ : Context) (K : List ℕ) (i : ℕ) (c : Context) : Type 0 where
+  pub runs : (R : List ℕ) → Runs F S X c₀ (tabulate i builtIn) R W R W K (Next c)
+
+module _ {F : List ℕ} {S : Sections} {X W : List ℕ} {c₀ : Context} where
+  pub built-ins-start : {K : List ℕ} → ReadyBuiltIns F S X W K c₀ → BuiltInsDone F S X W c₀ K 0 c₀
+  built-ins-start {K} z = record {
+    runs = λ R. subst (λ ss. Runs F S X c₀ ss R W R W K (Next c₀)) (sym (no-records builtIn)) (runs-none refl (z .held));
+  }
+
+  module _ {K : List ℕ} {i : ℕ} {c : Context} (a : BuiltInsDone F S X W c₀ K i c) where
+    pub built-ins-ready : {K₀ : List ℕ} → ReadyBuiltIns F S X W K₀ c₀ → i < S .«built_ins» → ReadyBuiltIn F S X W K c i
+    built-ins-ready z h =
+        let (e, held) = runs-next refl (a .runs []) in
+        let m = after-counted 0 1 (tabulate i builtIn) c₀ (built-ins-alike i) in
+        let n = tabulate-long i builtIn in
+        record {
+          held = held;
+          whole = record {
+            structs = omega (arith, ap (λ x. x .structs) e, m .structs-are, z .structs);
+            few = omega (arith, ap (λ x. x .steps) e, m .steps-are, n, z .few, z .held .readable .laid .built-ins-most);
+          };
+          there = h;
+          next = omega (arith, ap (λ x. x .names) e, m .names-are, n, z .none);
+        }
+
+    module _ {K′ : List ℕ} {t : Stepped} (told : Rowless F S X c (builtIn i) W W K′ t) where
+      pub built-ins-stop : i < S .«built_ins» → Stopped t → ToldBuiltIns F S X W c₀ K′ t
+      built-ins-stop l e = record { tells = λ R. records-stop builtIn (λ j. refl) (S .«built_ins») l e (a .runs R) (told .tells R) }
+
+      pub built-ins-next : {d : Context} → t ≡ Next d → BuiltInsDone F S X W c₀ K′ (i + 1) d
+      built-ins-next e = record { runs = λ R. records-next builtIn (λ j. refl) e (a .runs R) (told .tells R) }
+
+    pub built-ins-done : i ≤ S .«built_ins» → S .«built_ins» ≤ i → ToldBuiltIns F S X W c₀ K (Next c)
+    built-ins-done l h = record {
+      tells = λ R. subst (λ n. Runs F S X c₀ (tabulate n builtIn) R W R W K (Next c)) (same-record i (S .«built_ins») l h) (a .runs R);
+    }
+
+-- struct fields
+pub record FieldsDone (F : List ℕ) (S : Sections) (X : List ℕ) (c₀ : Context) (i : ℕ) (c : Context) : Type 0 where
+  pub counted : c ≡ record { structs = c₀ .structs; names = c₀ .names; steps = c₀ .steps + i }
+  pub runs : (R W K : List ℕ) → Held F S X W K c₀ → Runs F S X c₀ (tabulate i structFields) R W R W K (Next c)
+
+module _ {F : List ℕ} {S : Sections} {X : List ℕ} {c₀ : Context} where
+  pub fields-start : FieldsDone F S X c₀ 0 c₀
+  fields-start = record {
+    counted = ap (λ k. record { structs = c₀ .structs; names = c₀ .names; steps = k }) (more-none (c₀ .steps));
+    runs = λ R W K h. subst (λ ss. Runs F S X c₀ ss R W R W K (Next c₀)) (sym (no-records structFields)) (runs-none refl h);
+  }
+    where
+      more-none : (k : ℕ) → k ≡ k + 0
+      more-none k = omega arith
+
+  module _ {i : ℕ} {c : Context} (a : FieldsDone F S X c₀ i c) where
+    pub fields-ready : {N N₀ : List ℕ} → ReadyStructs F S X N₀ c₀ → length N ≡ length N₀ → i < S .structs → ReadyFields F S X N c i
+    fields-ready z e h = record {
+      readable = z .readable;
+      indexed = z .indexed;
+      long = omega (arith, z .long);
+      whole = record {
+        structs = ap (λ x. x .structs) (a .counted) ∙ z .structs;
+        few = omega (arith, ap (λ x. x .steps) (a .counted), z .few, z .readable .laid .structs-most);
+      };
+      there = h;
+    }
+
+    module _ {t : Stepped} (told : ToldFields F S X c i t) where
+      field-step : {R W K : List ℕ} → Held F S X W K c₀ → Steps F S X c (structFields i) R W R W K t
+      field-step {R} {W} {K} h = told .tells W K (runs-next refl (a .runs R W K h) .1) .tells R
+
+      pub fields-stop : i < S .structs → Stopped t → ToldFieldsOf F S X c₀ t
+      fields-stop l e = record { tells = λ R W K h. records-stop structFields (λ j. refl) (S .structs) l e (a .runs R W K h) (field-step h) }
+
+      pub fields-next : {d : Context} → t ≡ Next d → FieldsDone F S X c₀ (i + 1) d
+      fields-next {d} e = record {
+        counted = told .next d e ∙ ap withStep (a .counted) ∙ ap (λ k. record { structs = c₀ .structs; names = c₀ .names; steps = k }) (one-more (c₀ .steps) i);
+        runs = λ R W K h. records-next structFields (λ j. refl) e (a .runs R W K h) (field-step h);
+      }
+        where
+          one-more : (k i : ℕ) → k + i + 1 ≡ k + (i + 1)
+          one-more k i = omega arith
+
+    pub fields-done : i ≤ S .structs → S .structs ≤ i → ToldFieldsOf F S X c₀ (Next c)
+    fields-done l h = record {
+      tells = λ R W K z. subst (λ n. Runs F S X c₀ (tabulate n structFields) R W R W K (Next c)) (same-record i (S .structs) l h) (a .runs R W K z);
+    }

@@ -1,0 +1,20 @@
+-- `finish` meets its contract. Assumes nothing.
+use borrow.Author.Needs.{needs}
+use Rattle.typing.proofs.LawsFill.{next-fits, number-fits, step-fits, place-fits, next-answer, next-rows, refused-answer, refused-rows}
+use Rattle.typing.proofs.check.finish.Statement.{statement}
+use Rattle.typing.proofs.check.finish.Tie as tie
+
+pub finish-spec : {M : Type 1} → statement M
+finish-spec =
+    tie.close
+    (tie.spec
+    (λ c. search needs)
+    (λ c. search (next-fits, needs))
+    (λ c. search needs)
+    (λ c κs. search needs)
+    (λ c. search (number-fits, needs))
+    (λ c. search (step-fits, needs))
+    (λ c. search (place-fits, needs))
+    (λ c. (search (next-answer, needs), search (next-rows, needs)))
+    (λ c. search needs)
+    (λ c. (search (refused-answer, needs), search (refused-rows, needs))))

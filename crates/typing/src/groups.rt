@@ -1,0 +1,215 @@
+// The steps in their groups, each step from the context that those before it made.
+use fields::literal::past;
+use file_sections::Sections;
+use file_sections::records::node_kind;
+use steps::context::Context;
+use steps::context::Stepped;
+ghost use mathlib.Core.Path.{_≡_};
+ghost use Prim.Native.Nat.{_*_, _≤_};
+ghost use lib.ListN.{length};
+ghost use Rattle.typing_rules.specs.Steps.{headings, globals, bodies};
+ghost use Rattle.file_sections.specs.Layout.{Laid};
+ghost use Rattle.typing.specs.Runs.{ToldStructs, ReadyBuiltIns, ToldBuiltIns, ReadyStructs, ToldFieldsOf, ReadyDecl, ToldDecl, HeadingTold, ReadyDecls, ToldDecls, HeadingsTold};
+
+// Struct names; `names` lends room for them.
+pub fn struct_names(file: &[u8], sections: Sections, names: &mut [u16]) -> Stepped
+    requires { ⌜ Laid (now file) sections × (1024 ≤ length (now names)) ⌝ }
+    ensures { λ r. ⌜ ToldStructs (now (file .entry)) sections r ⌝ }
+{
+    let mut c = Context::empty();
+    let mut i = 0;
+    while i < sections.structs {
+        let stepped = c.struct_step(file, sections, names, i);
+        let Stepped::Next(d) = stepped else {
+            return stepped;
+        };
+        c = d;
+        i += 1;
+    }
+    Stepped::Next(c)
+}
+
+// Built-ins.
+pub fn built_ins(
+    context: Context,
+    file: &[u8],
+    sections: Sections,
+    index: &[u16],
+    work: &[u16],
+    chains: &mut [u16],
+) -> Stepped
+    requires { ⌜ ReadyBuiltIns (now file) sections (now index) (now work) (now chains) context ⌝ }
+    ensures { λ r. ⌜ ToldBuiltIns (now (file .entry)) sections (now (index .entry)) (now (work .entry)) context (now (chains .exit)) r ⌝ }
+{
+    let mut c = context;
+    let mut i = 0;
+    while i < sections.built_ins {
+        let stepped = c.built_in_step(file, sections, index, work, chains, i);
+        let Stepped::Next(d) = stepped else {
+            return stepped;
+        };
+        c = d;
+        i += 1;
+    }
+    Stepped::Next(c)
+}
+
+// The heading of the declaration at `node`, where it is a function.
+fn heading(
+    context: Context,
+    file: &[u8],
+    sections: Sections,
+    index: &[u16],
+    work: &mut [u16],
+    chains: &mut [u16],
+    node: usize,
+) -> Stepped
+    requires { ⌜ ReadyDecl (now file) sections (now index) (now work) (now chains) context node ⌝ }
+    ensures { λ r. ⌜ HeadingTold (now (file .entry)) sections (now (index .entry)) context node (now (work .entry)) (now (work .exit)) (now (chains .exit)) r ⌝ }
+{
+    if node_kind(file, sections, node) != 2 {
+        return Stepped::Next(context);
+    }
+    context.heading_step(file, sections, index, work, chains, node)
+}
+
+// Function headings.
+pub fn headings(
+    context: Context,
+    file: &[u8],
+    sections: Sections,
+    index: &[u16],
+    work: &mut [u16],
+    chains: &mut [u16],
+) -> Stepped
+    requires { ⌜ ReadyDecls headings (now file) sections (now index) (now work) (now chains) context ⌝ }
+    ensures { λ r. ⌜ HeadingsTold (now (file .entry)) sections (now (index .entry)) context (now (work .entry)) (now (work .exit)) (now (chains .exit)) r ⌝ }
+{
+    let mut c = context;
+    let mut node = 0;
+    while node < sections.nodes {
+        let stepped = heading(c, file, sections, index, work, chains, node);
+        let Stepped::Next(d) = stepped else {
+            return stepped;
+        };
+        c = d;
+        node = past(file, sections, node);
+    }
+    Stepped::Next(c)
+}
+
+// The declaration at `node`, where it is a global.
+fn global(
+    context: Context,
+    file: &[u8],
+    sections: Sections,
+    index: &[u16],
+    rows: &mut [u16],
+    work: &mut [u16],
+    chains: &mut [u16],
+    node: usize,
+) -> Stepped
+    requires { ⌜ ReadyDecl (now file) sections (now index) (now work) (now chains) context node × (sections .nodes * 2 ≤ length (now rows)) ⌝ }
+    ensures { λ r. ⌜ ToldDecl globals (now (file .entry)) sections (now (index .entry)) context node (now (rows .entry)) (now (work .entry)) (now (rows .exit)) (now (work .exit)) (now (chains .exit)) r ⌝ }
+{
+    if node_kind(file, sections, node) != 1 {
+        return Stepped::Next(context);
+    }
+    context.global_step(file, sections, index, rows, work, chains, node)
+}
+
+// Globals.
+pub fn globals(
+    context: Context,
+    file: &[u8],
+    sections: Sections,
+    index: &[u16],
+    rows: &mut [u16],
+    work: &mut [u16],
+    chains: &mut [u16],
+) -> Stepped
+    requires { ⌜ ReadyDecls globals (now file) sections (now index) (now work) (now chains) context × (sections .nodes * 2 ≤ length (now rows)) ⌝ }
+    ensures { λ r. ⌜ ToldDecls globals (now (file .entry)) sections (now (index .entry)) context (now (rows .entry)) (now (work .entry)) (now (rows .exit)) (now (work .exit)) (now (chains .exit)) r ⌝ }
+{
+    let mut c = context;
+    let mut node = 0;
+    while node < sections.nodes {
+        let stepped = global(c, file, sections, index, rows, work, chains, node);
+        let Stepped::Next(d) = stepped else {
+            return stepped;
+        };
+        c = d;
+        node = past(file, sections, node);
+    }
+    Stepped::Next(c)
+}
+
+// Struct fields; `names` lends room for their names.
+pub fn struct_fields(
+    context: Context,
+    file: &[u8],
+    sections: Sections,
+    index: &[u16],
+    names: &mut [u16],
+) -> Stepped
+    requires { ⌜ ReadyStructs (now file) sections (now index) (now names) context ⌝ }
+    ensures { λ r. ⌜ ToldFieldsOf (now (file .entry)) sections (now (index .entry)) context r ⌝ }
+{
+    let mut c = context;
+    let mut i = 0;
+    while i < sections.structs {
+        let stepped = c.fields_step(file, sections, index, names, i);
+        let Stepped::Next(d) = stepped else {
+            return stepped;
+        };
+        c = d;
+        i += 1;
+    }
+    Stepped::Next(c)
+}
+
+// The body of the declaration at `node`, where it is a function.
+fn body(
+    context: Context,
+    file: &[u8],
+    sections: Sections,
+    index: &[u16],
+    rows: &mut [u16],
+    work: &mut [u16],
+    chains: &mut [u16],
+    node: usize,
+) -> Stepped
+    requires { ⌜ ReadyDecl (now file) sections (now index) (now work) (now chains) context node × (sections .nodes * 2 ≤ length (now rows)) ⌝ }
+    ensures { λ r. ⌜ ToldDecl bodies (now (file .entry)) sections (now (index .entry)) context node (now (rows .entry)) (now (work .entry)) (now (rows .exit)) (now (work .exit)) (now (chains .exit)) r ⌝ }
+{
+    if node_kind(file, sections, node) != 2 {
+        return Stepped::Next(context);
+    }
+    context.body_step(file, sections, index, rows, work, chains, node)
+}
+
+// Function bodies.
+pub fn bodies(
+    context: Context,
+    file: &[u8],
+    sections: Sections,
+    index: &[u16],
+    rows: &mut [u16],
+    work: &mut [u16],
+    chains: &mut [u16],
+) -> Stepped
+    requires { ⌜ ReadyDecls bodies (now file) sections (now index) (now work) (now chains) context × (sections .nodes * 2 ≤ length (now rows)) ⌝ }
+    ensures { λ r. ⌜ ToldDecls bodies (now (file .entry)) sections (now (index .entry)) context (now (rows .entry)) (now (work .entry)) (now (rows .exit)) (now (work .exit)) (now (chains .exit)) r ⌝ }
+{
+    let mut c = context;
+    let mut node = 0;
+    while node < sections.nodes {
+        let stepped = body(c, file, sections, index, rows, work, chains, node);
+        let Stepped::Next(d) = stepped else {
+            return stepped;
+        };
+        c = d;
+        node = past(file, sections, node);
+    }
+    Stepped::Next(c)
+}

@@ -1,0 +1,46 @@
+/* check FILE A B: checks a program file, prints the answer and, where it is accepted, each node's number and row, and asks whether the file's type A
+   is below its type B.
+
+       rt staticlib oat_c
+       cc -I include examples/c/check.c -L target/staticlib -l:liboat_c.a -o check
+       ./check examples/one_global.oat 0 1 */
+#include "oat.h"
+#include <stdio.h>
+#include <stdlib.h>
+
+static uint8_t file[OAT_MOST_BYTES + 1]; /* one byte more, so that a longer file is refused too */
+static uint16_t rows[OAT_MOST_NUMBERS], work[OAT_MOST_NUMBERS];
+
+/* How many nodes an accepted file has: the count of the last section, after those of five others with records of 4, 1, 2, 3 and 2 numbers. */
+static size_t node_count(void) {
+    static const size_t size[5] = {4, 1, 2, 3, 2};
+    size_t at = 0;
+    for (int section = 0; section < 5; section++)
+        at += 2 + 2 * size[section] * (file[at] + 256u * file[at + 1]);
+    return file[at] + 256u * file[at + 1];
+}
+
+int main(int argc, char **argv) {
+    FILE *in = argc == 4 ? fopen(argv[1], "rb") : NULL;
+    if (in == NULL) {
+        fprintf(stderr, "usage: check FILE A B\n");
+        return 2;
+    }
+    size_t length = fread(file, 1, sizeof file, in);
+    fclose(in);
+
+    uint16_t step, place;
+    uint16_t number = oat_check(file, length, rows, OAT_MOST_NUMBERS, work, OAT_MOST_NUMBERS, &step, &place);
+    printf("%d %d %d\n", number, step, place);
+    size_t nodes = number == OAT_ACCEPTED ? node_count() : 0;
+    for (size_t i = 0; i < nodes; i++)
+        printf("%zu %d %d\n", i, rows[2 * i], rows[2 * i + 1]);
+
+    uint8_t yes = 0;
+    uint16_t refused = oat_subtype(file, length, strtoul(argv[2], NULL, 10), strtoul(argv[3], NULL, 10), &yes);
+    if (refused != 0)
+        printf("type %s below type %s: refused under %d\n", argv[2], argv[3], refused);
+    else
+        printf("type %s below type %s: %s\n", argv[2], argv[3], yes ? "yes" : "no");
+    return 0;
+}

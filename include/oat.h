@@ -1,0 +1,73 @@
+/* The Oat v.2 checker for C and C++: reading a program file, the subtype question, and the check.
+   `rt staticlib oat_c` writes target/staticlib/liboat_c.a with these functions, for x86-64 Linux.
+
+   No function keeps anything between calls, allocates, prints or fails in another way than by its number, so that calls may run at the same
+   time as long as no buffer is lent to two of them. A pointer points to as many elements as the length after it says; with the length 0
+   it may be any pointer, but not a null pointer. The parts of memory that are lent to one call do not overlap. */
+#ifndef OAT_H
+#define OAT_H
+
+#include <stddef.h>
+#include <stdint.h>
+
+#ifdef __cplusplus
+extern "C" {
+#endif
+
+/* The longest program file, in bytes, and how many nodes a file has at most. Rows and work of two numbers for each node are always enough with
+   OAT_MOST_NUMBERS. */
+#define OAT_MOST_BYTES 45068
+#define OAT_MOST_NODES 4096
+#define OAT_MOST_NUMBERS (2 * OAT_MOST_NODES)
+
+/* In a row: no binder (and every number of the rows of a refused program); a built-in's number is added to OAT_BUILT_IN. */
+#define OAT_NONE 65535
+#define OAT_BUILT_IN 40000
+
+/* What the functions answer. */
+enum oat_number {
+    OAT_ACCEPTED = 0,          /* accepted; of oat_read: readable; of oat_subtype: answered */
+    OAT_LENGTH = 1,            /* length wrong */
+    OAT_COUNT = 2,             /* count over its most */
+    OAT_TYPES = 3,             /* types or type list broken */
+    OAT_RECORDS = 4,           /* fields, structs or built-ins broken */
+    OAT_TREE = 5,              /* node tree broken */
+    OAT_SHORT = 6,             /* rows or work short */
+    OAT_BOUND_TWICE = 7,       /* name bound twice */
+    OAT_UNKNOWN = 8,           /* name or field unknown */
+    OAT_UNDECLARED = 9,        /* undeclared struct in a type */
+    OAT_SORT = 10,             /* wrong sort of type */
+    OAT_NOT_BELOW = 11,        /* not a subtype */
+    OAT_NO_MATCH = 12,         /* arguments or fields don't match */
+    OAT_VOID = 13,             /* void against value */
+    OAT_RETURN = 14,           /* return mark wrong */
+    OAT_FUNCTION_ASSIGNED = 15,/* function assigned */
+    OAT_NO_DEFAULT = 16,       /* element without default */
+    OAT_NO_TYPE = 17           /* type not in file (oat_subtype alone) */
+};
+
+/* 0 where the file is readable, else 1 to 5. Changes nothing. */
+uint16_t oat_read(const uint8_t *file, size_t length);
+
+/* Whether the type a of the file is below its type b. Answers 0, with 1 for yes or 0 for no in *yes; or 1 to 5, or 17 where a or b is not the
+   number of a type, and *yes stays as it was. `yes` is not null. */
+uint16_t oat_subtype(const uint8_t *file, size_t length, size_t a, size_t b, uint8_t *yes);
+
+/* Checks a program file. Answers its number, and puts the answer's step and place into *step and *place (neither is null).
+
+     number     *step, *place                       rows                                   work
+     0          how many steps there are, 0         result and binder of each node         see below
+     1 to 6     0, 0                                as before                              as before
+     7 to 16    the step and where it broke         65,535 twice for each node             see below
+
+   Under 0 and 7 to 16 `rows` changes in its first two numbers for each node: node i has its result at 2 * i and its binder at 2 * i + 1. `work` has any
+   contents in as many of its first numbers. What lies past them stays in both. Both may hold anything before the call. 6 is answered where `rows` or
+   `work` has fewer than two numbers for each node of a readable file. */
+uint16_t oat_check(const uint8_t *file, size_t length, uint16_t *rows, size_t rows_length, uint16_t *work, size_t work_length,
+                   uint16_t *step, uint16_t *place);
+
+#ifdef __cplusplus
+}
+#endif
+
+#endif

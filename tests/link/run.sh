@@ -1,0 +1,51 @@
+#!/usr/bin/env bash
+# Links the programs of examples/c and examples/rust with the static library, runs them on examples, and compares what they print with
+# tests/link/expected.txt. The library is built where it is missing or older than a file of a crate.
+#     tests/link/run.sh            compare
+#     tests/link/run.sh --expect   write expected.txt from the peer's answers (after cargo build --release in tests/peer)
+set -eu
+cd "$(dirname "$0")/../.."
+library=target/staticlib/liboat_c.a
+peer=tests/peer/target/release/oat_peer
+
+# each example with a subtype question: B below A and not the other way round; C not below A; A? not below A; a type that is not there; refused files
+cases() {
+    cat <<'END'
+pan_levels 0 0
+pan_b_below_a 5 4
+pan_a_not_below_b 4 5
+pan_c_not_below_a 5 4
+null_not_a_pan 5 4
+null_tested 4 5
+arrays_invariant 7 6
+parameters_turn_round 7 6
+parameters_not_covariant 7 6
+one_global 4 0
+struct_twice 4 4
+cut_short 0 0
+void_array 0 0
+END
+}
+
+if [ "${1:-}" = --expect ]; then
+    cases | while read -r name a b; do
+        "$peer" check < "examples/$name.oat"
+        said=$("$peer" sub "$a" "$b" < "examples/$name.oat")
+        case $said in [0-9]*) said="refused under $said" ;; esac
+        echo "type $a below type $b: $said"
+    done > tests/link/expected.txt
+    exit
+fi
+
+out=$(mktemp -d)
+trap 'rm -r "$out"' EXIT
+if [ ! -e "$library" ] || [ -n "$(find crates crates.txt -newer "$library" -type f -print -quit)" ]; then
+    rt staticlib oat_c > "$out/log" 2>&1 || { cat "$out/log"; exit 1; }
+fi
+cc -std=c11 -Wall -Wextra -Werror -O2 -I include examples/c/check.c -L target/staticlib -l:liboat_c.a -o "$out/check_c"
+rustc --edition 2021 -D warnings -O examples/rust/check.rs -L target/staticlib -l static=oat_c -o "$out/check_rust"
+for program in check_c check_rust; do
+    cases | while read -r name a b; do "$out/$program" "examples/$name.oat" "$a" "$b"; done > "$out/$program.txt"
+    diff tests/link/expected.txt "$out/$program.txt"
+    echo "tests/link: $program prints what is expected"
+done

@@ -1,0 +1,46 @@
+//! The examples: each program file has a text beside it with the answer that the peer gives.
+
+use oat_peer::print;
+use std::collections::BTreeSet;
+use std::path::{Path, PathBuf};
+
+fn folder() -> PathBuf {
+    Path::new(env!("CARGO_MANIFEST_DIR")).join("../../examples")
+}
+
+/// The names of the files that end so, without the end.
+fn names(end: &str) -> BTreeSet<String> {
+    let files = std::fs::read_dir(folder()).expect("the examples can be listed");
+    let names = files.map(|f| f.expect("an example").file_name().into_string().expect("a plain name"));
+    names.filter_map(|n| n.strip_suffix(end).map(str::to_string)).collect()
+}
+
+/// The lines of a text after `Answer:` that stand in from the edge.
+fn told(text: &str) -> String {
+    let after = text.lines().skip_while(|line| *line != "Answer:").skip(1);
+    after.map_while(|line| line.strip_prefix("    ")).map(|line| line.to_string() + "\n").collect()
+}
+
+#[test]
+fn each_file_has_a_text() {
+    assert_eq!(names(".oat"), names(".txt"));
+}
+
+#[test]
+fn each_text_has_the_answer() {
+    for name in names(".oat") {
+        let file = std::fs::read(folder().join(name.clone() + ".oat")).expect("an example");
+        let text = std::fs::read_to_string(folder().join(name.clone() + ".txt")).expect("its text");
+        assert_eq!(told(&text), print::check(&file), "{name}");
+    }
+}
+
+#[test]
+fn accepted_and_refused_under_each_number_of_typing() {
+    let first = |name: &String| {
+        let file = std::fs::read(folder().join(name.clone() + ".oat")).expect("an example");
+        print::check(&file).split(' ').next().and_then(|n| n.parse::<u16>().ok()).expect("a number")
+    };
+    let numbers: BTreeSet<u16> = names(".oat").iter().map(first).collect();
+    assert!([0, 1, 3].into_iter().chain(7..=16).all(|n| numbers.contains(&n)), "{numbers:?}");
+}
