@@ -3,6 +3,7 @@ use subtyping::question::Answer;
 ghost use mathlib.Core.Path.{_≡_};
 ghost use Rattle.program_file.specs.Reading.{readingOf, limitsOf, numberOf};
 ghost use Rattle.subtyping.specs.Question.{subtypeOf, refusalNumber, yesAfter};
+ghost use Rattle.typing.specs.Check.{Checked, Demands};
 
 // 0 where the file is readable, or the number under which it is refused.
 #[no_mangle]
@@ -41,7 +42,10 @@ pub extern "C" fn oat_check(
     work: &mut [u16],
     step: &mut u16,
     place: &mut u16,
-) -> u16 {
+) -> u16
+    ensures { λ r. ⌜ Checked (now (file .entry)) (now (rows .entry)) (now (work .entry)) (now (rows .exit)) (now (work .exit)) (record { number = r; step = now (step .exit); place = now (place .exit) }) ⌝ }
+    ensures { λ r. ⌜ Demands (now (file .entry)) (now (rows .entry)) (now (work .entry)) (now (rows .exit)) (record { number = r; step = now (step .exit); place = now (place .exit) }) ⌝ }
+{
     let answer = typing::check::check(file, rows, work);
     *step = answer.step;
     *place = answer.place;
