@@ -365,10 +365,10 @@ few-steps p =
     (omega (arith, few-headings 0 (p .declarations), few-globals 0 (p .declarations), few-bodies 0 (p .declarations)))
 
 -- so a file has few steps
-file-steps : (bytes : List ℕ) (p : Program) → IsFile limits bytes p → length (stepsOf p) < 65536
+file-steps : (bytes : List ℕ) (p : Program) → IsFile limits bytes p → length (stepsOf p) < 65535
 file-steps bytes p f = omega (arith, few-steps p, f .used-up, f .counts .structs, f .counts .builtIns, f .counts .nodes)
 
-pub refused-fits : (bytes : List ℕ) (p : Program) → IsFile limits bytes p → (m j q : ℕ) → runOf p ≡ refused m j q → (m < 65536) × (j < 65536) × (q < 65536)
+pub refused-fits : (bytes : List ℕ) (p : Program) → IsFile limits bytes p → (m j q : ℕ) → runOf p ≡ refused m j q → (m ≤ 16) × (j < 65535) × (q < 65535)
 refused-fits bytes p f m j q e =
     let (least, most) = refused-number p m j q e in
     let within = refused-step p (fits bytes p f) m j q e .0 in
@@ -376,7 +376,7 @@ refused-fits bytes p f m j q e =
     let place = refused-place p 4096 (omega (arith, c .structs)) (omega (arith, c .builtIns)) (omega (arith, f .used-up, c .nodes)) m j q e in
     (omega arith, omega (arith, file-steps bytes p f), omega arith)
 
-pub accepted-fits : (bytes : List ℕ) (p : Program) → IsFile limits bytes p → (gs : List Segment) (k : ℕ) → runOf p ≡ accepted gs k → k < 65536
+pub accepted-fits : (bytes : List ℕ) (p : Program) → IsFile limits bytes p → (gs : List Segment) (k : ℕ) → runOf p ≡ accepted gs k → k < 65535
 accepted-fits bytes p f gs k e =
     let all = accepted-derives p (fits bytes p f) gs k e .0 in
     omega (arith, file-steps bytes p f)

@@ -88,7 +88,7 @@ run-ends {F} {S} {W = W} p f e (stops n s u q m) = ends-refused n s u q (run-is 
 -- the numbers of the answer
 ends-small : {F : List ℕ} {S : Sections} {R′ : List ℕ} {r : Stepped} (p : Program) → IsFile limits F p → Ends p S R′ r → Small r
 ends-small {F} p f (ends-next c gs q e w) = record {
-  next = λ d i. let same : c ≡ d = cc in subst (λ x. x .steps < 65536) same (accepted-fits F p f gs (c .steps) e);
+  next = λ d i. let same : c ≡ d = cc in subst (λ x. x .steps < 65535) same (accepted-fits F p f gs (c .steps) e);
   refused = λ n s u i. absurd (let z : _≡_ {A = ℕ} 0 1 = cc in omega arith);
 }
 ends-small {F} {r = r} p f (ends-refused n s u q e) = record {

@@ -27,27 +27,27 @@ fill-done R R₀ i e l h g =
 
 -- the answer
 module _ {r : Stepped} (h : Small r) where
-  pub next-fits : {c : Context} → r ≡ Next c → c .steps < 65536
-  next-fits {c} e = h .next c e
+  pub next-small : {c : Context} → r ≡ Next c → c .steps < 65535
+  next-small {c} e = h .next c e
 
-  pub number-fits : {n s q : ℕ} → r ≡ Refused n s q → n < 65536
-  number-fits {n} {s} {q} e = h .refused n s q e .0
+  pub number-small : {n s q : ℕ} → r ≡ Refused n s q → n ≤ 16
+  number-small {n} {s} {q} e = h .refused n s q e .0
 
-  pub step-fits : {n s q : ℕ} → r ≡ Refused n s q → s < 65536
-  step-fits {n} {s} {q} e = h .refused n s q e .1
+  pub step-small : {n s q : ℕ} → r ≡ Refused n s q → s < 65535
+  step-small {n} {s} {q} e = h .refused n s q e .1
 
-  pub place-fits : {n s q : ℕ} → r ≡ Refused n s q → q < 65536
-  place-fits {n} {s} {q} e = h .refused n s q e .2
+  pub place-small : {n s q : ℕ} → r ≡ Refused n s q → q < 65535
+  place-small {n} {s} {q} e = h .refused n s q e .2
 
 module _ {r : Stepped} where
-  pub next-answer : {c : Context} → r ≡ Next c → record { number = 0; step = c .steps; place = 0 } ≡ answerOf r
-  next-answer e = sym (ap answerOf e)
+  pub next-answer : {c : Context} {a : Answer} → r ≡ Next c → a ≡ record { number = 0; step = c .steps; place = 0 } → a ≡ answerOf r
+  next-answer e f = f ∙ sym (ap answerOf e)
 
   pub next-rows : {c : Context} (R : List ℕ) → r ≡ Next c → R ≡ rowsAfter r R
   next-rows R e = sym (ap (λ x. rowsAfter x R) e)
 
-  pub refused-answer : {n s q : ℕ} → r ≡ Refused n s q → record { number = n; step = s; place = q } ≡ answerOf r
-  refused-answer e = sym (ap answerOf e)
+  pub refused-answer : {n s q : ℕ} {a : Answer} → r ≡ Refused n s q → a ≡ record { number = n; step = s; place = q } → a ≡ answerOf r
+  refused-answer e f = f ∙ sym (ap answerOf e)
 
   pub refused-rows : {n s q : ℕ} {R′ : List ℕ} (R : List ℕ) → r ≡ Refused n s q → R′ ≡ replicate (length R) 65535 → R′ ≡ rowsAfter r R
   refused-rows R e f = f ∙ sym (ap (λ x. rowsAfter x R) e)

@@ -39,10 +39,10 @@ abbrev pub rowsAfter : Stepped → List ℕ → List ℕ
 rowsAfter (Next c) R = R
 rowsAfter (Refused n s q) R = replicate (length R) 65535
 
--- the numbers of the answer have 16 bits
+-- the numbers of the answer have 16 bits, with one to spare
 pub record Small (r : Stepped) : Type 0 where
-  pub next : (c : Context) → r ≡ Next c → c .steps < 65536
-  pub refused : (n s q : ℕ) → r ≡ Refused n s q → (n < 65536) × (s < 65536) × (q < 65536)
+  pub next : (c : Context) → r ≡ Next c → c .steps < 65535
+  pub refused : (n s q : ℕ) → r ≡ Refused n s q → (n ≤ 16) × (s < 65535) × (q < 65535)
 
 -- a readable file, whose rows and work are of the length needed
 pub record ReadyCheck (F : List ℕ) (S : Sections) (R W : List ℕ) : Type 0 where

@@ -44,6 +44,30 @@ fn fill(rows: &mut [u16])
     }
 }
 
+// The answer to an accepted file.
+fn acceptance(steps: usize) -> Answer
+    requires { ⌜ steps < 65535 ⌝ }
+    ensures { λ r. ⌜ r ≡ record { number = 0; step = steps; place = 0 } ⌝ }
+{
+    Answer {
+        number: 0,
+        step: steps as u16,
+        place: 0,
+    }
+}
+
+// The answer to a refused one.
+fn refusal(number: usize, step: usize, place: usize) -> Answer
+    requires { ⌜ (number ≤ 16) × (step < 65535) × (place < 65535) ⌝ }
+    ensures { λ r. ⌜ r ≡ record { number = number; step = step; place = place } ⌝ }
+{
+    Answer {
+        number: number as u16,
+        step: step as u16,
+        place: place as u16,
+    }
+}
+
 // The answer after the last step; a refusal fills the rows.
 fn finish(stepped: Stepped, rows: &mut [u16]) -> Answer
     requires { ⌜ Small stepped ⌝ }
@@ -51,18 +75,10 @@ fn finish(stepped: Stepped, rows: &mut [u16]) -> Answer
     ensures { λ _. ⌜ now (rows .exit) ≡ rowsAfter stepped (now (rows .entry)) ⌝ }
 {
     match stepped {
-        Stepped::Next(c) => Answer {
-            number: 0,
-            step: c.steps as u16,
-            place: 0,
-        },
+        Stepped::Next(c) => acceptance(c.steps),
         Stepped::Refused(number, step, place) => {
             fill(rows);
-            Answer {
-                number: number as u16,
-                step: step as u16,
-                place: place as u16,
-            }
+            refusal(number, step, place)
         }
     }
 }

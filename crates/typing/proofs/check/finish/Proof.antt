@@ -1,6 +1,6 @@
 -- `finish` meets its contract. Assumes nothing.
 use borrow.Author.Needs.{needs}
-use Rattle.typing.proofs.LawsFill.{next-fits, number-fits, step-fits, place-fits, next-answer, next-rows, refused-answer, refused-rows}
+use Rattle.typing.proofs.LawsFill.{next-small, number-small, step-small, place-small, next-answer, next-rows, refused-answer, refused-rows}
 use Rattle.typing.proofs.check.finish.Statement.{statement}
 use Rattle.typing.proofs.check.finish.Tie as tie
 
@@ -9,12 +9,10 @@ finish-spec =
     tie.close
     (tie.spec
     (λ c. search needs)
-    (λ c. search (next-fits, needs))
+    (λ c κs. search (next-small, needs))
     (λ c. search needs)
     (λ c κs. search needs)
-    (λ c. search (number-fits, needs))
-    (λ c. search (step-fits, needs))
-    (λ c. search (place-fits, needs))
+    (λ c κs. (search (number-small, needs), search (step-small, needs), search (place-small, needs)))
     (λ c. (search (next-answer, needs), search (next-rows, needs)))
     (λ c. search needs)
     (λ c. (search (refused-answer, needs), search (refused-rows, needs))))
