@@ -1,5 +1,5 @@
--- Where a refusal is: at a node, or under the number of a struct or of a built-in (`refused-place`). And the numbers of an answer to a file
--- fit in 16 bits (`refused-fits`, `accepted-fits`). Assumes nothing.
+-- Where a refusal is: its place is below any bound on the nodes, the structs and the built-ins (`refused-place`). So the numbers of an
+-- answer to a file fit in 16 bits (`refused-fits`, `accepted-fits`). Assumes nothing.
 use mathlib.Core.Path.{_≡_, subst}
 use mathlib.Core.Bool.{Bool, true, false, not, _&&_, _||_}
 use mathlib.Core.List.{List, [], _∷_, _++_}

@@ -90,7 +90,7 @@ pub data Stepping (F : List ℕ) (S : Sections) (X : List ℕ) (c : Context) (s 
 abbrev pub Steps : List ℕ → Sections → (X : List ℕ) → Context → Step → (R W R′ W′ K′ : List ℕ) → Stepped → Type 0
 Steps F S X c s R W R′ W′ K′ r = Stepping F S X c s R R′ W′ K′ r (runStep (tablesOf F S) (contextAt (tablesOf F S) W c) s)
 
--- the refusal of a judgement, at a step
+-- the refusal of a judgement, at a step; it is asked of refusals alone
 abbrev pub handedUp : Judgement → ℕ → Stepped
 handedUp (Typed t) step = Refused 0 step 0
 handedUp GoesOn step = Refused 0 step 0

@@ -43,7 +43,7 @@ pub enum Stepped {
     Refused(usize, usize, usize),
 }
 
-// The refusal of a judgement, at a step.
+// The refusal of a judgement, at a step; it is called with refusals alone, and numbers any other judgement 0.
 fn refusal(judgement: Judgement, step: usize) -> Stepped
     ensures { λ r. ⌜ r ≡ handedUp judgement step ⌝ }
 {

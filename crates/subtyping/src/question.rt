@@ -23,7 +23,7 @@ fn ask(file: &[u8], sections: Sections, a: usize, b: usize) -> Answer
     requires { ⌜ Readable (now file) sections × (a < sections .types) × (b < sections .types) ⌝ }
     ensures { λ r. ⌜ r ≡ pick (below (declared (tablesOf (now (file .entry)) sections)) (typeOf (tablesOf (now (file .entry)) sections) a) (typeOf (tablesOf (now (file .entry)) sections) b)) Answer.Yes Answer.No ⌝ }
 {
-    let mut index = [0u16; 1536];
+    let mut index = [0u16; 2112];
     index_types(file, sections, &mut index);
     if below(file, sections, &index, a, b) {
         return Answer::Yes;

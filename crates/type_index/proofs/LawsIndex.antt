@@ -1,6 +1,6 @@
 -- Laws of the index: the first number that passes a test, the struct that a name means, equal types under their lowest number, and
 -- an index with one type more. Assumes nothing.
-use mathlib.Core.Path.{_≡_, refl, ap, sym, subst, _∙_}
+use mathlib.Core.Path.{_≡_, refl, ap, sym, _∙_}
 use mathlib.Core.Bool.{Bool, true, false, not, false≢true}
 use mathlib.Core.List.{List}
 use mathlib.Core.Logic.{⊎-elim}
@@ -151,39 +151,15 @@ module _ (t : ℕ → Ty) where
           absurd (false≢true (sym f ∙ g))
       go false l = ltb-false (firstOf i) (firstOf j) l
 
+  pub first-equal : (i j : ℕ) → t i ≡ t j → firstOf i ≡ firstOf j
+  first-equal i j e = omega (arith, first-least i j e, first-least j i (sym e))
+
   pub firsts-same : (i j : ℕ) → eqb (firstOf i) (firstOf j) ≡ sameTy (t i) (t j)
   firsts-same i j =
       both-true
       (eqb (firstOf i) (firstOf j))
       (sameTy (t i) (t j))
-      (λ e. same-is (t i) (t j) .1 (sym (first-type i) ∙ ap t (eqb-true (firstOf i) (firstOf j) e) ∙ first-type j), λ s. eq-eqb (firstOf i) (firstOf j) (both i j (same-sound (t i) (t j) s)))
-    where
-      both : (i j : ℕ) → t i ≡ t j → firstOf i ≡ firstOf j
-      both i j e = omega (arith, first-least i j e, first-least j i (sym e))
-
--- the record of a struct, found by a loop over the structs: the first n structs
-unfoldable pub recordBelow : Tables → ℕ → ℕ → ℕ
-recordBelow T x n = firstBelow n (λ i. eqb (structAt T i .name) x)
-
-pub no-record : (T : Tables) (x : ℕ) → recordBelow T x 0 ≡ 0
-unfolding recordBelow
-no-record T x = first-none _
-
-module _ (s : List ℕ) (S : Sections) (x : ℕ) where
-  pub record-found : (i y : ℕ) → i < S .structs → recordBelow (tablesOf s S) x i ≡ i → y ≡ structAt (tablesOf s S) i .name → y ≡ x → i ≡ recordOf (tablesOf s S) x
-  unfolding recordOf recordBelow
-  record-found i y h e f g =
-      sym (first-at _ (length (tablesOf s S .structs)) i (rw (structs-long s S) h) e (eq-eqb (structAt (tablesOf s S) i .name) x (omega arith)))
-
-  pub record-next : (i y : ℕ) → recordBelow (tablesOf s S) x i ≡ i → y ≡ structAt (tablesOf s S) i .name → (y ≡ x → ⊥) → recordBelow (tablesOf s S) x (i + 1) ≡ i + 1
-  unfolding recordBelow
-  record-next i y e f g = first-more _ i e (ne-eqb (structAt (tablesOf s S) i .name) x (λ n. g (omega arith)))
-
-  pub record-none : (i : ℕ) → i ≤ S .structs → S .structs ≤ i → recordBelow (tablesOf s S) x i ≡ i → S .structs ≡ recordOf (tablesOf s S) x
-  unfolding recordOf recordBelow
-  record-none i h k e =
-      let n : i ≡ S .structs = omega arith in
-      rw structs-long (sym (rw n at e))
+      (λ e. same-is (t i) (t j) .1 (sym (first-type i) ∙ ap t (eqb-true (firstOf i) (firstOf j) e) ∙ first-type j), λ s. eq-eqb (firstOf i) (firstOf j) (first-equal i j (same-sound (t i) (t j) s)))
 
 -- the struct that a type names
 module _ (s : List ℕ) (S : Sections) (i k : ℕ) (ek : k ≡ kindAt (tablesOf s S) i) where
@@ -194,29 +170,6 @@ module _ (s : List ℕ) (S : Sections) (i k : ℕ) (ek : k ≡ kindAt (tablesOf 
   pub names-none : (k ≡ 4 → ⊥) → S .structs ≡ structNamed (tablesOf s S) i
   unfolding structNamed
   names-none h = rw (ne-eqb (kindAt (tablesOf s S) i) 4 (λ e. h (omega arith))) (sym (structs-long s S))
-
--- the first equal type, found by a loop over the lower types: the first n types
-unfoldable pub equalBelow : Tables → ℕ → ℕ → ℕ
-equalBelow T i n = firstBelow n (λ k. sameTy (typeOf T k) (typeOf T i))
-
-pub no-equal : (T : Tables) (i : ℕ) → equalBelow T i 0 ≡ 0
-unfolding equalBelow
-no-equal T i = first-none _
-
-module _ (T : Tables) (i j : ℕ) (e : equalBelow T i j ≡ j) where
-  pub lowest-found : (t : Bool) → j < i → t ≡ true → t ≡ sameTy (typeOf T j) (typeOf T i) → j ≡ firstBelow i (λ k. sameTy (typeOf T k) (typeOf T i))
-  unfolding equalBelow
-  lowest-found t h f g = sym (first-at _ i j h e (sym g ∙ f))
-
-  pub lowest-next : (t : Bool) → t ≡ false → t ≡ sameTy (typeOf T j) (typeOf T i) → equalBelow T i (j + 1) ≡ j + 1
-  unfolding equalBelow
-  lowest-next t f g = first-more _ j e (sym g ∙ f)
-
-  pub lowest-none : j ≤ i → i ≤ j → i ≡ firstBelow i (λ k. sameTy (typeOf T k) (typeOf T i))
-  unfolding equalBelow
-  lowest-none h k =
-      let n : j ≡ i = omega arith in
-      sym (subst (λ m. equalBelow T i m ≡ m) n e)
 
 -- the entries of the type i, stored
 module _ (index : List ℕ) (i e r m : ℕ) (long : 1536 ≤ length index) (low : i < 512) where

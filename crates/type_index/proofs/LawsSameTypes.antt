@@ -94,7 +94,7 @@ module _ (s : List ℕ) (S : Sections) (R : Readable s S) where
     pub nullable-kept : kindAt (tablesOf s S) i ≡ 7 → NullableType (tablesOf s S) i
     nullable-kept = kept .nullable i there
 
-    kind-most : kindAt (tablesOf s S) i ≤ 7
+    pub kind-most : kindAt (tablesOf s S) i ≤ 7
     kind-most = go (ltb i 4) refl
       where
         go : (b : Bool) → ltb i 4 ≡ b → kindAt (tablesOf s S) i ≤ 7

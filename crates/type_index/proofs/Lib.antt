@@ -1,3 +1,5 @@
 pub mod LawsIndex
 pub mod LawsSameTypes
 pub mod LawsFormedTypes
+pub mod LawsChains
+pub mod LawsRecordChains

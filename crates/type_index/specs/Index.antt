@@ -1,11 +1,13 @@
--- The index of a file's types: three numbers for each type i. At i the lowest number of an equal type, at 512 + i the first record of
--- the struct that the type names, at 1024 + i 1 where the type is well-formed. Assumes nothing.
+-- The index of a file's types: four numbers for each type i, and the heads of 64 chains. At i the lowest number of an equal type, at
+-- 512 + i the first record of the struct that the type names, at 1024 + i 1 where the type is well-formed, at 1536 + i the link to the
+-- type before it in its chain, at 2048 + h the head of the chain h; links and heads are one higher than the type that they lead to, 0
+-- for none. Assumes nothing.
 use mathlib.Core.Path.{_≡_}
 use mathlib.Core.Bool.{Bool, true}
 use mathlib.Core.List.{List}
-use Prim.Native.Nat.{ℕ, zero, suc, _+_, _≤_, _<_}
+use Prim.Native.Nat.{ℕ, zero, suc, _+_, _%_, _≤_, _<_}
 use lib.ListN.{length, getD}
-use lib.Dec.{eqb}
+use lib.Dec.{eqb, ltb}
 use Rattle.oat.specs.Basics.{pick, allBelow}
 use Rattle.oat.specs.Tables.{Tables, typeAt, entryAt, structAt}
 use Rattle.oat.specs.TypeRules.{kindAt, typesRight}
@@ -49,6 +51,29 @@ pub record Readable (s : List ℕ) (S : Sections) : Type 0 where
 -- every entry of the first n types is the first equal type
 pub record Firsts (index : List ℕ) (T : Tables) (n : ℕ) : Type 0 where
   pub first : (i : ℕ) → i < n → getD index i 0 ≡ firstBelow i (λ j. sameTy (typeOf T j) (typeOf T i))
+
+-- the chain of the type i, below 64: a base type's by its kind, a struct's by its name, any other type's by its kind and the first type
+-- equal to its operand a
+unfoldable pub bucketOf : Tables → ℕ → ℕ
+bucketOf T i =
+    pick (ltb (kindAt T i) 4) (kindAt T i)
+    (pick (eqb (kindAt T i) 4) (typeAt T i .a % 64)
+    ((firstBelow (typeAt T i .a) (λ k. sameTy (typeOf T k) (typeOf T (typeAt T i .a))) + kindAt T i) % 64))
+
+-- one more than the latest of the first n types that is in the chain h; 0 where there is none
+unfoldable pub topOf : Tables → ℕ → ℕ → ℕ
+topOf T h zero = 0
+topOf T h (suc j) = pick (eqb (bucketOf T j) h) (suc j) (topOf T h j)
+
+-- the chains lead through the first n types
+pub record Chained (index : List ℕ) (T : Tables) (n : ℕ) : Type 0 where
+  pub long : 2112 ≤ length index
+  pub heads : (h : ℕ) → h < 64 → getD index (2048 + h) 0 ≡ topOf T h n
+  pub links : (j : ℕ) → j < n → getD index (1536 + j) 0 ≡ topOf T (bucketOf T j) j
+
+-- the first n chains are empty
+pub record Cleared (index : List ℕ) (n : ℕ) : Type 0 where
+  pub heads : (h : ℕ) → h < n → getD index (2048 + h) 0 ≡ 0
 
 -- `count` entries of the type list from the entry `first` on are in the file, each a type below 512
 pub record Listed (s : List ℕ) (S : Sections) (first count : ℕ) : Type 0 where

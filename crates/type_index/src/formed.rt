@@ -1,9 +1,9 @@
 // Well-formed types. The entry 512 + i of the index is the first record of the struct that the type i names, or the number of
 // structs; the entry 1024 + i is 1 where the type i is well-formed, else 0.
+use crate::records::record_of;
 use crate::same::entry;
 use file_sections::Sections;
 use file_sections::records::list_entry;
-use file_sections::records::struct_name;
 use file_sections::records::type_a;
 use file_sections::records::type_b;
 use file_sections::records::type_c;
@@ -16,30 +16,16 @@ ghost use Rattle.oat.specs.TypeRules.{kindAt};
 ghost use Rattle.oat.specs.Types.{typeOf};
 ghost use Rattle.oat.specs.Decide.{isFormed};
 ghost use Rattle.file_sections.specs.Layout.{Laid, Has, tablesOf};
-ghost use Rattle.type_index.specs.Index.{declared, recordOf, structNamed, paramsFormed, Indexed, Listed, Readable};
-
-// The first record of the struct with this name, or the number of structs.
-fn record_of(file: &[u8], sections: Sections, name: usize) -> usize
-    requires { ⌜ Laid (now file) sections ⌝ }
-    ensures { λ r. ⌜ r ≡ recordOf (tablesOf (now (file .entry)) sections) name ⌝ }
-{
-    let mut i = 0;
-    while i < sections.structs {
-        if struct_name(file, sections, i) == name {
-            return i;
-        }
-        i += 1;
-    }
-    sections.structs
-}
+ghost use Rattle.type_index.specs.Index.{declared, structNamed, paramsFormed, Indexed, Listed, Readable};
+ghost use Rattle.type_index.specs.Records.{Recorded};
 
 // The first record of the struct that the type i names, or the number of structs.
-pub fn struct_of(file: &[u8], sections: Sections, i: usize) -> usize
-    requires { ⌜ Has (now file) sections i (sections .types) ⌝ }
+pub fn struct_of(file: &[u8], sections: Sections, records: &[u16], i: usize) -> usize
+    requires { ⌜ Has (now file) sections i (sections .types) × Recorded (now records) (tablesOf (now file) sections) (sections .structs) ⌝ }
     ensures { λ r. ⌜ r ≡ structNamed (tablesOf (now (file .entry)) sections) i ⌝ }
 {
     if type_kind(file, sections, i) == 4 {
-        return record_of(file, sections, type_a(file, sections, i));
+        return record_of(file, sections, records, type_a(file, sections, i));
     }
     sections.structs
 }

@@ -1,4 +1,5 @@
-// Equal types under their lowest number. The entry i of the index is the lowest number of a type equal to the type i.
+// Equal types under their lowest number. The entry i of the index is the lowest number of a type equal to the type i. It is found by a
+// walk along a chain, from the head at 2048 + bucket over the links at 1536 + j, since equal types have equal buckets.
 use file_sections::Sections;
 use file_sections::records::list_entry;
 use file_sections::records::type_a;
@@ -14,7 +15,7 @@ ghost use Rattle.oat.specs.TypeRules.{kindAt};
 ghost use Rattle.oat.specs.Types.{typeOf};
 ghost use Rattle.oat.specs.Decide.{sameTy};
 ghost use Rattle.file_sections.specs.Layout.{Laid, tablesOf};
-ghost use Rattle.type_index.specs.Index.{firstBelow, sameParams, Indexed, Listed, Operand, Parameters, Readable};
+ghost use Rattle.type_index.specs.Index.{firstBelow, sameParams, bucketOf, Chained, Firsts, Indexed, Listed, Operand, Parameters, Readable};
 
 // The entry i of the index.
 pub fn entry(index: &[u16], i: usize) -> usize
@@ -122,17 +123,38 @@ fn same_lower(file: &[u8], sections: Sections, index: &[u16], a: usize, b: usize
     }
 }
 
-// The lowest number of a type equal to the type i, where lower types are indexed.
-pub fn lowest(file: &[u8], sections: Sections, index: &[u16], i: usize) -> usize
+// The bucket of the type i, where lower types are indexed: equal types have equal buckets.
+pub fn bucket(file: &[u8], sections: Sections, index: &[u16], i: usize) -> usize
     requires { ⌜ Readable (now file) sections × (i < sections .types) × Indexed (now index) (tablesOf (now file) sections) i ⌝ }
+    requires { ⌜ Firsts (now index) (tablesOf (now file) sections) i ⌝ }
+    ensures { λ r. ⌜ (r ≡ bucketOf (tablesOf (now (file .entry)) sections) i) × (r < 64) ⌝ }
+{
+    let kind = type_kind(file, sections, i);
+    if kind < 4 {
+        return kind;
+    }
+    let a = type_a(file, sections, i);
+    if kind == 4 {
+        return a % 64;
+    }
+    let first = entry(index, a);
+    (first + kind) % 64
+}
+
+// The lowest number of a type equal to the type i, where lower types are indexed and chained, and i belongs to the bucket.
+pub fn lowest(file: &[u8], sections: Sections, index: &[u16], i: usize, bucket: usize) -> usize
+    requires { ⌜ Readable (now file) sections × (i < sections .types) × Indexed (now index) (tablesOf (now file) sections) i ⌝ }
+    requires { ⌜ Firsts (now index) (tablesOf (now file) sections) i × Chained (now index) (tablesOf (now file) sections) i ⌝ }
+    requires { ⌜ (bucket ≡ bucketOf (tablesOf (now file) sections) i) × (bucket < 64) ⌝ }
     ensures { λ r. ⌜ r ≡ firstBelow i (λ j. sameTy (typeOf (tablesOf (now (file .entry)) sections) j) (typeOf (tablesOf (now (file .entry)) sections) i)) ⌝ }
 {
-    let mut j = 0;
-    while j < i {
+    let mut after = entry(index, 2048 + bucket);
+    while 0 < after {
+        let j = after - 1;
         if same_lower(file, sections, index, j, i) {
-            return j;
+            return entry(index, j);
         }
-        j += 1;
+        after = entry(index, 1536 + j);
     }
     i
 }

@@ -139,7 +139,7 @@ fn check_read(file: &[u8], sections: Sections, rows: &mut [u16], work: &mut [u16
     requires { ⌜ ReadyCheck (now file) sections (now rows) (now work) ⌝ }
     ensures { λ r. ⌜ ToldCheck (now (file .entry)) sections (now (rows .exit)) (now (work .exit)) r ⌝ }
 {
-    let mut index = [0u16; 1536];
+    let mut index = [0u16; 2112];
     let mut names = [0u16; 1024];
     let mut chains = [0u16; 4736];
     index_types(file, sections, &mut index);

@@ -1,8 +1,10 @@
 -- `index::index_one` meets its contract. Assumes nothing.
+use mathlib.Core.Path.{refl, _∙_}
 use native.Mathlib.Omega.{arith}
 use lib.ListN.{length-set}
 use borrow.Author.Needs.{needs}
-use Rattle.type_index.proofs.LawsIndex.{first-fits, named-fits, firsts-more, indexed-more}
+use Rattle.type_index.proofs.LawsIndex.{first-fits, named-fits}
+use Rattle.type_index.proofs.LawsChains.{one-indexed, one-firsts, one-chained}
 use Rattle.type_index.proofs.index.index_one.Statement.{statement}
 use Rattle.type_index.proofs.index.index_one.Tie as tie
 
@@ -10,6 +12,7 @@ pub index-one-spec : {M : Type 1} → statement M
 index-one-spec =
     tie.close
     (tie.spec
+    (λ c κs. search needs)
     (λ c κs. search needs)
     (λ c κs. search needs)
     (λ c κs. search needs)
@@ -24,5 +27,6 @@ index-one-spec =
     (λ c. search needs)
     (λ c. search needs)
     (λ c. simp length-set (omega arith))
-    (λ c. search needs)
-    (λ c. (search (indexed-more, needs), search (firsts-more, needs))))
+    (λ c κs. (simp length-set (omega arith), search needs, search needs))
+    (λ c. c .before .before .link .kept .0 ∙ simp length-set refl)
+    (λ c. (search (one-indexed, needs), (search (one-firsts, needs), search (one-chained, needs)))))

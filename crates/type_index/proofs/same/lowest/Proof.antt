@@ -1,17 +1,16 @@
--- `same::lowest` meets its contract. The loop keeps: no type passed is equal. Assumes nothing.
-use mathlib.Core.Path.{_≡_}
-use Prim.Native.Nat.{_-_, _≤_}
+-- `same::lowest` meets its contract. The loop keeps: `after` stands on the chain of the type i, and no type passed is equal. Assumes
+-- nothing.
 use borrow.Author.Needs.{needs}
 use Rattle.file_sections.specs.Layout.{tablesOf}
-use Rattle.type_index.proofs.LawsIndex.{equalBelow, no-equal, lowest-found, lowest-next, lowest-none}
+use Rattle.type_index.proofs.LawsChains.{Walks, walk-starts, walk-found, walk-falls, walk-on, walk-ends}
 use Rattle.type_index.proofs.same.lowest.Statement.{statement}
 use Rattle.type_index.proofs.same.lowest.Tie as tie
 
 abbrev Inv-loop : tie.InvT-loop
-Inv-loop file sections index i j₀ j = (j ≤ i) × (equalBelow (tablesOf file sections) i j ≡ j)
+Inv-loop file sections index i bucket after₀ after = Walks (tablesOf file sections) i after
 
 abbrev μ-loop : tie.MeasureT-loop
-μ-loop file sections index i j₀ j = i - j
+μ-loop file sections index i bucket after₀ after = after
 
 pub lowest-spec : {M : Type 1} → statement M
 lowest-spec =
@@ -19,10 +18,15 @@ lowest-spec =
     (tie.spec
     Inv-loop
     μ-loop
-    (λ c. (search needs, search (no-equal, needs)))
+    (λ c. search needs)
     (λ c κs. search needs)
-    (λ c. lowest-found _ _ _ (c .before .before .before .loop .inv .1) _ (c .before .before .loop-test .taken) (c .if1 .taken) (c .before .same-lower .ensures))
+    (λ c. search (walk-starts, needs))
     (λ c. search needs)
+    (λ c κs. search needs)
+    (λ c κs. search needs)
+    (λ c. walk-found _ _ _ _ _ (c .before .before .before .before .loop .inv) (c .before .before .before .loop-test .taken) _ _ (c .before .before .same-lower .ensures) (c .before .if1 .taken) (c .entry2 .ensures .0) (c .before .before .before .before .before .before .before .before .pre .1 .0 .0))
     (λ c. search needs)
-    (λ c. (search needs, search (lowest-next, needs)))
-    (λ c. lowest-none _ _ _ (c .before .loop .inv .1) (search needs) (search needs)))
+    (λ c κs. search needs)
+    (λ c. search (walk-falls, needs))
+    (λ c. search (walk-on, needs))
+    (λ c. walk-ends _ _ _ _ (c .before .loop .inv) (search needs) (search needs) (search needs)))

@@ -1,0 +1,48 @@
+-- `records::record_of` meets its contract. The loop keeps: no record passed has the name, nor one before the next of the chain. Assumes
+-- nothing.
+use native.Mathlib.Omega.{arith}
+use borrow.Author.Needs.{needs}
+use Rattle.type_index.proofs.LawsRecordChains.{Seeking, head-there, seek-starts, seek-low, seek-found, link-there, seek-falls, seek-on, seek-ends}
+use Rattle.type_index.proofs.records.record_of.Statement.{statement}
+use Rattle.type_index.proofs.records.record_of.Tie as tie
+
+abbrev Inv-loop : tie.InvT-loop
+Inv-loop file sections records name after₀ after = Seeking file sections name after
+
+abbrev μ-loop : tie.MeasureT-loop
+μ-loop file sections records name after₀ after = after
+
+entry-requires : tie.Need-entry-requires Inv-loop μ-loop
+entry-requires c κs = head-there _ _ _ (c .before .before .pre)
+
+loop-holds : tie.Need-loop-holds Inv-loop μ-loop
+loop-holds c = seek-starts _ _ _ (c .before .before .before .pre) (c .entry .ensures .0)
+
+sub-i : tie.Need-sub-i Inv-loop μ-loop
+sub-i c = seek-low _ _ _ (c .before .before .before .before .before .before .pre) (c .before .before .loop .inv)
+
+struct-name-requires : tie.Need-struct-name-requires Inv-loop μ-loop
+struct-name-requires c κs = record { laid = c .before .before .before .before .before .before .pre .0; within = omega (arith, seek-low _ _ _ (c .before .before .before .before .before .before .pre) (c .before .before .loop .inv), c .before .loop-test .taken) }
+
+returns : tie.Need-returns Inv-loop μ-loop
+returns c = seek-found _ _ _ (c .before .before .before .before .before .before .before .before .pre) (c .before .before .before .before .loop .inv) (c .before .before .before .loop-test .taken) (c .before .struct-name .ensures .0) (c .if1 .taken)
+
+add-entry : tie.Need-add-entry Inv-loop μ-loop
+add-entry c = omega (arith, seek-low _ _ _ (c .before .before .before .before .before .before .before .before .pre) (c .before .before .before .before .loop .inv), c .before .before .before .before .before .before .before .before .pre .0 .structs-most)
+
+entry-requires-2 : tie.Need-entry-requires-2 Inv-loop μ-loop
+entry-requires-2 c κs = link-there _ _ _ (c .before .before .before .before .before .before .before .before .pre) (c .before .before .before .before .loop .inv) (c .before .before .before .loop-test .taken)
+
+loop-less : tie.Need-loop-less Inv-loop μ-loop
+loop-less c = seek-falls _ _ _ (c .before .before .before .before .before .before .before .before .before .pre) (c .before .before .before .before .before .loop .inv) (c .before .before .before .before .loop-test .taken) (c .entry2 .ensures .0) (c .before .before .struct-name .ensures .0)
+
+loop-again : tie.Need-loop-again Inv-loop μ-loop
+loop-again c = seek-on _ _ _ (c .before .before .before .before .before .before .before .before .before .pre) (c .before .before .before .before .before .loop .inv) (c .before .before .before .before .loop-test .taken) (c .entry2 .ensures .0) (c .before .before .struct-name .ensures .0) (c .before .if1 .left)
+
+returns-2 : tie.Need-returns-2 Inv-loop μ-loop
+returns-2 c = seek-ends _ _ _ (c .before .before .before .before .before .pre) (c .before .loop .inv) (c .loop-test .left)
+
+pub record-of-spec : {M : Type 1} → statement M
+record-of-spec =
+    tie.close
+    (tie.spec Inv-loop μ-loop entry-requires loop-holds sub-i struct-name-requires returns add-entry entry-requires-2 loop-less loop-again returns-2)

@@ -1,0 +1,58 @@
+/* Measures the stack that a check takes: every file of a packed file is checked on a painted stack, and the most that was written to is printed. */
+#include <pthread.h>
+#include <stdint.h>
+#include <stdio.h>
+#include <stdlib.h>
+#include <string.h>
+#include "oat.h"
+
+enum { SIZE = 1 << 20, PAINT = 0xA5 };
+static uint8_t stack[SIZE] __attribute__((aligned(4096)));
+static uint8_t file[65536];
+static size_t length;
+static uint16_t rows[OAT_MOST_NUMBERS], work[OAT_MOST_NUMBERS];
+
+static void *nothing(void *unused) {
+    return unused;
+}
+
+static void *check(void *unused) {
+    uint16_t step, place;
+    oat_check(file, length, rows, OAT_MOST_NUMBERS, work, OAT_MOST_NUMBERS, &step, &place);
+    return unused;
+}
+
+static size_t used(void *(*run)(void *)) {
+    pthread_attr_t attributes;
+    pthread_t thread;
+    memset(stack, PAINT, SIZE);
+    pthread_attr_init(&attributes);
+    pthread_attr_setstack(&attributes, stack, SIZE);
+    if (pthread_create(&thread, &attributes, run, NULL) != 0)
+        exit(1);
+    pthread_join(thread, NULL);
+    size_t low = 0;
+    while (low < SIZE && stack[low] == PAINT)
+        low++;
+    return SIZE - low;
+}
+
+int main(int argc, char **argv) {
+    FILE *in = argc == 2 ? fopen(argv[1], "rb") : NULL;
+    if (in == NULL) {
+        fprintf(stderr, "usage: stack FILE\n");
+        return 1;
+    }
+    size_t empty = used(nothing), most = 0;
+    uint8_t head[4];
+    while (fread(head, 1, 4, in) == 4) {
+        length = head[0] + 256u * head[1];
+        if (fread(file, 1, length, in) != length)
+            return 1;
+        size_t took = used(check) - empty;
+        if (took > most)
+            most = took;
+    }
+    printf("most stack of a check: %zu bytes\n", most);
+    return 0;
+}
