@@ -15,10 +15,10 @@ mul-needed : tie.Need-mul-needed
 mul-needed c = omega (arith, nodes-few _ (c .before .before .before .before .read .ensures) (c .before .before .read2 .given .1))
 
 returns-2 : tie.Need-returns-2
-returns-2 c = with-demands (check-rows-short (bytes-of (now (c .before .before .before .before .before .before .before .before .before .before .args .file)) (c .before .before .before .before .before .before .before .before .before .shared-slice-known .given)) (c .before .before .before .before .before .before .read .ensures) (c .before .before .before .before .read2 .given .1) (c .before .if1 .taken) (c .bare2 .ensures))
+returns-2 c = with-demands (check-rows-short (bytes-of (now (c .before .before .before .before .before .before .before .before .before .before .args .file)) (c .before .before .before .before .before .before .before .before .before .shared-slice-known .given)) (c .before .before .before .before .before .before .read .ensures) (c .before .before .before .before .read2 .given .1) (omega (arith, c .before .if1 .taken)) (c .bare2 .ensures))
 
 returns-3 : tie.Need-returns-3
-returns-3 c = with-demands (check-work-short (bytes-of (now (c .before .before .before .before .before .before .before .before .before .before .before .args .file)) (c .before .before .before .before .before .before .before .before .before .before .shared-slice-known .given)) (c .before .before .before .before .before .before .before .read .ensures) (c .before .before .before .before .before .read2 .given .1) (c .before .before .if1 .left) (c .before .if2 .taken) (c .bare3 .ensures))
+returns-3 c = with-demands (check-work-short (bytes-of (now (c .before .before .before .before .before .before .before .before .before .before .before .args .file)) (c .before .before .before .before .before .before .before .before .before .before .shared-slice-known .given)) (c .before .before .before .before .before .before .before .read .ensures) (c .before .before .before .before .before .read2 .given .1) (c .before .before .if1 .left) (omega (arith, c .before .if2 .taken)) (c .bare3 .ensures))
 
 slice-aggregate-check-read : tie.Need-slice-aggregate-check-read
 slice-aggregate-check-read c = sym (length-take-le _ _ (c .before .before .if1 .left))
