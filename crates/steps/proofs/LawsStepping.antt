@@ -1,27 +1,25 @@
 -- A step's answer against the outcome of the definition, premise by premise, and the context of a file all of whose structs are
 -- declared. Assumes nothing.
-use mathlib.Core.Path.{_≡_, refl, ap, sym, subst, _∙_}
+use mathlib.Core.Path.{_≡_, refl, ap, sym, _∙_}
 use mathlib.Core.Bool.{Bool, true, false}
-use mathlib.Core.List.{List, [], _∷_}
-use Prim.Native.Nat.{ℕ, _+_, _*_, _≤_, _<_}
+use mathlib.Core.List.{List, []}
+use Prim.Native.Nat.{ℕ, _<_}
 use native.Mathlib.Omega.{arith}
-use lib.ListN.{length, getD}
-use Rattle.oat.specs.Tables.{Tables}
+use lib.ListN.{length}
 use Rattle.oat.specs.Types.{structsOf}
 use Rattle.typing_rules.specs.Contexts as Contexts
-use Rattle.typing_rules.specs.Labels.{Label}
-use Rattle.typing_rules.specs.Judge.{Out, ok, no, needs}
+use Rattle.typing_rules.specs.Judge.{Out, ok, needs}
 use Rattle.typing_rules.specs.Steps.{Step}
-use Rattle.typing_rules.specs.Check.{rowsBegin, stepRows}
+use Rattle.typing_rules.specs.Check.{stepRows}
 use Rattle.file_sections.specs.declared.Sections.{Sections}
 use Rattle.file_sections.specs.Layout.{tablesOf}
 use Rattle.file_sections.proofs.LawsRecords.{structs-long}
 use Rattle.bindings.specs.Bindings.{namesOf}
-use Rattle.expressions.specs.Contract.{contextOf, Kept}
+use Rattle.expressions.specs.Contract.{contextOf}
 use Rattle.steps.specs.declared.context.Context.{Context}
 use Rattle.steps.specs.declared.context.Stepped.{Stepped}
 use Rattle.steps.specs.declared.context.Stepped.the-variants.{Next, Refused}
-use Rattle.steps.specs.Contract.{contextAt, afterStep, spanOf, Held, ListAt, Accepted, Stepping, accepts, refuses, Whole}
+use Rattle.steps.specs.Contract.{contextAt, afterStep, spanOf, Held, Stepping, accepts, refuses, Whole}
 
 -- a premise that is tested
 module _ {F : List ℕ} {S : Sections} {X : List ℕ} {c : Context} {s : Step} {R R′ W′ K′ : List ℕ} {r : Stepped} where

@@ -2,13 +2,13 @@
 -- file, S its sections, X the index of types, R the rows, W the stack, K the chains; a prime marks a buffer after the call. Assumes
 -- nothing.
 use mathlib.Core.Path.{_≡_}
-use mathlib.Core.Bool.{Bool, true, _&&_}
-use mathlib.Core.List.{List, [], _∷_}
-use Prim.Native.Nat.{ℕ, zero, suc, _+_, _*_, _≤_, _<_}
+use mathlib.Core.Bool.{Bool, true}
+use mathlib.Core.List.{List}
+use Prim.Native.Nat.{ℕ, _+_, _*_, _≤_, _<_}
 use lib.ListN.{length, getD}
 use lib.Dec.{eqb}
 use Rattle.oat.specs.Basics.{allBelow}
-use Rattle.oat.specs.Tables.{Tables, typeAt, entryAt, structAt, nodeAt, fieldAt}
+use Rattle.oat.specs.Tables.{Tables, entryAt, structAt, fieldAt}
 use Rattle.oat.specs.Types.{structsOf}
 use Rattle.oat.specs.Syntax.{Expr, Block, global, function, size, sizeBlock}
 use Rattle.oat.specs.Nodes.{ParametersStand, DeclStands}

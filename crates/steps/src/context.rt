@@ -25,8 +25,7 @@ use file_sections::records::type_c;
 use statements::cycle::block;
 use type_index::formed::is_formed;
 ghost use mathlib.Core.Path.{_≡_};
-ghost use Prim.Native.Nat.{_+_, _≤_, _<_};
-ghost use lib.ListN.{length};
+ghost use Prim.Native.Nat.{_+_, _<_};
 ghost use Rattle.typing_rules.specs.Steps.{builtIn};
 ghost use Rattle.steps.specs.Contract.{withStruct, withName, withStep, handedUp, Rowless, ReadyStruct, ToldStruct, ReadyBuiltIn, ReadyHeading, ToldHeading, ReadyGlobal, ToldGlobal, ReadyFields, ToldFields, ReadyBody, ToldBody};
 

@@ -9,7 +9,7 @@ ghost use mathlib.Core.Path.{_≡_};
 ghost use Prim.Native.Nat.{_+_, _≤_, _<_};
 ghost use lib.ListN.{length};
 ghost use Rattle.file_sections.specs.Layout.{tablesOf};
-ghost use Rattle.type_index.specs.Index.{Indexed, Readable};
+ghost use Rattle.type_index.specs.Index.{Readable};
 ghost use Rattle.bindings.specs.Bindings.{Some};
 ghost use Rattle.steps.specs.Contract.{Newness, typesFormed, allNew};
 

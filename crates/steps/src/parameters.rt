@@ -5,7 +5,6 @@ use bindings::is_fresh;
 use file_sections::Sections;
 use file_sections::records::list_entry;
 use file_sections::records::node_x;
-ghost use mathlib.Core.Path.{_≡_};
 ghost use Rattle.steps.specs.Contract.{ReadyParameters, ToldParameters};
 
 // Binds the `count` parameters of the function at `node`, from the height `base` on, with the types that stand in the type list from

@@ -1,21 +1,22 @@
 -- All steps of a file, group after group. Assumes nothing.
-use mathlib.Core.Path.{_≡_, refl, ap, sym, subst, _∙_}
+use mathlib.Core.Path.{_≡_, refl, ap, ap₂, sym, subst, _∙_}
 use mathlib.Core.List.{List, [], _∷_, _++_, append-assoc}
-use Prim.Native.Nat.{ℕ, zero, suc, _+_, _*_, _≤_, _<_}
+use Prim.Native.Nat.{ℕ, _+_, _≤_}
 use native.Mathlib.Omega.{arith}
-use lib.ListN.{length, length-append}
+use lib.ListN.{length}
 use Rattle.oat.specs.Basics.{tabulate}
-use Rattle.oat.specs.Syntax.{Decl, global, function, sizeDecl, sizeDecls}
+use Rattle.oat.specs.Syntax.{Decl, global, function, sizeDecl}
 use Rattle.oat.proofs.LawsBasics.{tabulate-long}
-use Rattle.typing_rules.specs.Steps.{Step, structName, builtIn, structFields, headings, globals, bodies}
+use Rattle.typing_rules.specs.Steps.{Step, structName, builtIn, structFields, headings, globals, bodies, stepsOf}
 use Rattle.typing_rules.specs.Check.{rowsBegin}
 use Rattle.file_sections.specs.declared.Sections.{Sections}
-use Rattle.file_sections.specs.Layout.{Laid, tablesOf}
+use Rattle.file_sections.specs.Layout.{Laid}
+use Rattle.file_sections.proofs.LawsRecords.{structs-long, built-ins-long}
 use Rattle.steps.specs.declared.context.Context.{Context}
 use Rattle.steps.specs.declared.context.Stepped.{Stepped}
 use Rattle.steps.specs.declared.context.Stepped.the-variants.{Next}
 use Rattle.steps.specs.Contract.{Held}
-use Rattle.typing.specs.Runs.{start, afterSteps, Touched, touched-first, touched-later, Runs, ToldStructs, ReadyBuiltIns, ToldBuiltIns, ReadyStructs, ToldFieldsOf, Declares, ReadyDecls, ToldDecls, HeadingsTold, ReadyRun, firstSteps, ToldFirst, allSteps, ToldRun}
+use Rattle.typing.specs.Runs.{start, afterSteps, Touched, touched-first, touched-later, Runs, ToldStructs, ReadyBuiltIns, ToldBuiltIns, ReadyStructs, ToldFieldsOf, Declares, ReadyDecls, ToldDecls, HeadingsTold, ReadyRun, firstSteps, ToldFirst, programOf, ToldRun}
 use Rattle.typing.proofs.LawsRuns.{Stopped, after-append, touched-either, Apart, runs-then, runs-stop, runs-next}
 use Rattle.typing.proofs.LawsCounts.{More, after-counted, structs-alike, built-ins-alike, fields-alike, Bare, bare-none, bare-next, structs-bare, built-ins-bare, fields-bare, bare-untouched, headings-group, globals-group, bodies-group}
 use Rattle.typing.proofs.LawsGroups.{decls-some, group-alike, group-few, group-within}
@@ -46,6 +47,15 @@ bare-append (bare-next e a) b = bare-next e (bare-append a b)
 
 first-bare : (S : Sections) (ds : List Decl) → Bare (firstSteps S ds)
 first-bare S ds = bare-append (structs-bare (S .structs)) (bare-append (built-ins-bare (S .«built_ins»)) (headings-bare 0 ds))
+
+-- the steps of the file, by its sections
+all-are : (F : List ℕ) (S : Sections) (ds : List Decl)
+    → tabulate (S .structs) structName ++ (tabulate (S .«built_ins») builtIn ++ (headings 0 ds ++ (globals 0 ds ++ (tabulate (S .structs) structFields ++ bodies 0 ds))))
+    ≡ stepsOf (programOf F S ds)
+unfolding stepsOf
+all-are F S ds =
+    ap₂ (λ m n. tabulate m structName ++ (tabulate n builtIn ++ (headings 0 ds ++ (globals 0 ds ++ (tabulate m structFields ++ bodies 0 ds)))))
+    (sym (structs-long F S)) (sym (built-ins-long F S))
 
 -- every declaration has a heading or a global's step
 each-one : (n : ℕ) (ds : List Decl) → length (headings n ds) + length (globals n ds) ≡ length ds
@@ -129,7 +139,7 @@ module _ {F : List ℕ} {S : Sections} {X N W K : List ℕ} (z : ReadyRun F S X 
   pub all-first-stop : {R W′ K′ : List ℕ} {r : Stepped} → ToldFirst F S X W W′ K′ r → Stopped r → ToldRun F S X R W R W′ K′ r
   all-first-stop {R} {W′} {K′} {r} told e = record {
     tells = λ ds D.
-        subst (λ ss. Runs F S X start ss R W R W′ K′ r) (simp append-assoc)
+        subst (λ ss. Runs F S X start ss R W R W′ K′ r) (simp append-assoc (all-are F S ds))
         (runs-stop (globals 0 ds ++ (tabulate (S .structs) structFields ++ bodies 0 ds)) e (told .tells R ds D));
   }
 
@@ -176,7 +186,7 @@ module _ {F : List ℕ} {S : Sections} {X N W K : List ℕ} (z : ReadyRun F S X 
 
       pub all-globals-stop : Stopped r₂ → ToldRun F S X R W R₂ W₂ K₂ r₂
       all-globals-stop e = record {
-        tells = λ ds D. subst (λ ss. Runs F S X start ss R W R₂ W₂ K₂ r₂) (simp append-assoc) (runs-stop (tabulate (S .structs) structFields ++ bodies 0 ds) e (second ds D));
+        tells = λ ds D. subst (λ ss. Runs F S X start ss R W R₂ W₂ K₂ r₂) (simp append-assoc (all-are F S ds)) (runs-stop (tabulate (S .structs) structFields ++ bodies 0 ds) e (second ds D));
       }
 
       module _ {d : Context} (e₂ : r₂ ≡ Next d) where
@@ -211,7 +221,7 @@ module _ {F : List ℕ} {S : Sections} {X N W K : List ℕ} (z : ReadyRun F S X 
 
           pub all-fields-stop : Stopped r₃ → ToldRun F S X R W R₂ W₂ K₂ r₃
           all-fields-stop e = record {
-            tells = λ ds D. subst (λ ss. Runs F S X start ss R W R₂ W₂ K₂ r₃) (simp append-assoc) (runs-stop (bodies 0 ds) e (third ds D));
+            tells = λ ds D. subst (λ ss. Runs F S X start ss R W R₂ W₂ K₂ r₃) (simp append-assoc (all-are F S ds)) (runs-stop (bodies 0 ds) e (third ds D));
           }
 
           module _ {b : Context} (e₃ : r₃ ≡ Next b) where
@@ -246,7 +256,7 @@ module _ {F : List ℕ} {S : Sections} {X N W K : List ℕ} (z : ReadyRun F S X 
             pub all-done : {R′ W′ K′ : List ℕ} {r : Stepped} → ToldDecls bodies F S X b R₂ W₂ R′ W′ K′ r → ToldRun F S X R W R′ W′ K′ r
             all-done {R′} {W′} {K′} {r} told = record {
               tells = λ ds D.
-                  subst (λ ss. Runs F S X start ss R W R′ W′ K′ r) (simp append-assoc) (runs-then (apart ds) e₃ (third ds D) (told .tells ds D));
+                  subst (λ ss. Runs F S X start ss R W R′ W′ K′ r) (simp append-assoc (all-are F S ds)) (runs-then (apart ds) e₃ (third ds D) (told .tells ds D));
             }
               where
                 apart : (ds : List Decl) → Apart (firstSteps S ds ++ globals 0 ds ++ tabulate (S .structs) structFields) (bodies 0 ds)

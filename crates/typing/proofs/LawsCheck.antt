@@ -1,7 +1,7 @@
 -- The check of a readable file: the answer and the rows are the definition's; and the check on bytes and buffers. Assumes nothing.
 use mathlib.Core.Path.{_≡_, refl, ap, ap₂, sym, subst, _∙_}
 use mathlib.Core.List.{List, [], _∷_, _++_, append-nil}
-use Prim.Native.Nat.{ℕ, zero, suc, _+_, _*_, _≤_, _<_}
+use Prim.Native.Nat.{ℕ, _+_, _*_, _≤_, _<_}
 use native.Mathlib.Omega.{arith}
 use mir.Syntax.{w8}
 use mir.Val.{Fits}
@@ -10,35 +10,35 @@ use lib.Seq.{drop-at, length-take-le}
 use Rattle.oat.specs.Basics.{tabulate}
 use Rattle.oat.specs.Tables.{Tables}
 use Rattle.oat.specs.Types.{structsOf}
-use Rattle.oat.specs.Syntax.{Decl, sizeDecls}
+use Rattle.oat.specs.Syntax.{sizeDecls}
 use Rattle.oat.specs.Nodes.{DeclsStand}
 use Rattle.oat.specs.ProgramFile.{Program, IsFile}
 use Rattle.typing_rules.specs.Contexts as Contexts
-use Rattle.typing_rules.specs.Steps.{Step, structName, builtIn, structFields, headings, globals, bodies, stepsOf, emptyContext}
-use Rattle.typing_rules.specs.Check.{Segment, Ran, accepted, refused, withSegment, run, rowsFrom, answerOf as programAnswer, checkOf}
+use Rattle.typing_rules.specs.Steps.{Step, stepsOf, emptyContext}
+use Rattle.typing_rules.specs.Check.{Segment, Ran, accepted, refused, withSegment, run, answerOf as programAnswer, checkOf}
 use Rattle.typing_rules.proofs.Theorem.{runOf}
 use Rattle.typing_rules.proofs.LawsNumbers.{refused-number}
 use Rattle.typing_rules.proofs.RowsTheorem.{segments-long}
 use Rattle.file_sections.specs.declared.Sections.{Sections}
 use Rattle.file_sections.specs.declared.Reading.{Reading}
 use Rattle.file_sections.specs.declared.Reading.the-variants.{Refused as Unread, Good}
-use Rattle.file_sections.specs.Layout.{Laid, tablesOf}
-use Rattle.file_sections.proofs.LawsRecords.{structs-long, built-ins-long, nodes-long}
+use Rattle.file_sections.specs.Layout.{tablesOf}
+use Rattle.file_sections.proofs.LawsRecords.{nodes-long}
 use Rattle.program_file.specs.Reading.{readingOf, numberOf}
 use Rattle.program_file.proofs.Theorem.{Bytes, program-of, read-tables}
 use Rattle.type_index.specs.Index.{Indexed, Readable}
-use Rattle.bindings.specs.Bindings.{namesOf, Scoped}
+use Rattle.bindings.specs.Bindings.{namesOf}
 use Rattle.bindings.proofs.LawsBindings.{scoped-none}
 use Rattle.subtyping.proofs.LawsQuestion.{readable}
-use Rattle.demand3.specs.CheckFile.{limits, needed, Outcome, outcome, Checks, unreadable, rows-short, work-short, checked}
+use Rattle.demand3.specs.CheckFile.{limits, needed, outcome, Checks, unreadable, rows-short, work-short, checked}
 use Rattle.demand3.proofs.Theorem.{fits, demand3}
 use Rattle.demand3.proofs.LawsPlaces.{refused-fits, accepted-fits}
 use Rattle.steps.specs.declared.context.Context.{Context}
 use Rattle.steps.specs.declared.context.Stepped.{Stepped}
 use Rattle.steps.specs.declared.context.Stepped.the-variants.{Next, Refused}
-use Rattle.steps.specs.Contract.{contextAt, Held}
+use Rattle.steps.specs.Contract.{contextAt}
 use Rattle.typing.specs.declared.check.Answer.{Answer}
-use Rattle.typing.specs.Runs.{start, afterSteps, withSegments, Written, Run, Runs, goes, stops, Declares, ReadyRun, allSteps, ToldRun}
+use Rattle.typing.specs.Runs.{start, afterSteps, withSegments, Written, Runs, goes, stops, Declares, ReadyRun, programOf, ToldRun}
 use Rattle.typing.specs.Check.{outcomeOf, Checked, Demands, answerOf, rowsAfter, Small, ReadyCheck, AnswersAs, ToldCheck}
 use Rattle.typing.proofs.LawsRows.{rows-are}
 
@@ -63,31 +63,28 @@ module _ {F : List ℕ} {S : Sections} (p : Program) (f : IsFile limits F p) (e 
   declares : Declares F S (p .declarations)
   declares = record { stand = subst (λ T. DeclsStand T 0 (p .declarations)) tables-are (f .stand); used-up = f .used-up ∙ nodes-are }
 
-  steps-are : stepsOf p ≡ allSteps S (p .declarations)
-  unfolding stepsOf
-  steps-are =
-      ap₂ (λ m n. tabulate m structName ++ (tabulate n builtIn ++ (headings 0 (p .declarations) ++ (globals 0 (p .declarations) ++ (tabulate m structFields ++ bodies 0 (p .declarations))))))
-      (ap (λ T. length (T .structs)) tables-are ∙ structs-long F S) (ap (λ T. length (T .builtIns)) tables-are ∙ built-ins-long F S)
+  program-is : p ≡ programOf F S (p .declarations)
+  program-is = ap (λ T. record { tables = T; declarations = p .declarations }) tables-are
 
-  run-is : (W : List ℕ) → runOf p ≡ run (tablesOf F S) (contextAt (tablesOf F S) W start) (allSteps S (p .declarations) ++ []) 0
+  run-is : (W : List ℕ) → runOf p ≡ run (tablesOf F S) (contextAt (tablesOf F S) W start) (stepsOf (programOf F S (p .declarations)) ++ []) 0
   run-is W =
-      ap₂ (λ T ss. run T emptyContext ss 0) tables-are (steps-are ∙ sym (append-nil (allSteps S (p .declarations))))
-      ∙ ap (λ C. run (tablesOf F S) C (allSteps S (p .declarations) ++ []) 0) (sym (empty-start (tablesOf F S) W))
+      ap runOf program-is
+      ∙ ap₂ (λ C ss. run (tablesOf F S) C ss 0) (sym (empty-start (tablesOf F S) W)) (sym (append-nil (stepsOf (programOf F S (p .declarations)))))
 
 -- what a run of all steps of the program p says
-pub data Ends (p : Program) (S : Sections) (R′ : List ℕ) (r : Stepped) : Type 0 where
-  ends-next : (c : Context) (gs : List Segment) → r ≡ Next c → runOf p ≡ accepted gs (c .steps) → Written R′ (allSteps S (p .declarations)) gs → Ends p S R′ r
-  ends-refused : (n s q : ℕ) → r ≡ Refused n s q → runOf p ≡ refused n s q → Ends p S R′ r
+pub data Ends (p : Program) (R′ : List ℕ) (r : Stepped) : Type 0 where
+  ends-next : (c : Context) (ss : List Step) (gs : List Segment) → r ≡ Next c → runOf p ≡ accepted gs (c .steps) → Written R′ ss gs → Ends p R′ r
+  ends-refused : (n s q : ℕ) → r ≡ Refused n s q → runOf p ≡ refused n s q → Ends p R′ r
 
 run-ends : {F : List ℕ} {S : Sections} {X R W R′ W′ K′ : List ℕ} {r : Stepped} (p : Program) → IsFile limits F p → readingOf limits F ≡ Good S
-    → Runs F S X start (allSteps S (p .declarations)) R W R′ W′ K′ r → Ends p S R′ r
+    → Runs F S X start (stepsOf (programOf F S (p .declarations))) R W R′ W′ K′ r → Ends p R′ r
 unfolding run
-run-ends {F} {S} {W = W} p f e (goes gs q m) = ends-next (afterSteps (allSteps S (p .declarations)) start) gs q (run-is p f e W ∙ m .on [] ∙ segments-all gs _) (m .written)
+run-ends {F} {S} {W = W} p f e (goes gs q m) = ends-next (afterSteps (stepsOf (programOf F S (p .declarations))) start) _ gs q (run-is p f e W ∙ m .on [] ∙ segments-all gs _) (m .written)
 run-ends {F} {S} {W = W} p f e (stops n s u q m) = ends-refused n s u q (run-is p f e W ∙ m [])
 
 -- the numbers of the answer
-ends-small : {F : List ℕ} {S : Sections} {R′ : List ℕ} {r : Stepped} (p : Program) → IsFile limits F p → Ends p S R′ r → Small r
-ends-small {F} p f (ends-next c gs q e w) = record {
+ends-small : {F : List ℕ} {R′ : List ℕ} {r : Stepped} (p : Program) → IsFile limits F p → Ends p R′ r → Small r
+ends-small {F} p f (ends-next c ss gs q e w) = record {
   next = λ d i. let same : c ≡ d = cc in subst (λ x. x .steps < 65535) same (accepted-fits F p f gs (c .steps) e);
   refused = λ n s u i. absurd (let z : _≡_ {A = ℕ} 0 1 = cc in omega arith);
 }
@@ -108,8 +105,8 @@ unfolding checkOf
 check-is p a e = ap (programAnswer p) e
 
 ends-answer : {F : List ℕ} {S : Sections} {R′ : List ℕ} {r : Stepped} (p : Program) → IsFile limits F p → readingOf limits F ≡ Good S → length R′ ≡ S .nodes * 2
-    → Ends p S R′ r → AnswersAs p (rowsAfter r R′) (answerOf r)
-ends-answer {F} {S} {R′} p f e l (ends-next c gs q h w) =
+    → Ends p R′ r → AnswersAs p (rowsAfter r R′) (answerOf r)
+ends-answer {F} {S} {R′} p f e l (ends-next c ss gs q h w) =
     let long : length R′ ≡ 2 * sizeDecls (p .declarations) = omega (arith, nodes-are p f e, f .used-up) in
     let rows = rows-are (p .declarations) (segments-long p (fits F p f) gs (c .steps) h) w long in
     let is = sym (check-is p (accepted gs (c .steps)) h) in

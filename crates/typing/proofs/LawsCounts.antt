@@ -1,12 +1,11 @@
 -- Contexts after steps, by counting: how many structs, names and steps; and the steps of each group. Assumes nothing.
-use mathlib.Core.Path.{_≡_, refl, ap, sym, subst, _∙_}
+use mathlib.Core.Path.{_≡_, refl, ap, sym, _∙_}
 use mathlib.Core.List.{List, [], _∷_, _++_}
 use Prim.Native.Nat.{ℕ, zero, suc, _+_, _*_, _≤_, _<_}
 use native.Mathlib.Omega.{arith}
-use lib.ListN.{length, length-append}
+use lib.ListN.{length}
 use Rattle.oat.specs.Basics.{tabulate}
-use Rattle.oat.specs.Syntax.{Expr, Block, Decl, global, function, size, sizeBlock, sizeDecl, sizeDecls}
-use Rattle.oat.proofs.LawsBasics.{tabulate-long}
+use Rattle.oat.specs.Syntax.{Decl, global, function, sizeDecl}
 use Rattle.typing_rules.specs.Steps.{Step, structName, builtIn, heading, globalValue, structFields, body, headings, globals, bodies}
 use Rattle.typing_rules.specs.Check.{rowsBegin}
 use Rattle.steps.specs.declared.context.Context.{Context}

@@ -1,20 +1,20 @@
 -- One declaration of a group: by its node's kind it has a step, or none. Assumes nothing.
-use mathlib.Core.Path.{_≡_, refl, ap, sym, subst, _∙_}
+use mathlib.Core.Path.{_≡_, subst}
 use mathlib.Core.List.{List, [], _∷_}
 use Prim.Native.Nat.{ℕ, _+_, _*_, _≤_, _<_}
 use native.Mathlib.Omega.{arith}
 use lib.ListN.{length}
 use Rattle.oat.specs.Tables.{Tables, nodeAt}
-use Rattle.oat.specs.Syntax.{Expr, Block, block, Decl, global, function, size, sizeBlock, sizeDecl}
+use Rattle.oat.specs.Syntax.{Expr, Block, block, Decl, global, function, sizeBlock, sizeDecl}
 use Rattle.oat.specs.Nodes.{DeclStands}
-use Rattle.typing_rules.specs.Steps.{Step, heading, globalValue, body, headings, globals, bodies}
+use Rattle.typing_rules.specs.Steps.{headings, globals, bodies}
 use Rattle.file_sections.specs.declared.Sections.{Sections}
 use Rattle.file_sections.specs.Layout.{Has, tablesOf}
 use Rattle.file_sections.proofs.LawsRecords.{nodes-long}
 use Rattle.steps.specs.declared.context.Context.{Context}
 use Rattle.steps.specs.declared.context.Stepped.{Stepped}
 use Rattle.steps.specs.declared.context.Stepped.the-variants.{Next}
-use Rattle.steps.specs.Contract.{Held, ReadyHeading, ToldHeading, ReadyGlobal, ToldGlobal, ReadyBody, ToldBody}
+use Rattle.steps.specs.Contract.{ReadyHeading, ToldHeading, ReadyGlobal, ToldGlobal, ReadyBody, ToldBody}
 use Rattle.typing.specs.Runs.{Runs, ReadyDecl, ToldDecl, HeadingTold}
 use Rattle.typing.proofs.LawsRuns.{runs-none, runs-one}
 

@@ -1,23 +1,23 @@
 -- The steps of declarations, group by group: the loops over them. Assumes nothing.
 use mathlib.Core.Path.{_≡_, refl, ap, sym, subst, _∙_}
 use mathlib.Core.List.{List, [], _∷_, _++_, append-assoc, append-nil}
-use Prim.Native.Nat.{ℕ, zero, suc, _+_, _*_, _≤_, _<_}
+use Prim.Native.Nat.{ℕ, _+_, _*_, _≤_, _<_}
 use native.Mathlib.Nat.{add-mul}
 use native.Mathlib.Omega.{arith}
 use lib.ListN.{length, length-append}
 use Rattle.oat.specs.Tables.{Tables}
-use Rattle.oat.specs.Syntax.{Decl, global, function, block, sizeBlock, sizeDecl, sizeDecls}
+use Rattle.oat.specs.Syntax.{Decl, global, function, sizeDecl, sizeDecls}
 use Rattle.oat.specs.Nodes.{DeclStands, DeclsStand}
 use Rattle.typing_rules.specs.Steps.{Step}
 use Rattle.file_sections.specs.declared.Sections.{Sections}
 use Rattle.file_sections.specs.Layout.{tablesOf}
-use Rattle.fields.specs.Literal.{Trees, Tree, Past}
+use Rattle.fields.specs.Literal.{Tree, Past}
 use Rattle.fields.proofs.LawsTrees.{decl-tree}
 use Rattle.steps.specs.declared.context.Context.{Context}
 use Rattle.steps.specs.declared.context.Stepped.{Stepped}
 use Rattle.steps.specs.declared.context.Stepped.the-variants.{Next}
-use Rattle.steps.specs.Contract.{Held, Whole}
-use Rattle.typing.specs.Runs.{afterSteps, Touched, Runs, Declares, ReadyDecl, ToldDecl, ReadyDecls, ToldDecls}
+use Rattle.steps.specs.Contract.{Held}
+use Rattle.typing.specs.Runs.{Touched, Runs, Declares, ReadyDecl, ToldDecl, ReadyDecls, ToldDecls}
 use Rattle.typing.proofs.LawsRuns.{Stopped, touched-either, Apart, runs-none, runs-then, runs-stop, runs-next}
 use Rattle.typing.proofs.LawsCounts.{Alike, alike-none, alike-append, More, after-counted, bare-none, bare-untouched, Group}
 

@@ -12,7 +12,7 @@ use Rattle.steps.specs.declared.context.Stepped.the-variants.{Next}
 use Rattle.typing.specs.Runs.{ReadyDecl, HeadingTold, ReadyDecls, HeadingsTold}
 use Rattle.typing.proofs.LawsRuns.{Stopped}
 use Rattle.typing.proofs.LawsCounts.{headings-group}
-use Rattle.typing.proofs.LawsGroups.{Along, along-start, along-low, along-ready, along-tree, along-falls, along-next, along-stop, along-done}
+use Rattle.typing.proofs.LawsGroups.{Along, along-start, along-ready, along-tree, along-falls, along-next, along-stop, along-done}
 
 pub record HeadingsAlong (F : List ℕ) (S : Sections) (X : List ℕ) (c₀ : Context) (W₀ : List ℕ) (node : ℕ) (c : Context) (W K : List ℕ) : Type 0 where
   pub with-rows : (R : List ℕ) → Along headings F S X c₀ R W₀ node c R W K

@@ -1,21 +1,21 @@
 -- The loops over records: struct names, built-ins and struct fields. Assumes nothing.
 use mathlib.Core.Path.{_≡_, refl, ap, sym, subst, _∙_}
-use mathlib.Core.List.{List, [], _∷_, _++_}
-use Prim.Native.Nat.{ℕ, zero, suc, _+_, _*_, _≤_, _<_}
+use mathlib.Core.List.{List, []}
+use Prim.Native.Nat.{ℕ, _+_, _≤_, _<_}
 use native.Mathlib.Omega.{arith}
-use lib.ListN.{length, getD}
+use lib.ListN.{length}
 use Rattle.oat.specs.Basics.{tabulate}
 use Rattle.oat.proofs.LawsBasics.{tabulate-long}
 use Rattle.typing_rules.specs.Steps.{Step, structName, builtIn, structFields}
 use Rattle.file_sections.specs.declared.Sections.{Sections}
-use Rattle.file_sections.specs.Layout.{Laid, tablesOf}
+use Rattle.file_sections.specs.Layout.{Laid}
 use Rattle.steps.specs.declared.context.Context.{Context}
 use Rattle.steps.specs.declared.context.Stepped.{Stepped}
 use Rattle.steps.specs.declared.context.Stepped.the-variants.{Next}
-use Rattle.steps.specs.Contract.{withStruct, withName, withStep, spanOf, Held, Whole, Steps, Rowless, Copied, ReadyStruct, ToldStruct, ReadyBuiltIn, ReadyFields, ToldFields}
-use Rattle.typing.specs.Runs.{start, afterSteps, Runs, ToldStructs, ReadyBuiltIns, ToldBuiltIns, ReadyStructs, ToldFieldsOf}
+use Rattle.steps.specs.Contract.{withStruct, withStep, spanOf, Held, Steps, Rowless, Copied, ReadyStruct, ToldStruct, ReadyBuiltIn, ReadyFields, ToldFields}
+use Rattle.typing.specs.Runs.{start, Runs, ToldStructs, ReadyBuiltIns, ToldBuiltIns, ReadyStructs, ToldFieldsOf}
 use Rattle.typing.proofs.LawsRuns.{Stopped, Apart, runs-none, runs-one, runs-then, runs-stop, runs-next}
-use Rattle.typing.proofs.LawsCounts.{More, after-counted, built-ins-alike, Bare, bare-none, bare-next, bare-untouched, tabulate-more, tabulate-rest}
+use Rattle.typing.proofs.LawsCounts.{after-counted, built-ins-alike, Bare, bare-none, bare-next, bare-untouched, tabulate-more, tabulate-rest}
 
 pub apart-bare : (ss : List Step) {ts : List Step} → Bare ts → Apart ss ts
 apart-bare ss b = record { never = λ i t u. bare-untouched b u }

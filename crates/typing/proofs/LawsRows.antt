@@ -2,7 +2,7 @@
 use mathlib.Core.Path.{_≡_, refl, ap, sym, subst, _∙_}
 use mathlib.Core.Bool.{Bool, true, false}
 use mathlib.Core.List.{List, [], _∷_, _++_}
-use Prim.Native.Nat.{ℕ, zero, suc, _+_, _-_, _*_, _≤_, _<_}
+use Prim.Native.Nat.{ℕ, _+_, _-_, _*_, _<_}
 use native.Mathlib.Omega.{arith}
 use lib.ListN.{length, getD, length-append, List·getD-append}
 use lib.Dec.{eqb, ltb}
@@ -11,7 +11,7 @@ use borrow.Author.Tests.{eqb-true, ltb-true, ltb-false}
 use Rattle.oat.specs.Basics.{pick}
 use Rattle.oat.specs.Syntax.{Decl, sizeDecl, sizeDecls}
 use Rattle.typing_rules.specs.Steps.{Step}
-use Rattle.typing_rules.specs.Check.{Segment, rowsBegin, segmentAt, rowsFrom}
+use Rattle.typing_rules.specs.Check.{Segment, segmentAt, rowsFrom}
 use Rattle.typing_rules.proofs.RowsTheorem.{SegmentsLong, long-none, long-next}
 use Rattle.steps.specs.Contract.{ListAt}
 use Rattle.typing.specs.Runs.{Written, written-none, written-next}

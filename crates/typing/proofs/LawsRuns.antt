@@ -9,12 +9,11 @@ use denote.Enum.Declared.{tagOf}
 use lib.ListN.{length, getD}
 use lib.Dec.{ltb}
 use borrow.Author.Tests.{ltb-true, ltb-false}
-use Rattle.oat.specs.Tables.{Tables}
 use Rattle.typing_rules.specs.Contexts as Contexts
 use Rattle.typing_rules.specs.Labels.{Label}
 use Rattle.typing_rules.specs.Judge.{Out, ok, no}
 use Rattle.typing_rules.specs.Steps.{Step, structName, builtIn, heading, globalValue, structFields, body}
-use Rattle.typing_rules.specs.Check.{Segment, Ran, accepted, refused, withSegment, onStep, rowsBegin, stepRows, runStep, run}
+use Rattle.typing_rules.specs.Check.{Segment, Ran, accepted, refused, withSegment, rowsBegin, stepRows, runStep, run}
 use Rattle.file_sections.specs.declared.Sections.{Sections}
 use Rattle.file_sections.specs.Layout.{tablesOf}
 use Rattle.expressions.specs.Contract.{Kept}
@@ -22,7 +21,7 @@ use Rattle.steps.specs.declared.context.Context.{Context}
 use Rattle.steps.specs.declared.context.Stepped.{Stepped}
 use Rattle.steps.specs.declared.context.Stepped.the-variants.{Next, Refused}
 use Rattle.steps.proofs.context.Stepped.{the-type}
-use Rattle.steps.specs.Contract.{contextAt, afterStep, spanOf, Held, ListAt, Accepted, Stepping, accepts, refuses, Steps}
+use Rattle.steps.specs.Contract.{contextAt, afterStep, spanOf, Held, ListAt, Stepping, accepts, refuses, Steps}
 use Rattle.typing.specs.Runs.{afterSteps, withSegments, Touched, touched-first, touched-later, Written, written-none, written-next, Run, Runs, goes, stops}
 
 -- every step is counted

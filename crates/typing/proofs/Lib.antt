@@ -2,8 +2,6 @@ pub mod LawsRuns
 pub mod LawsCounts
 pub mod LawsGroups
 pub mod LawsHeadings
-pub mod LawsGlobals
-pub mod LawsBodies
 pub mod LawsLoops
 pub mod LawsDecls
 pub mod LawsAll

@@ -2,8 +2,8 @@
 -- marks a buffer after the call. Assumes nothing.
 use mathlib.Core.Path.{_≡_}
 use mathlib.Core.List.{List}
-use Prim.Native.Nat.{ℕ, _+_, _*_, _≤_, _<_}
-use lib.ListN.{length, getD, drop, replicate}
+use Prim.Native.Nat.{ℕ, _*_, _≤_, _<_}
+use lib.ListN.{length, drop, replicate}
 use Rattle.oat.specs.ProgramFile.{Program, IsFile}
 use Rattle.typing_rules.specs.Check.{checkOf}
 use Rattle.file_sections.specs.declared.Sections.{Sections}

@@ -5,13 +5,13 @@ use mathlib.Core.List.{List, [], _∷_, _++_}
 use Prim.Native.Nat.{ℕ, _+_, _*_, _≤_, _<_}
 use lib.ListN.{length, getD}
 use Rattle.oat.specs.Basics.{tabulate}
-use Rattle.oat.specs.Tables.{nodeAt}
 use Rattle.oat.specs.Syntax.{Decl, sizeDecl, sizeDecls}
 use Rattle.oat.specs.Nodes.{DeclStands, DeclsStand}
-use Rattle.typing_rules.specs.Steps.{Step, structName, builtIn, structFields, headings, globals, bodies}
+use Rattle.oat.specs.ProgramFile.{Program}
+use Rattle.typing_rules.specs.Steps.{Step, structName, builtIn, structFields, headings, stepsOf}
 use Rattle.typing_rules.specs.Check.{Segment, Ran, refused, withSegment, rowsBegin, run}
 use Rattle.file_sections.specs.declared.Sections.{Sections}
-use Rattle.file_sections.specs.Layout.{Laid, tablesOf}
+use Rattle.file_sections.specs.Layout.{tablesOf}
 use Rattle.type_index.specs.Index.{Indexed, Readable}
 use Rattle.steps.specs.declared.context.Context.{Context}
 use Rattle.steps.specs.declared.context.Stepped.{Stepped}
@@ -135,14 +135,9 @@ firstSteps S ds = tabulate (S .structs) structName ++ (tabulate (S .«built_ins�
 pub record ToldFirst (F : List ℕ) (S : Sections) (X W W′ K′ : List ℕ) (r : Stepped) : Type 0 where
   pub tells : (R : List ℕ) (ds : List Decl) → Declares F S ds → Runs F S X start (firstSteps S ds) R W R W′ K′ r
 
--- all: globals, struct fields and function bodies after those
-abbrev pub allSteps : Sections → List Decl → List Step
-allSteps S ds =
-    tabulate (S .structs) structName
-    ++ (tabulate (S .«built_ins») builtIn
-    ++ (headings 0 ds
-    ++ (globals 0 ds
-    ++ (tabulate (S .structs) structFields ++ bodies 0 ds))))
+-- all of them, in the definition's order
+abbrev pub programOf : List ℕ → Sections → List Decl → Program
+programOf F S ds = record { tables = tablesOf F S; declarations = ds }
 
 pub record ToldRun (F : List ℕ) (S : Sections) (X R W R′ W′ K′ : List ℕ) (r : Stepped) : Type 0 where
-  pub tells : (ds : List Decl) → Declares F S ds → Runs F S X start (allSteps S ds) R W R′ W′ K′ r
+  pub tells : (ds : List Decl) → Declares F S ds → Runs F S X start (stepsOf (programOf F S ds)) R W R′ W′ K′ r

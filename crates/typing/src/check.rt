@@ -11,7 +11,7 @@ use steps::context::Stepped;
 use type_index::index::index_types;
 ghost use mathlib.Core.Path.{_≡_};
 ghost use Prim.Native.Nat.{_*_, _≤_, _<_};
-ghost use lib.ListN.{length, getD, replicate};
+ghost use lib.ListN.{length, replicate};
 ghost use Rattle.typing.specs.Runs.{ReadyRun, ToldFirst, ToldRun};
 ghost use Rattle.typing.specs.Check.{Checked, Demands, answerOf, rowsAfter, Small, ReadyCheck, ToldCheck};
 

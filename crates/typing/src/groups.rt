@@ -4,7 +4,6 @@ use file_sections::Sections;
 use file_sections::records::node_kind;
 use steps::context::Context;
 use steps::context::Stepped;
-ghost use mathlib.Core.Path.{_≡_};
 ghost use Prim.Native.Nat.{_*_, _≤_};
 ghost use lib.ListN.{length};
 ghost use Rattle.typing_rules.specs.Steps.{headings, globals, bodies};

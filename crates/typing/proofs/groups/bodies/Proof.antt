@@ -1,12 +1,13 @@
 -- `bodies` meets its contract. The loop keeps: the declarations before `node` have had their steps of this group. Assumes nothing.
 use mathlib.Core.Path.{_≡_, refl}
 use Prim.Native.Nat.{_-_}
+use native.Mathlib.Omega.{arith}
 use lib.ListN.{length}
 use borrow.Author.Needs.{needs}
 use Rattle.typing_rules.specs.Steps.{bodies}
 use Rattle.typing.proofs.LawsRuns.{stopped}
-use Rattle.typing.proofs.LawsGroups.{Along}
-use Rattle.typing.proofs.LawsBodies.{bodies-start, bodies-ready, bodies-tree, bodies-stop, bodies-next, bodies-falls, bodies-done}
+use Rattle.typing.proofs.LawsCounts.{bodies-group}
+use Rattle.typing.proofs.LawsGroups.{Along, along-start, along-ready, along-tree, along-stop, along-next, along-falls, along-done}
 use Rattle.typing.proofs.groups.bodies.Statement.{statement}
 use Rattle.typing.proofs.groups.bodies.Tie as tie
 
@@ -18,25 +19,25 @@ abbrev μ-loop : tie.MeasureT-loop
 μ-loop file sections index rows₀ work₀ chains₀ c₀ node₀ rows work chains c node = sections .nodes - node
 
 loop-holds : tie.Need-loop-holds Inv-loop μ-loop
-loop-holds c = (bodies-start (c .before .before .before .before .before .pre .0), refl, refl, refl)
+loop-holds c = (along-start bodies-group (c .before .before .before .before .before .pre .0 .held), refl, refl, refl)
 
 body-requires : tie.Need-body-requires Inv-loop μ-loop
-body-requires c κs = (bodies-ready (c .before .before .before .before .before .before .before .before .before .before .before .pre .0) (c .before .before .before .before .before .loop .inv .0) (c .before .before .before .if1 .taken), search needs)
+body-requires c κs = (along-ready bodies-group (c .before .before .before .before .before .loop .inv .0) (c .before .before .before .before .before .before .before .before .before .before .before .pre .0) (c .before .before .before .if1 .taken), search needs)
 
 returns : tie.Need-returns Inv-loop μ-loop
-returns c = bodies-stop (c .before .before .before .before .before .before .before .before .before .before .before .before .before .before .before .before .before .before .before .before .pre .0) (c .before .before .before .before .before .before .before .before .before .before .before .before .before .before .loop .inv .0) (c .before .before .before .before .before .before .before .before .before .before .before .before .if1 .taken) (c .before .before .before .before .before .before .before .before .body .ensures) (stopped _ (c .before .match .keys2))
+returns c = along-stop bodies-group (c .before .before .before .before .before .before .before .before .before .before .before .before .before .before .loop .inv .0) (c .before .before .before .before .before .before .before .before .before .before .before .before .before .before .before .before .before .before .before .before .pre .0) (c .before .before .before .before .before .before .before .before .before .before .before .before .if1 .taken) (c .before .before .before .before .before .before .before .before .body .ensures) (stopped _ (c .before .match .keys2))
 
 past-requires : tie.Need-past-requires Inv-loop μ-loop
-past-requires c κs = bodies-tree (c .before .before .before .before .before .before .before .before .before .before .before .before .before .before .before .before .before .before .before .before .before .pre .0) (c .before .before .before .before .before .before .before .before .before .before .before .before .before .before .before .loop .inv .0) (c .before .before .before .before .before .before .before .before .before .before .before .before .before .if1 .taken)
+past-requires c κs = along-tree bodies-group (c .before .before .before .before .before .before .before .before .before .before .before .before .before .before .before .loop .inv .0) (c .before .before .before .before .before .before .before .before .before .before .before .before .before .before .before .before .before .before .before .before .before .pre .0) (c .before .before .before .before .before .before .before .before .before .before .before .before .before .if1 .taken)
 
 loop-less : tie.Need-loop-less Inv-loop μ-loop
-loop-less c = bodies-falls (c .before .before .before .before .before .before .before .before .before .before .before .before .before .before .before .before .before .before .before .before .before .before .pre .0) (c .before .before .before .before .before .before .before .before .before .before .before .before .before .before .before .before .loop .inv .0) (c .before .before .before .before .before .before .before .before .before .before .before .before .before .before .if1 .taken) (c .past .ensures)
+loop-less c = omega (arith, along-falls bodies-group (c .before .before .before .before .before .before .before .before .before .before .before .before .before .before .before .before .loop .inv .0) (c .before .before .before .before .before .before .before .before .before .before .before .before .before .before .before .before .before .before .before .before .before .before .pre .0) (c .before .before .before .before .before .before .before .before .before .before .before .before .before .before .if1 .taken) (c .past .ensures), c .before .before .before .before .before .before .before .before .before .before .before .before .before .before .if1 .taken)
 
 loop-again : tie.Need-loop-again Inv-loop μ-loop
-loop-again c = (bodies-next (c .before .before .before .before .before .before .before .before .before .before .before .before .before .before .before .before .before .before .before .before .before .before .pre .0) (c .before .before .before .before .before .before .before .before .before .before .before .before .before .before .before .before .loop .inv .0) (c .before .before .before .before .before .before .before .before .before .before .before .before .before .before .if1 .taken) (c .past .ensures) (c .before .before .before .before .before .before .before .before .before .before .body .ensures) (c .before .before .stepped .given .1), search needs, search needs, search needs)
+loop-again c = (along-next bodies-group (c .before .before .before .before .before .before .before .before .before .before .before .before .before .before .before .before .loop .inv .0) (c .before .before .before .before .before .before .before .before .before .before .before .before .before .before .before .before .before .before .before .before .before .before .pre .0) (c .before .before .before .before .before .before .before .before .before .before .before .before .before .before .if1 .taken) (c .past .ensures) (c .before .before .before .before .before .before .before .before .before .before .body .ensures) (c .before .before .stepped .given .1), search needs, search needs, search needs)
 
 returns-2 : tie.Need-returns-2 Inv-loop μ-loop
-returns-2 c = bodies-done (c .before .before .before .before .before .before .before .before .pre .0) (c .before .before .loop .inv .0) (c .if1 .left)
+returns-2 c = along-done bodies-group (c .before .before .loop .inv .0) (c .if1 .left)
 
 pub bodies-spec : {M : Type 1} → statement M
 bodies-spec =

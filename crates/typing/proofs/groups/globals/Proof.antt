@@ -1,12 +1,13 @@
 -- `globals` meets its contract. The loop keeps: the declarations before `node` have had their steps of this group. Assumes nothing.
 use mathlib.Core.Path.{_≡_, refl}
 use Prim.Native.Nat.{_-_}
+use native.Mathlib.Omega.{arith}
 use lib.ListN.{length}
 use borrow.Author.Needs.{needs}
 use Rattle.typing_rules.specs.Steps.{globals}
 use Rattle.typing.proofs.LawsRuns.{stopped}
-use Rattle.typing.proofs.LawsGroups.{Along}
-use Rattle.typing.proofs.LawsGlobals.{globals-start, globals-ready, globals-tree, globals-stop, globals-next, globals-falls, globals-done}
+use Rattle.typing.proofs.LawsCounts.{globals-group}
+use Rattle.typing.proofs.LawsGroups.{Along, along-start, along-ready, along-tree, along-stop, along-next, along-falls, along-done}
 use Rattle.typing.proofs.groups.globals.Statement.{statement}
 use Rattle.typing.proofs.groups.globals.Tie as tie
 
@@ -18,25 +19,25 @@ abbrev μ-loop : tie.MeasureT-loop
 μ-loop file sections index rows₀ work₀ chains₀ c₀ node₀ rows work chains c node = sections .nodes - node
 
 loop-holds : tie.Need-loop-holds Inv-loop μ-loop
-loop-holds c = (globals-start (c .before .before .before .before .before .pre .0), refl, refl, refl)
+loop-holds c = (along-start globals-group (c .before .before .before .before .before .pre .0 .held), refl, refl, refl)
 
 global-requires : tie.Need-global-requires Inv-loop μ-loop
-global-requires c κs = (globals-ready (c .before .before .before .before .before .before .before .before .before .before .before .pre .0) (c .before .before .before .before .before .loop .inv .0) (c .before .before .before .if1 .taken), search needs)
+global-requires c κs = (along-ready globals-group (c .before .before .before .before .before .loop .inv .0) (c .before .before .before .before .before .before .before .before .before .before .before .pre .0) (c .before .before .before .if1 .taken), search needs)
 
 returns : tie.Need-returns Inv-loop μ-loop
-returns c = globals-stop (c .before .before .before .before .before .before .before .before .before .before .before .before .before .before .before .before .before .before .before .before .pre .0) (c .before .before .before .before .before .before .before .before .before .before .before .before .before .before .loop .inv .0) (c .before .before .before .before .before .before .before .before .before .before .before .before .if1 .taken) (c .before .before .before .before .before .before .before .before .global .ensures) (stopped _ (c .before .match .keys2))
+returns c = along-stop globals-group (c .before .before .before .before .before .before .before .before .before .before .before .before .before .before .loop .inv .0) (c .before .before .before .before .before .before .before .before .before .before .before .before .before .before .before .before .before .before .before .before .pre .0) (c .before .before .before .before .before .before .before .before .before .before .before .before .if1 .taken) (c .before .before .before .before .before .before .before .before .global .ensures) (stopped _ (c .before .match .keys2))
 
 past-requires : tie.Need-past-requires Inv-loop μ-loop
-past-requires c κs = globals-tree (c .before .before .before .before .before .before .before .before .before .before .before .before .before .before .before .before .before .before .before .before .before .pre .0) (c .before .before .before .before .before .before .before .before .before .before .before .before .before .before .before .loop .inv .0) (c .before .before .before .before .before .before .before .before .before .before .before .before .before .if1 .taken)
+past-requires c κs = along-tree globals-group (c .before .before .before .before .before .before .before .before .before .before .before .before .before .before .before .loop .inv .0) (c .before .before .before .before .before .before .before .before .before .before .before .before .before .before .before .before .before .before .before .before .before .pre .0) (c .before .before .before .before .before .before .before .before .before .before .before .before .before .if1 .taken)
 
 loop-less : tie.Need-loop-less Inv-loop μ-loop
-loop-less c = globals-falls (c .before .before .before .before .before .before .before .before .before .before .before .before .before .before .before .before .before .before .before .before .before .before .pre .0) (c .before .before .before .before .before .before .before .before .before .before .before .before .before .before .before .before .loop .inv .0) (c .before .before .before .before .before .before .before .before .before .before .before .before .before .before .if1 .taken) (c .past .ensures)
+loop-less c = omega (arith, along-falls globals-group (c .before .before .before .before .before .before .before .before .before .before .before .before .before .before .before .before .loop .inv .0) (c .before .before .before .before .before .before .before .before .before .before .before .before .before .before .before .before .before .before .before .before .before .before .pre .0) (c .before .before .before .before .before .before .before .before .before .before .before .before .before .before .if1 .taken) (c .past .ensures), c .before .before .before .before .before .before .before .before .before .before .before .before .before .before .if1 .taken)
 
 loop-again : tie.Need-loop-again Inv-loop μ-loop
-loop-again c = (globals-next (c .before .before .before .before .before .before .before .before .before .before .before .before .before .before .before .before .before .before .before .before .before .before .pre .0) (c .before .before .before .before .before .before .before .before .before .before .before .before .before .before .before .before .loop .inv .0) (c .before .before .before .before .before .before .before .before .before .before .before .before .before .before .if1 .taken) (c .past .ensures) (c .before .before .before .before .before .before .before .before .before .before .global .ensures) (c .before .before .stepped .given .1), search needs, search needs, search needs)
+loop-again c = (along-next globals-group (c .before .before .before .before .before .before .before .before .before .before .before .before .before .before .before .before .loop .inv .0) (c .before .before .before .before .before .before .before .before .before .before .before .before .before .before .before .before .before .before .before .before .before .before .pre .0) (c .before .before .before .before .before .before .before .before .before .before .before .before .before .before .if1 .taken) (c .past .ensures) (c .before .before .before .before .before .before .before .before .before .before .global .ensures) (c .before .before .stepped .given .1), search needs, search needs, search needs)
 
 returns-2 : tie.Need-returns-2 Inv-loop μ-loop
-returns-2 c = globals-done (c .before .before .before .before .before .before .before .before .pre .0) (c .before .before .loop .inv .0) (c .if1 .left)
+returns-2 c = along-done globals-group (c .before .before .loop .inv .0) (c .if1 .left)
 
 pub globals-spec : {M : Type 1} → statement M
 globals-spec =
