@@ -12,9 +12,9 @@ use Rattle.oat.specs.Tables.{Tables, typeAt, entryAt, nodeAt}
 use Rattle.oat.specs.Types.{typeOf, structOf}
 use Rattle.oat.specs.Decide.{below}
 use Rattle.file_sections.specs.declared.Sections.{Sections}
-use Rattle.file_sections.specs.Layout.{Laid, Has, tablesOf}
+use Rattle.file_sections.specs.Layout.{Laid, Has, tablesOf, GoodTables}
 use Rattle.file_sections.proofs.LawsRecords.{structs-long}
-use Rattle.type_index.specs.Index.{declared, Readable}
+use Rattle.type_index.specs.Index.{declared}
 use Rattle.typing_rules.specs.Operators.{unaryType}
 use Rattle.typing_rules.specs.Rules.{member}
 use Rattle.typing_rules.specs.Judge.{hasDefault, isBelow, isBelowMember}
@@ -144,7 +144,7 @@ module _ (F : List ℕ) (S : Sections) (b : Bool) (t r x : ℕ) (f : FieldType) 
   fits-field u a k e ea = rw (not-false b k, field-member, e) ea
 
 -- the field's type is a type of the file
-pub field-there : (F : List ℕ) (S : Sections) (r x u : ℕ) (f : FieldType) → Readable F S → numberOf f ≡ fieldIn (tablesOf F S) r x → f ≡ Of u → u < S .types
+pub field-there : (F : List ℕ) (S : Sections) (r x u : ℕ) (f : FieldType) → GoodTables F S → numberOf f ≡ fieldIn (tablesOf F S) r x → f ≡ Of u → u < S .types
 field-there F S r x u f R ef e = found-below F S R r x u (sym ef ∙ ap numberOf e)
 
 -- a null of the type k, well-formed or not

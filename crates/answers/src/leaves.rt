@@ -28,8 +28,8 @@ ghost use Rattle.oat.specs.Types.{structOf};
 ghost use Rattle.typing_rules.specs.Operators.{unaryType};
 ghost use Rattle.typing_rules.specs.Rules.{member};
 ghost use Rattle.typing_rules.specs.Judge.{hasDefault, isBelow, isBelowMember};
-ghost use Rattle.file_sections.specs.Layout.{Laid, Has, tablesOf};
-ghost use Rattle.type_index.specs.Index.{Indexed, Readable};
+ghost use Rattle.file_sections.specs.Layout.{Laid, Has, tablesOf, GoodTables};
+ghost use Rattle.type_index.specs.Index.{Indexed};
 ghost use Rattle.bindings.specs.Bindings.{Some};
 ghost use Rattle.answers.specs.Answers.{structsAlone, withRow, leafAnswer, literalKind, Expecting, expectedAt, NullAnswer, NameAnswer};
 
@@ -60,7 +60,7 @@ pub fn still_below(
     expected: Expected,
     i: usize,
 ) -> bool
-    requires { ⌜ Readable (now file) sections × Indexed (now index) (tablesOf (now file) sections) (sections .types) × (t < sections .types) × Expecting (tablesOf (now file) sections) sections expected (i + 1) ⌝ }
+    requires { ⌜ GoodTables (now file) sections × Indexed (now index) (tablesOf (now file) sections) (sections .types) × (t < sections .types) × Expecting (tablesOf (now file) sections) sections expected (i + 1) ⌝ }
     ensures { λ r. ⌜ r ≡ (before && isBelow (tablesOf (now (file .entry)) sections) (structsAlone (tablesOf (now (file .entry)) sections)) t (expectedAt (tablesOf (now (file .entry)) sections) expected i)) ⌝ }
 {
     if !before {
@@ -85,7 +85,7 @@ pub fn still_fits(
     owner: usize,
     name: usize,
 ) -> bool
-    requires { ⌜ Readable (now file) sections × Indexed (now index) (tablesOf (now file) sections) (sections .types) × (t < sections .types) × (owner < sections .structs) ⌝ }
+    requires { ⌜ GoodTables (now file) sections × Indexed (now index) (tablesOf (now file) sections) (sections .types) × (t < sections .types) × (owner < sections .structs) ⌝ }
     ensures { λ r. ⌜ r ≡ (before && isBelowMember (tablesOf (now (file .entry)) sections) (structsAlone (tablesOf (now (file .entry)) sections)) t (member name (structOf (tablesOf (now (file .entry)) sections) owner .fields))) ⌝ }
 {
     if !before {

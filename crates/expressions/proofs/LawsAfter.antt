@@ -67,12 +67,12 @@ module _ {F : List ℕ} {S : Sections} {X : List ℕ} {base : ℕ} where
   -- rows, or a stack, of another length or contents
   pub fine-rows : {R R′ W K : List ℕ} {s : ℕ} → Fine F S X R W K base s → length R′ ≡ length R → Fine F S X R′ W K base s
   fine-rows {R} {R′} f e =
-      record { readable = f .readable; indexed = f .indexed; rows-long = subst (λ k. S .nodes * 2 ≤ k) (sym e) (f .rows-long); scoped = f .scoped; low = f .low; above = f .above }
+      record { good-tables = f .good-tables; indexed = f .indexed; rows-long = subst (λ k. S .nodes * 2 ≤ k) (sym e) (f .rows-long); scoped = f .scoped; low = f .low; above = f .above }
 
   pub fine-stack : {R W W′ K : List ℕ} {s : ℕ} → Fine F S X R W K base s → Same (entryOf (tablesOf F S) s) W W′ → length W′ ≡ length W → Fine F S X R W′ K base s
   fine-stack {R} {W} {W′} f m e =
       record {
-        readable = f .readable;
+        good-tables = f .good-tables;
         indexed = f .indexed;
         rows-long = f .rows-long;
         scoped = scoped-same (f .scoped) m (subst (λ k. S .nodes * 2 ≤ k) (sym e) (f .scoped .long));

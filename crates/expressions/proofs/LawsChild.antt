@@ -19,9 +19,9 @@ use borrow.Author.Tests.{eq-eqb}
 use Rattle.typing_rules.specs.Labels.{Label}
 use Rattle.typing_rules.specs.Judge.{ok, judge}
 use Rattle.file_sections.specs.declared.Sections.{Sections}
-use Rattle.file_sections.specs.Layout.{Laid, Has, tablesOf}
+use Rattle.file_sections.specs.Layout.{Laid, Has, tablesOf, GoodTables}
 use Rattle.file_sections.proofs.LawsRecords.{nodes-long, types-long, list-long}
-use Rattle.type_index.specs.Index.{declared, recordOf, structNamed, Indexed, Readable}
+use Rattle.type_index.specs.Index.{declared, recordOf, structNamed, Indexed}
 use Rattle.bindings.specs.Bindings.{scopeOf}
 use Rattle.answers.specs.declared.answer.Judgement.the-variants.{Typed}
 use Rattle.answers.specs.declared.answer.Judged.{Judged}
@@ -41,18 +41,18 @@ unfolding structsOf
 declared-long T = tabulate-long (length (T .structs)) _
 
 -- a type that is referred to
-module _ {F : List ℕ} {S : Sections} (readable : Readable F S) where
+module _ {F : List ℕ} {S : Sections} (good-tables : GoodTables F S) where
   formed : TypesFormed 200 (tablesOf F S)
-  formed = types-formed 200 (tablesOf F S) (readable .types)
+  formed = types-formed 200 (tablesOf F S) (good-tables .types)
 
   within : {t : ℕ} → t < S .types → t < length (tablesOf F S .types)
   within {t} h = subst (λ k. t < k) (sym (types-long F S)) h
 
   pub has-node : {n : ℕ} → n < S .nodes → Has F S n (S .nodes)
-  has-node h = record { laid = readable .laid; within = h }
+  has-node h = record { laid = good-tables .laid; within = h }
 
   pub has-type : {t : ℕ} → t < S .types → Has F S t (S .types)
-  has-type h = record { laid = readable .laid; within = h }
+  has-type h = record { laid = good-tables .laid; within = h }
 
   pub base-within : {t : ℕ} → t < 4 → t < S .types
   base-within {t} h = let four = formed .four in omega (arith, types-long F S)
@@ -84,10 +84,10 @@ module _ {F : List ℕ} {S : Sections} (readable : Readable F S) where
 -- where the index has the entries of a type
 module _ {F : List ℕ} {S : Sections} {X R W K : List ℕ} {base s : ℕ} (f : Fine F S X R W K base s) {t : ℕ} (h : t < S .types) where
   pub formed-entry : 1024 + t < length X
-  formed-entry = omega (arith, f .indexed .long, f .readable .laid .types-most)
+  formed-entry = omega (arith, f .indexed .long, f .good-tables .laid .types-most)
 
   pub named-entry : 512 + t < length X
-  named-entry = omega (arith, f .indexed .long, f .readable .laid .types-most)
+  named-entry = omega (arith, f .indexed .long, f .good-tables .laid .types-most)
 
 pub formed-is : {F : List ℕ} {S : Sections} {X R W K : List ℕ} {base s : ℕ} → Fine F S X R W K base s → {t : ℕ} {b : Bool} → t < S .types → b ≡ eqb (getD X (1024 + t) 0) 1
     → b ≡ isFormed (declared (tablesOf F S)) (typeOf (tablesOf F S) t)
@@ -103,7 +103,7 @@ module _ {F : List ℕ} {S : Sections} {X R W K : List ℕ} {base m s : ℕ} (g 
   child-within = typed-child .2 .within
 
   pub child-type : Has F S t (S .types)
-  child-type = has-type (g .fine .readable) child-within
+  child-type = has-type (g .fine .good-tables) child-within
 
   pub child-fine : Fine F S X R₁ W₁ K₁ base s
   child-fine = typed-child .2 .after .fine

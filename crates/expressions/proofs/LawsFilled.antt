@@ -18,9 +18,9 @@ use Rattle.typing_rules.specs.Contexts.{binds, isFresh}
 use Rattle.typing_rules.specs.Labels.{Label}
 use Rattle.typing_rules.specs.Judge.{Out, ok, no, andThen, needs, plain, referred, isBelow, formed, judge}
 use Rattle.file_sections.specs.declared.Sections.{Sections}
-use Rattle.file_sections.specs.Layout.{Has, tablesOf}
+use Rattle.file_sections.specs.Layout.{Has, tablesOf, GoodTables}
 use Rattle.file_sections.proofs.LawsRecords.{nodes-long}
-use Rattle.type_index.specs.Index.{declared, Indexed, Readable}
+use Rattle.type_index.specs.Index.{declared, Indexed}
 use Rattle.bindings.specs.Bindings.{entryOf, scopeOf, Scoped, Some, Same, Freshness, Bindable, Bound}
 use Rattle.bindings.proofs.LawsBindings.{scope-bound, names-bound, scope-same, names-same, same-trans}
 use Rattle.answers.specs.declared.answer.Judgement.the-variants.{Typed, Refused}
@@ -34,10 +34,10 @@ use Rattle.expressions.proofs.LawsChild.{has-node, has-type, base-withi
 use Rattle.expressions.proofs.LawsShape.{on-filled, size-one, stands-within}
 
 -- the element of an array type
-array-element : {F : List ℕ} {S : Sections} → Readable F S → {t u x : ℕ} → hasKind (tablesOf F S) t 5 ≡ true → u ≡ t → x ≡ typeAt (tablesOf F S) u .a → x < S .types
-array-element {F} {S} readable {t} {u} {x} h et ex =
+array-element : {F : List ℕ} {S : Sections} → GoodTables F S → {t u x : ℕ} → hasKind (tablesOf F S) t 5 ≡ true → u ≡ t → x ≡ typeAt (tablesOf F S) u .a → x < S .types
+array-element {F} {S} good-tables {t} {u} {x} h et ex =
     subst (λ i. i < S .types) (sym (ex ∙ ap (λ i. typeAt (tablesOf F S) i .a) et))
-    (element-within readable (kind-within readable 5 h) (has-kind (tablesOf F S) t 5 h .kind))
+    (element-within good-tables (kind-within good-tables 5 h) (has-kind (tablesOf F S) t 5 h .kind))
 
 -- the scope that a binding is left for
 after-leave : {F : List ℕ} {S : Sections} {X : List ℕ} {base n m k s : ℕ} {L : List (Label ℕ)} {R W K W₁ K₁ R₂ W₂ K₂ K₃ : List ℕ} → base ≤ s
@@ -48,7 +48,7 @@ after-leave {F} {S} {s = s} l b a c =
       kept = a .kept;
       same = same-trans (entryOf (tablesOf F S) s) (entryOf (tablesOf F S) (s + 1)) (omega arith) (b .same) (a .same);
       fine = record {
-        readable = a .fine .readable;
+        good-tables = a .fine .good-tables;
         indexed = a .fine .indexed;
         rows-long = a .fine .rows-long;
         scoped = c;
@@ -75,23 +75,23 @@ module _ {F : List ℕ} {S : Sections} {X R W K : List ℕ} {base n s m : ℕ} (
     low = omega (arith, g .fine .low, g .fine .above);
     room = omega (arith, g .room);
     node-there = omega (arith, g .after-node, g .within);
-    type-there = base-within (g .fine .readable) (omega arith);
+    type-there = base-within (g .fine .good-tables) (omega arith);
   }
 
   pub filling-node : Has F S n (S .nodes)
-  filling-node = has-node (g .fine .readable) (omega (arith, g .after-node, g .within))
+  filling-node = has-node (g .fine .good-tables) (omega (arith, g .after-node, g .within))
 
   pub filling-array : {t₁ : ℕ} → t₁ ≡ nodeAt (tablesOf F S) n .t → Has F S t₁ (S .types)
-  filling-array {t₁} et = has-type (g .fine .readable) (subst (λ i. i < S .types) (sym et) (kind-within (g .fine .readable) 5 (g .array)))
+  filling-array {t₁} et = has-type (g .fine .good-tables) (subst (λ i. i < S .types) (sym et) (kind-within (g .fine .good-tables) 5 (g .array)))
 
   pub filling-element : {t₁ x₁ : ℕ} → t₁ ≡ nodeAt (tablesOf F S) n .t → x₁ ≡ typeAt (tablesOf F S) t₁ .a → x₁ < S .types
-  filling-element et ex = array-element (g .fine .readable) (g .array) et ex
+  filling-element et ex = array-element (g .fine .good-tables) (g .array) et ex
 
   module _ {W₁ K₁ : List ℕ} (b : Bound F S W K s n 0 W₁ K₁) where
     pub filling-ready : Ready F S X R W₁ K₁ base m (s + 1)
     filling-ready = record {
       fine = record {
-        readable = g .fine .readable;
+        good-tables = g .fine .good-tables;
         indexed = g .fine .indexed;
         rows-long = g .fine .rows-long;
         scoped = b .scoped;
@@ -124,8 +124,8 @@ module _ {F : List ℕ} {S : Sections} {X R W K : List ℕ} {base n s m : ℕ} (
         filling-left = (filling-scoped, omega arith)
 
         module _ {K₃ : List ℕ} (c : Scoped F S W₂ K₃ s) {t₁ x₁ : ℕ} (et : t₁ ≡ nodeAt (tablesOf F S) n .t) (ex : x₁ ≡ typeAt (tablesOf F S) t₁ .a) where
-          pub filling-asked : Readable F S × Indexed X (tablesOf F S) (S .types) × (v < S .types) × (x₁ < S .types)
-          filling-asked = (g .fine .readable, g .fine .indexed, filling-value, filling-element et ex)
+          pub filling-asked : GoodTables F S × Indexed X (tablesOf F S) (S .types) × (v < S .types) × (x₁ < S .types)
+          filling-asked = (g .fine .good-tables, g .fine .indexed, filling-value, filling-element et ex)
 
           module _ {b₁ : Bool} (eb : b₁ ≡ below (declared (tablesOf F S)) (typeOf (tablesOf F S) v) (typeOf (tablesOf F S) x₁)) where
             below-is : isBelow (tablesOf F S) (contextOf (tablesOf F S) W base) v (referred (tablesOf F S) (nodeAt (tablesOf F S) n .t)) ≡ b₁
@@ -226,17 +226,17 @@ module _ {F : List ℕ} {S : Sections} {X R W K : List ℕ} {base n s : ℕ} (g 
 
   module _ {t₁ : ℕ} (et : t₁ ≡ nodeAt (tablesOf F S) n .t) where
     pub filled-within : t₁ < S .types
-    filled-within = subst (λ i. i < S .types) (sym et) (kind-within (g .fine .readable) 5 filled-kind)
+    filled-within = subst (λ i. i < S .types) (sym et) (kind-within (g .fine .good-tables) 5 filled-kind)
 
     pub filled-array : Has F S t₁ (S .types)
-    filled-array = has-type (g .fine .readable) filled-within
+    filled-array = has-type (g .fine .good-tables) filled-within
 
     module _ {x₁ : ℕ} (ea : x₁ ≡ typeAt (tablesOf F S) t₁ .a) where
       pub filled-element : x₁ < S .types
-      filled-element = array-element (g .fine .readable) filled-kind et ea
+      filled-element = array-element (g .fine .good-tables) filled-kind et ea
 
       pub filled-index : 1024 + x₁ < length X
-      filled-index = omega (arith, filled-element, g .fine .indexed .long, g .fine .readable .laid .types-most)
+      filled-index = omega (arith, filled-element, g .fine .indexed .long, g .fine .good-tables .laid .types-most)
 
       module _ {b₁ : Bool} (eb : b₁ ≡ eqb (getD X (1024 + x₁) 0) 1) where
         formed-at : (t : ℕ) → nodeAt (tablesOf F S) n .t ≡ t → formed (tablesOf F S) (contextOf (tablesOf F S) W base) (referred (tablesOf F S) t) ≡ b₁

@@ -16,9 +16,9 @@ use Rattle.typing_rules.specs.Rules.{Member, has, lacks, member}
 use Rattle.typing_rules.specs.Judge.{Out, ok, no, andThen, needs, isBelowMember, initsBelow, judge, judgeInits}
 use Rattle.typing_rules.specs.Check.{nextResult}
 use Rattle.file_sections.specs.declared.Sections.{Sections}
-use Rattle.file_sections.specs.Layout.{tablesOf}
+use Rattle.file_sections.specs.Layout.{tablesOf, GoodTables}
 use Rattle.file_sections.proofs.LawsRecords.{nodes-long}
-use Rattle.type_index.specs.Index.{Indexed, Readable}
+use Rattle.type_index.specs.Index.{Indexed}
 use Rattle.bindings.specs.Bindings.{scopeOf}
 use Rattle.answers.specs.declared.answer.Judgement.the-variants.{Typed, GoesOn, Refused}
 use Rattle.answers.specs.declared.answer.Judged.{Judged}
@@ -252,11 +252,11 @@ module _ {F : List ℕ} {S : Sections} {X R W K : List ℕ} {base n s left owner
           inits-row =
               let l = child-fine inits-ready m₁ y .rows-long in
               let k = child-within inits-ready m₁ y in
-              let laid = g .fine .readable .laid in
+              let laid = g .fine .good-tables .laid in
               (omega (arith, l, inits-here), omega (arith, inits-here, laid .nodes-most), omega (arith, k, laid .types-most), omega arith)
 
-          pub inits-tested : Readable F S × Indexed X (tablesOf F S) (S .types) × (t < S .types) × (owner < S .structs)
-          inits-tested = (g .fine .readable, g .fine .indexed, child-within inits-ready m₁ y, g .declared-there)
+          pub inits-tested : GoodTables F S × Indexed X (tablesOf F S) (S .types) × (t < S .types) × (owner < S .structs)
+          inits-tested = (g .fine .good-tables, g .fine .indexed, child-within inits-ready m₁ y, g .declared-there)
 
           pub inits-again : {R₃ : List ℕ} {x : ℕ} {b : Bool} → R₃ ≡ withRow R₂ m t 65535 → x ≡ nodeAt (tablesOf F S) m .x
               → b ≡ (fits && isBelowMember (tablesOf F S) (structsAlone (tablesOf F S)) t (member x (structOf (tablesOf F S) owner .fields)))

@@ -43,16 +43,16 @@ leaf-typing {F} {S} {X} {R} {W} {K} {base} {n} {s} {t} {b} {R′} {r} {Γ} g w e
 -- what the dispatcher gives `null`, and what its answer is
 module _ {F : List ℕ} {S : Sections} {X R W K : List ℕ} {base n s : ℕ} (g : Ready F S X R W K base n s) where
   pub leaf-node : Has F S n (S .nodes)
-  leaf-node = has-node (g .fine .readable) (g .within)
+  leaf-node = has-node (g .fine .good-tables) (g .within)
 
   module _ (kind : nodeAt (tablesOf F S) n .kind ≡ 10) where
     null-within : nodeAt (tablesOf F S) n .t < S .types
     null-within =
         on-null (λ e. nodeAt (tablesOf F S) n .t < S .types)
-        (λ t h. subst (λ i. i < S .types) (sym (h .0 .t-is)) (kind-within (g .fine .readable) 7 (h .1))) kind (g .tree) (g .stands)
+        (λ t h. subst (λ i. i < S .types) (sym (h .0 .t-is)) (kind-within (g .fine .good-tables) 7 (h .1))) kind (g .tree) (g .stands)
 
     pub null-type : nodeAt (tablesOf F S) n .t < 512
-    null-type = omega (arith, null-within, g .fine .readable .laid .types-most)
+    null-type = omega (arith, null-within, g .fine .good-tables .laid .types-most)
 
     pub null-asked : Has F S n (S .nodes) × (1536 ≤ length X) × (nodeAt (tablesOf F S) n .t < 512) × (S .nodes * 2 ≤ length R)
     null-asked = (leaf-node, g .fine .indexed .long, null-type, g .fine .rows-long)
@@ -91,7 +91,7 @@ module _ {F : List ℕ} {S : Sections} {X R W K : List ℕ} {base n s : ℕ} (g 
         tells = on-literal (Answers F S X R W base n s R′ W K r)
             (λ l h.
             let e = literal-type (tablesOf F S) n l h in
-            accepts _ _ (leaf-typing g (base-within (g .fine .readable) (low l)) (er ∙ ap (λ t. leafAnswer t n s) e) (eR ∙ ap (λ t. withRow R n t 65535) e))) a b;
+            accepts _ _ (leaf-typing g (base-within (g .fine .good-tables) (low l)) (er ∙ ap (λ t. leafAnswer t n s) e) (eR ∙ ap (λ t. withRow R n t 65535) e))) a b;
       }
     where
       low : (l : Literal) → literalType l < 4

@@ -13,8 +13,8 @@ use Rattle.typing_rules.specs.Contexts.{Scope, Context}
 use Rattle.typing_rules.specs.Labels.{Label}
 use Rattle.typing_rules.specs.Judge.{Out, ok, no, andThen, needs, isBelow, eachBelow, argumentsBelow, judge, judges}
 use Rattle.file_sections.specs.declared.Sections.{Sections}
-use Rattle.file_sections.specs.Layout.{tablesOf}
-use Rattle.type_index.specs.Index.{Indexed, Readable}
+use Rattle.file_sections.specs.Layout.{tablesOf, GoodTables}
+use Rattle.type_index.specs.Index.{Indexed}
 use Rattle.bindings.specs.Bindings.{scopeOf}
 use Rattle.answers.specs.declared.answer.Judgement.the-variants.{Typed, GoesOn, Refused}
 use Rattle.answers.specs.declared.answer.Judged.{Judged}
@@ -252,8 +252,8 @@ module _ {F : List ℕ} {S : Sections} {X R W K : List ℕ} {base n s left : ℕ
                 (p .rest) (omega (arith, p .counted, more)) (p .stand))
 
         module _ {t : ℕ} (y : r₁ .judgement ≡ Typed t) where
-          pub list-tested : Readable F S × Indexed X (tablesOf F S) (S .types) × (t < S .types) × Expecting (tablesOf F S) S x (i + 1)
-          list-tested = (g .fine .readable, g .fine .indexed, child-within list-ready m₁ y, list-expecting)
+          pub list-tested : GoodTables F S × Indexed X (tablesOf F S) (S .types) × (t < S .types) × Expecting (tablesOf F S) S x (i + 1)
+          list-tested = (g .fine .good-tables, g .fine .indexed, child-within list-ready m₁ y, list-expecting)
 
           pub list-again : {b : Bool} → b ≡ (fits && isBelow (tablesOf F S) (structsAlone (tablesOf F S)) t (expectedAt (tablesOf F S) x i))
               → Walked F S X base n s R W left x (r₁ .next) (i + 1) b R₂ W₂ K₂

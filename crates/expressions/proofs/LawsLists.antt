@@ -51,7 +51,7 @@ module _ {F : List ℕ} {S : Sections} {X : List ℕ} {base : ℕ} where
   -- the row of a node of the file can be written
   pub row-fits : {R W K : List ℕ} {n s t : ℕ} → Fine F S X R W K base s → n < S .nodes → t < S .types → (n * 2 + 1 < length R) × (n < 65536) × (t < 65536)
   row-fits f h k =
-      let laid = f .readable .laid in
+      let laid = f .good-tables .laid in
       (omega (arith, f .rows-long, h), omega (arith, h, laid .nodes-most), omega (arith, k, laid .types-most))
 
   -- a stack that had changed above the scope before
@@ -88,20 +88,20 @@ module _ {F : List ℕ} {S : Sections} {X R W K : List ℕ} {base n s : ℕ} (g 
   array-kind : (t < S .types) × (typeAt (tablesOf F S) t .kind ≡ 5)
   array-kind =
       array-at et (λ e. (t < S .types) × (typeAt (tablesOf F S) t .kind ≡ 5))
-      (λ es h. (kind-within (g .fine .readable) 5 (h .1), has-kind (tablesOf F S) t 5 (h .1) .kind)) kind (g .tree) (g .stands)
+      (λ es h. (kind-within (g .fine .good-tables) 5 (h .1), has-kind (tablesOf F S) t 5 (h .1) .kind)) kind (g .tree) (g .stands)
 
   pub array-within : t < S .types
   array-within = array-kind .0
 
   pub array-type : Has F S t (S .types)
-  array-type = has-type (g .fine .readable) array-within
+  array-type = has-type (g .fine .good-tables) array-within
 
   module _ {u : ℕ} (eu : u ≡ typeAt (tablesOf F S) t .a) where
     pub array-element : u < S .types
-    array-element = subst (λ i. i < S .types) (sym eu) (element-within (g .fine .readable) array-within (array-kind .1))
+    array-element = subst (λ i. i < S .types) (sym eu) (element-within (g .fine .good-tables) array-within (array-kind .1))
 
     pub array-entry : 1024 + u < length X
-    array-entry = omega (arith, array-element, g .fine .readable .laid .types-most, g .fine .indexed .long)
+    array-entry = omega (arith, array-element, g .fine .good-tables .laid .types-most, g .fine .indexed .long)
 
     pub array-list : {c : ℕ} → c ≡ nodeAt (tablesOf F S) n .children → ReadyList F S X R W K base (n + 1) s c (Each u)
     array-list {c} ec =
@@ -184,10 +184,10 @@ module _ {F : List ℕ} {S : Sections} {X R W K : List ℕ} {base n s : ℕ} (g 
 
       module _ (six : k₁ ≡ 6) {u : ℕ} (eu : u ≡ typeAt (tablesOf F S) f .a) where
         pub call-within : u < S .types
-        call-within = subst (λ i. i < S .types) (sym eu) (returned-within (g .fine .readable) (child-within call-first m₁ y₁) (sym e₁ ∙ six))
+        call-within = subst (λ i. i < S .types) (sym eu) (returned-within (g .fine .good-tables) (child-within call-first m₁ y₁) (sym e₁ ∙ six))
 
         pub call-type : Has F S u (S .types)
-        call-type = has-type (g .fine .readable) call-within
+        call-type = has-type (g .fine .good-tables) call-within
 
         module _ {k₂ : ℕ} (e₂ : k₂ ≡ typeAt (tablesOf F S) u .kind) where
           referred-kind : k₂ ≡ typeAt (tablesOf F S) (referred (tablesOf F S) f) .kind
@@ -233,7 +233,7 @@ module _ {F : List ℕ} {S : Sections} {X R W K : List ℕ} {base n s : ℕ} (g 
                     record {
                       fine = p .after .fine;
                       within = omega (arith, p .next, stands-end (tablesOf F S) (n + 1) a (h .1), nodes-long F S);
-                      expecting = parameters-within (g .fine .readable) (child-within call-first m₁ y₁) (sym e₁ ∙ six) eb ec;
+                      expecting = parameters-within (g .fine .good-tables) (child-within call-first m₁ y₁) (sym e₁ ∙ six) eb ec;
                       trees = es;
                       stand = subst (λ i. StandAll (tablesOf F S) i es) (sym (p .next)) (h .2);
                       counted = counts es (h .0 .children-is);
@@ -318,7 +318,7 @@ module _ {F : List ℕ} {S : Sections} {X R W K : List ℕ} {base n s : ℕ} (g 
   struct-kind : (t < S .types) × (typeAt (tablesOf F S) t .kind ≡ 4)
   struct-kind =
       struct-at et (λ e. (t < S .types) × (typeAt (tablesOf F S) t .kind ≡ 4))
-      (λ is h. (kind-within (g .fine .readable) 4 (h .1), has-kind (tablesOf F S) t 4 (h .1) .kind)) kind (g .tree) (g .stands)
+      (λ is h. (kind-within (g .fine .good-tables) 4 (h .1), has-kind (tablesOf F S) t 4 (h .1) .kind)) kind (g .tree) (g .stands)
 
   pub struct-within : t < S .types
   struct-within = struct-kind .0
@@ -347,7 +347,7 @@ module _ {F : List ℕ} {S : Sections} {X R W K : List ℕ} {base n s : ℕ} (g 
       struct-named =
           struct-at et (λ e. s + size e ≤ S .«built_ins» + S .nodes → Named F S W ((s - S .«built_ins») * 2) n o)
           (λ is h l. record {
-            readable = g .fine .readable;
+            good-tables = g .fine .good-tables;
             within = g .within;
             declared = low;
             inits = is;

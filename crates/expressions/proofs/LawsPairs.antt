@@ -126,7 +126,7 @@ module _ {F : List ℕ} {S : Sections} {X R W K : List ℕ} {base n s : ℕ} (g 
               }
 
           pub element-given : {x : ℕ} → x ≡ typeAt (tablesOf F S) t .a → x < S .types
-          element-given ex = subst (λ i. i < S .types) (sym ex) (element-within (g .fine .readable) (child-within element-first m₁ y₁) (sym e₁ ∙ z₁))
+          element-given ex = subst (λ i. i < S .types) (sym ex) (element-within (g .fine .good-tables) (child-within element-first m₁ y₁) (sym e₁ ∙ z₁))
 
           pub element-ok : {r : Judged} {R′ : List ℕ} {x : ℕ} → k₂ ≡ 0 → x ≡ typeAt (tablesOf F S) t .a → x < S .types
               → r ≡ record { judgement = Typed x; next = r₂ .next; scope = s } → R′ ≡ withRow R₂ n x 65535 → Told F S X R W base n s R′ W₂ K₂ r
@@ -172,7 +172,7 @@ module _ {F : List ℕ} {S : Sections} {X R W K : List ℕ} {base n s : ℕ} (g 
         sort-not x k v ex e f = or-neither (isEquality x) _ (sym (ap isEquality ex) ∙ o .0) (ne-eqb _ _ (λ i. f (e ∙ i ∙ sym (ap operandType ex) ∙ o .1)))
 
         pub operator-given : given < S .types
-        operator-given = subst (λ i. i < S .types) (o .2) (base-within (g .fine .readable) (result-low (nodeAt (tablesOf F S) n .x)))
+        operator-given = subst (λ i. i < S .types) (o .2) (base-within (g .fine .good-tables) (result-low (nodeAt (tablesOf F S) n .x)))
 
         pub operator-sort : {r : Judged} → (k₁ ≡ taken → ⊥) → r .judgement ≡ Refused 10 n → Told F S X R W base n s R₁ W₁ K₁ r
         unfolding judge
@@ -221,7 +221,7 @@ module _ {F : List ℕ} {S : Sections} {X R W K : List ℕ} {base n s : ℕ} (g 
                       passes _ 10 n _ (sort-yes x k₂ u (h .0 .x-is) e₂ z₂)
                       (passes _ 11 n _ (not-equality (isEquality x) _ (sym (ap isEquality (h .0 .x-is)) ∙ o .0))
                       (subst (λ i. Meets (Typing F S X base n (size (binary x a b)) s R W R′ W₂ K₂ r) r (plain i (scopeOf (tablesOf F S) W base s) (L ++ M))) is
-                      (accepts _ _ (rule-typed (g .within) (subst (λ i. i < S .types) (sym is) (base-within (g .fine .readable) (result-low x)))
+                      (accepts _ _ (rule-typed (g .within) (subst (λ i. i < S .types) (sym is) (base-within (g .fine .good-tables) (result-low x)))
                       (after-append (expr-long _ _ a (n + 1) _ t L q) (expr-closed _ _ a (n + 1) _ t L q) (p .after) (p₂ .after)) er (p₂ .next ∙ omega arith) (omega arith) eR)))))) kind;
                 }
 
@@ -285,6 +285,6 @@ module _ {F : List ℕ} {S : Sections} {X R W K : List ℕ} {base n s : ℕ} (g 
                       passes _ 10 n _ (is-equality x _ (h .0 .x-is))
                       (passes _ 11 n _ (or-right (not (isEquality x)) _ (both-true _ _ (sym ed ∙ not-false d f) (sym ec ∙ not-false c f₂)))
                       (subst (λ i. Meets (Typing F S X base n (size (binary x a b)) s R W R′ W₂ K₂ r) r (plain i (scopeOf (tablesOf F S) W base s) (L ++ M))) is
-                      (accepts _ _ (rule-typed (g .within) (base-within (g .fine .readable) (omega arith))
+                      (accepts _ _ (rule-typed (g .within) (base-within (g .fine .good-tables) (omega arith))
                       (after-append (expr-long _ _ a (n + 1) _ t L q) (expr-closed _ _ a (n + 1) _ t L q) (p .after) (p₂ .after)) er (p₂ .next ∙ omega arith) (omega arith) eR)))))) kind;
                 }

@@ -63,7 +63,7 @@ module _ {F : List ℕ} {S : Sections} {X R W K : List ℕ} {base n s : ℕ} (g 
                 (λ a h.
                 child-ok _ _ t y₁ (m₁ .tells a (h .1)) λ L q p.
                 passes _ 10 n _ (eq-eqb _ _ (sym e₁ ∙ k))
-                (accepts _ _ (rule-typed (g .within) (base-within (g .fine .readable) (omega arith)) (p .after) er (p .next) refl eR))) kind;
+                (accepts _ _ (rule-typed (g .within) (base-within (g .fine .good-tables) (omega arith)) (p .after) er (p .next) refl eR))) kind;
           }
 
 unary-low : (x : ℕ) → unaryType x < 4
@@ -87,7 +87,7 @@ module _ {F : List ℕ} {S : Sections} {X R W K : List ℕ} {base n s : ℕ} (g 
 
     module _ {t k₁ x₁ taken : ℕ} (y₁ : r₁ .judgement ≡ Typed t) (ex : x₁ ≡ nodeAt (tablesOf F S) n .x) (et : taken ≡ unaryType x₁) (e₁ : k₁ ≡ typeAt (tablesOf F S) t .kind) where
       pub unary-given : taken < S .types
-      unary-given = subst (λ i. i < S .types) (sym et) (base-within (g .fine .readable) (unary-low x₁))
+      unary-given = subst (λ i. i < S .types) (sym et) (base-within (g .fine .good-tables) (unary-low x₁))
 
       pub unary-sort : {r : Judged} → (k₁ ≡ taken → ⊥) → r .judgement ≡ Refused 10 n → Told F S X R W base n s R₁ W₁ K₁ r
       unfolding judge
@@ -108,14 +108,14 @@ module _ {F : List ℕ} {S : Sections} {X R W K : List ℕ} {base n s : ℕ} (g 
                 child-ok _ _ t y₁ (m₁ .tells a (h .2)) λ L q p.
                 passes _ 10 n _ (eq-eqb _ _ (sym e₁ ∙ k ∙ is))
                 (subst (λ i. Meets (Typing F S X base n (size (unary x a)) s R W R′ W₁ K₁ r) r (plain i (scopeOf (tablesOf F S) W base s) L)) is
-                (accepts _ _ (rule-typed (g .within) (subst (λ i. i < S .types) (sym is) (base-within (g .fine .readable) (unary-low x))) (p .after) er (p .next) refl eR)))) kind;
+                (accepts _ _ (rule-typed (g .within) (subst (λ i. i < S .types) (sym is) (base-within (g .fine .good-tables) (unary-low x))) (p .after) er (p .next) refl eR)))) kind;
           }
 
 -- default array
 module _ {F : List ℕ} {S : Sections} {X R W K : List ℕ} {base n s : ℕ} (g : Ready F S X R W K base n s) (kind : nodeAt (tablesOf F S) n .kind ≡ 17) where
   pub default-array : {t : ℕ} → t ≡ nodeAt (tablesOf F S) n .t → t < S .types
   default-array {t} et =
-      on-default (λ e. t < S .types) (λ u a h. subst (λ i. i < S .types) (sym (et ∙ h .0 .t-is)) (kind-within (g .fine .readable) 5 (h .1))) kind (g .tree) (g .stands)
+      on-default (λ e. t < S .types) (λ u a h. subst (λ i. i < S .types) (sym (et ∙ h .0 .t-is)) (kind-within (g .fine .good-tables) 5 (h .1))) kind (g .tree) (g .stands)
 
 module _ {F : List ℕ} {S : Sections} {X R W K : List ℕ} {base n s : ℕ} (g : Ready F S X R W K base n s) (kind : nodeAt (tablesOf F S) n .kind ≡ 17) {t x : ℕ} (et : t ≡ nodeAt (tablesOf F S) n .t) (ex : x ≡ typeAt (tablesOf F S) t .a) where
   pub default-within : (t < S .types) × (x < S .types)
@@ -123,8 +123,8 @@ module _ {F : List ℕ} {S : Sections} {X R W K : List ℕ} {base n s : ℕ} (g 
       on-default (λ e. (t < S .types) × (x < S .types))
       (λ u a h.
       let is : t ≡ u = et ∙ h .0 .t-is in
-      let w : t < S .types = subst (λ i. i < S .types) (sym is) (kind-within (g .fine .readable) 5 (h .1)) in
-      (w, subst (λ i. i < S .types) (sym ex) (element-within (g .fine .readable) w (subst (λ i. typeAt (tablesOf F S) i .kind ≡ 5) (sym is) (kind-of (tablesOf F S) u 5 (h .1)))))) kind
+      let w : t < S .types = subst (λ i. i < S .types) (sym is) (kind-within (g .fine .good-tables) 5 (h .1)) in
+      (w, subst (λ i. i < S .types) (sym ex) (element-within (g .fine .good-tables) w (subst (λ i. typeAt (tablesOf F S) i .kind ≡ 5) (sym is) (kind-of (tablesOf F S) u 5 (h .1)))))) kind
       (g .tree) (g .stands)
 
   module _ {b : Bool} (eb : b ≡ eqb (getD X (1024 + x) 0) 1) where
@@ -239,7 +239,7 @@ module _ {F : List ℕ} {S : Sections} {X R W K : List ℕ} {base n s : ℕ} (g 
 
         module _ {u : ℕ} (z : f ≡ Of u) where
           pub field-within : u < S .types
-          field-within = found-below F S (g .fine .readable) o x₁ u (sym ef ∙ ap numberOf z)
+          field-within = found-below F S (g .fine .good-tables) o x₁ u (sym ef ∙ ap numberOf z)
 
           pub field-ok : {r : Judged} {R′ : List ℕ} → r ≡ record { judgement = Typed u; next = r₁ .next; scope = s } → R′ ≡ withRow R₁ n u 65535
               → Told F S X R W base n s R′ W₁ K₁ r

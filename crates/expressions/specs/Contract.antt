@@ -16,8 +16,8 @@ use Rattle.typing_rules.specs.Labels.{Result, nothing, marks, Label}
 use Rattle.typing_rules.specs.Judge.{Out, ok, no, andThen, needs, referred, isBelow, eachBelow, argumentsBelow, initsBelow, judge, judges, judgeInits}
 use Rattle.typing_rules.specs.Check.{rowResult}
 use Rattle.file_sections.specs.declared.Sections.{Sections}
-use Rattle.file_sections.specs.Layout.{tablesOf}
-use Rattle.type_index.specs.Index.{declared, Indexed, Readable}
+use Rattle.file_sections.specs.Layout.{tablesOf, GoodTables}
+use Rattle.type_index.specs.Index.{declared, Indexed}
 use Rattle.bindings.specs.Bindings.{entryOf, namesOf, scopeOf, Scoped, Same}
 use Rattle.answers.specs.declared.answer.Judgement.{Judgement}
 use Rattle.answers.specs.declared.answer.Judgement.the-variants.{Typed, GoesOn, Returns, Refused}
@@ -32,7 +32,7 @@ contextOf T W base = record { structs = declared T; names = namesOf T W base }
 
 -- the buffers are long enough and hold a scope of the height s, locals from `base` on
 pub record Fine (F : List ℕ) (S : Sections) (X R W K : List ℕ) (base s : ℕ) : Type 0 where
-  pub readable : Readable F S
+  pub good-tables : GoodTables F S
   pub indexed : Indexed X (tablesOf F S) (S .types)
   pub rows-long : S .nodes * 2 ≤ length R
   pub scoped : Scoped F S W K s

@@ -48,7 +48,7 @@ module _ (s : List ℕ) (S : Sections) (W : List ℕ) (top n r count : ℕ) (ec 
 
   pub inits-there : Named s S W top n r → Initializers s S W top (n + 1) count
   inits-there N = record {
-    laid = N .readable .laid;
+    laid = N .good-tables .laid;
     inits = N .inits;
     stand = N .stand;
     counted = sym (ec ∙ N .counted);
@@ -57,7 +57,7 @@ module _ (s : List ℕ) (S : Sections) (W : List ℕ) (top n r count : ℕ) (ec 
 
   module _ (m first : ℕ) (em : m ≡ structAt (tablesOf s S) r .count) (same : count ≡ m) (ef : first ≡ structAt (tablesOf s S) r .first) where
     pub fields-there : Named s S W top n r → first + count ≤ S .fields
-    fields-there N = omega (arith, record-fields s S (N .readable) r (N .declared))
+    fields-there N = omega (arith, record-fields s S (N .good-tables) r (N .declared))
 
     pub names-told : (K L : List ℕ) (t : Bool) → Copied s S W top (n + 1) count K → CopiedFields s S K (top + count) first count L
         → t ≡ onceEach L top count → Fitting s S W top n r L t

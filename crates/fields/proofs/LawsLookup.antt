@@ -13,9 +13,9 @@ use Rattle.oat.specs.Types.{structOf, found, missing, lookup}
 use Rattle.oat.proofs.LawsTypes.{types-formed}
 use Rattle.oat.proofs.LawsTables.{tables-formed}
 use Rattle.file_sections.specs.declared.Sections.{Sections}
-use Rattle.file_sections.specs.Layout.{tablesOf}
+use Rattle.file_sections.specs.Layout.{tablesOf, GoodTables}
 use Rattle.file_sections.proofs.LawsRecords.{types-long, fields-long, structs-long}
-use Rattle.type_index.specs.Index.{declared, recordOf, Readable}
+use Rattle.type_index.specs.Index.{declared, recordOf}
 use Rattle.type_index.proofs.LawsIndex.{first-passes, first-fails, lookup-is}
 use Rattle.typing_rules.specs.Rules.{member}
 use Rattle.typing_rules.specs.Judge.{Number, number, unknown, fieldAmong, fieldOf}
@@ -94,7 +94,7 @@ module _ (T : Tables) (r x : ℕ) where
   member-in h = struct-fields T x r ∙ ap (memberOf T) (sym (field-of-record h))
 
 -- of a readable file
-module _ (s : List ℕ) (S : Sections) (R : Readable s S) where
+module _ (s : List ℕ) (S : Sections) (R : GoodTables s S) where
   pub file-of : File (tablesOf s S)
   file-of = record { types = types-formed 200 (tablesOf s S) (R .types); tables = tables-formed (tablesOf s S) (R .tables) }
 
@@ -124,7 +124,7 @@ module _ (s : List ℕ) (S : Sections) (r x : ℕ) where
   no-record h = sym (field-no-record (tablesOf s S) r x (omega (arith, structs-long s S)))
 
   module _ (first count : ℕ) (ef : first ≡ structAt (tablesOf s S) r .first) (ec : count ≡ structAt (tablesOf s S) r .count) (h : r < S .structs) where
-    pub own-fields : Readable s S → first + count ≤ S .fields
+    pub own-fields : GoodTables s S → first + count ≤ S .fields
     own-fields R = omega (arith, record-fields s S R r h)
 
     pub record-field : (n : Number) → n ≡ fieldAmong (tablesOf s S) x first count → n ≡ fieldIn (tablesOf s S) r x

@@ -11,9 +11,8 @@ use Rattle.oat.specs.Types.{structOf}
 use Rattle.oat.specs.Syntax.{Inits, noInit, init, countInits}
 use Rattle.oat.specs.Nodes.{InitsStand}
 use Rattle.typing_rules.specs.Rules.{namesFit}
-use Rattle.type_index.specs.Index.{Readable}
 use Rattle.file_sections.specs.declared.Sections.{Sections}
-use Rattle.file_sections.specs.Layout.{Laid, tablesOf}
+use Rattle.file_sections.specs.Layout.{Laid, tablesOf, GoodTables}
 
 -- `left` trees stand from the node n on, by their child counts, and end before the node m
 pub data Trees (T : Tables) : (n left m : ℕ) → Type 0 where
@@ -70,7 +69,7 @@ pub record CopiedFields (F : List ℕ) (S : Sections) (W : List ℕ) (top first 
 
 -- a literal of the struct record stands at the node n, and `work` has room for its names twice
 pub record Named (F : List ℕ) (S : Sections) (W : List ℕ) (top n s : ℕ) : Type 0 where
-  pub readable : Readable F S
+  pub good-tables : GoodTables F S
   pub within : n < S .nodes
   pub declared : s < S .structs
   pub inits : Inits

@@ -7,8 +7,7 @@ use file_sections::records::struct_first;
 ghost use mathlib.Core.Path.{_≡_};
 ghost use Prim.Native.Nat.{_+_, _≤_, _<_};
 ghost use Rattle.typing_rules.specs.Judge.{fieldAmong};
-ghost use Rattle.file_sections.specs.Layout.{Laid, tablesOf};
-ghost use Rattle.type_index.specs.Index.{Readable};
+ghost use Rattle.file_sections.specs.Layout.{Laid, tablesOf, GoodTables};
 ghost use Rattle.fields.specs.Lookup.{numberOf, fieldIn};
 
 // The number of a field's type.
@@ -40,7 +39,7 @@ fn field_among(
 
 // The type of the field `name` of the struct record `owner`; none where there is no such record.
 pub fn field_of(file: &[u8], sections: Sections, owner: usize, name: usize) -> FieldType
-    requires { ⌜ Readable (now file) sections ⌝ }
+    requires { ⌜ GoodTables (now file) sections ⌝ }
     ensures { λ r. ⌜ numberOf r ≡ fieldIn (tablesOf (now (file .entry)) sections) owner name ⌝ }
 {
     if sections.structs <= owner {

@@ -8,6 +8,8 @@ use lib.ListN.{length}
 use lib.Dec.{eqb, ltb}
 use Rattle.oat.specs.Basics.{pick, tabulate}
 use Rattle.oat.specs.Tables.{Tables, TypeRecord, FieldRecord, StructRecord, BuiltInRecord, NodeRecord}
+use Rattle.oat.specs.TypeRules.{typesRight}
+use Rattle.oat.specs.TableRules.{tablesRight}
 use Rattle.file_sections.specs.Numbers.{numberAt}
 use Rattle.file_sections.specs.declared.Sections.{Sections}
 use Rattle.file_sections.specs.declared.Reading.{Reading}
@@ -136,3 +138,9 @@ tablesOf s S = record {
   builtIns = recordsAt builtInFrom 2 s (S .«built_ins_at») (S .«built_ins»);
   nodes = recordsAt nodeFrom 4 s (S .«nodes_at») (S .nodes);
 }
+
+-- the sections stand in the file, and its types, type list, fields, structs and built-ins keep the rules: none of 1 to 4 applies to it
+pub record GoodTables (s : List ℕ) (S : Sections) : Type 0 where
+  pub laid : Laid s S
+  pub types : typesRight 200 (tablesOf s S) ≡ true
+  pub tables : tablesRight (tablesOf s S) ≡ true

@@ -18,13 +18,13 @@ use Rattle.oat.proofs.LawsNodes.{same-trees}
 use Rattle.file_sections.specs.declared.Sections.{Sections}
 use Rattle.file_sections.specs.declared.Reading.{Reading}
 use Rattle.file_sections.specs.declared.Reading.the-variants.{Refused, Good}
-use Rattle.file_sections.specs.Layout.{Laid, thenReading, sectionsOf, tablesOf}
+use Rattle.file_sections.specs.Layout.{Laid, GoodTables, thenReading, sectionsOf, tablesOf}
 use Rattle.file_sections.proofs.LawsFile.{AllStood, all-stood, file-is, sectionsFor, file-accepted}
 use Rattle.file_sections.proofs.LawsRecords.{types-long, list-long, fields-long, structs-long, built-ins-long, nodes-long}
 use Rattle.node_tree.specs.Tree.{treesRight}
 use Rattle.node_tree.proofs.Accepted.{trees-accepted}
 use Rattle.node_tree.proofs.Found.{trees-found}
-use Rattle.program_file.specs.Reading.{readingOf}
+use Rattle.program_file.specs.Reading.{readingOf, limitsOf}
 
 -- the list holds bytes
 pub record Bytes (s : List ℕ) : Type 0 where
@@ -61,6 +61,12 @@ accepted limits s S e = let (F, f, k) = then-good (sectionsOf s) _ S e in accept
 accepts : (limits : Limits) (s : List ℕ) (S : Sections) → Accepted limits s S → readingOf limits s ≡ Good S
 unfolding readingOf
 accepts limits s S a = rw (← a .sections, a .types, a .tables, a .trees)
+
+-- a file that was read has its sections laid and its tables right
+pub good-tables : (s : List ℕ) (r : Reading) (S : Sections) → r ≡ readingOf (limitsOf 200 100) s → r ≡ Good S → GoodTables s S
+good-tables s r S e h =
+    let a = accepted (limitsOf 200 100) s S (sym e ∙ h) in
+    record { laid = all-stood s S (a .sections) .laid; types = a .types; tables = a .tables }
 
 counts : (s : List ℕ) (S : Sections) → Laid s S → Counts (tablesOf s S)
 counts s S l = record {

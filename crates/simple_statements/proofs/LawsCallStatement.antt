@@ -57,10 +57,10 @@ module _ {F : List ℕ} {S : Sections} {X R W K : List ℕ} {base n s : ℕ} (g 
 
       module _ (six : k₁ ≡ 6) {u : ℕ} (eu : u ≡ typeAt (tablesOf F S) f .a) where
         pub call-within : u < S .types
-        call-within = subst (λ i. i < S .types) (sym eu) (returned-within (g .fine .readable) (child-within call-first m₁ y₁) (sym e₁ ∙ six))
+        call-within = subst (λ i. i < S .types) (sym eu) (returned-within (g .fine .good-tables) (child-within call-first m₁ y₁) (sym e₁ ∙ six))
 
         pub call-type : Has F S u (S .types)
-        call-type = has-type (g .fine .readable) call-within
+        call-type = has-type (g .fine .good-tables) call-within
 
         module _ {k₂ : ℕ} (e₂ : k₂ ≡ typeAt (tablesOf F S) u .kind) where
           referred-kind : k₂ ≡ typeAt (tablesOf F S) (referred (tablesOf F S) f) .kind
@@ -106,7 +106,7 @@ module _ {F : List ℕ} {S : Sections} {X R W K : List ℕ} {base n s : ℕ} (g 
                   record {
                     fine = p .after .fine;
                     within = omega (arith, p .next, stands-end (tablesOf F S) (n + 1) a (h .1), nodes-long F S);
-                    expecting = parameters-within (g .fine .readable) (child-within call-first m₁ y₁) (sym e₁ ∙ six) eb ec;
+                    expecting = parameters-within (g .fine .good-tables) (child-within call-first m₁ y₁) (sym e₁ ∙ six) eb ec;
                     trees = es;
                     stand = subst (λ i. StandAll (tablesOf F S) i es) (sym (p .next)) (h .2);
                     counted = counts es (h .0 .children-is);

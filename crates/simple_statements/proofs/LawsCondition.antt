@@ -58,7 +58,7 @@ AnswersCondition F S X R W base n s parent R′ W′ K′ r q =
 
 module _ {F : List ℕ} {S : Sections} {X R W K : List ℕ} {base n s : ℕ} (g : ReadyCondition F S X R W K base n s) where
   pub condition-node : Has F S n (S .nodes)
-  condition-node = has-node (g .fine .readable) (g .within)
+  condition-node = has-node (g .fine .good-tables) (g .within)
 
   -- for `ends`
   pub condition-fits : (n * 2 + 1 < length R) × (n < 65536) × (0 ≤ 1)

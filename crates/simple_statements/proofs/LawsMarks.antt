@@ -34,7 +34,7 @@ module _ {F : List ℕ} {S : Sections} {X : List ℕ} {base : ℕ} where
   -- the row of a node of the file, with a mark, can be written
   pub mark-fits : {R W K : List ℕ} {n s p : ℕ} → Fine F S X R W K base s → n < S .nodes → p ≤ 1 → (n * 2 + 1 < length R) × (n < 65536) × (p ≤ 1)
   mark-fits f h k =
-      let laid = f .readable .laid in
+      let laid = f .good-tables .laid in
       (omega (arith, f .rows-long, h), omega (arith, h, laid .nodes-most), k)
 
   -- a statement's own row over its children; s′ is the height after it

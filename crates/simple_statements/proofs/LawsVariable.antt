@@ -34,7 +34,7 @@ after-bound {F} {S} {s = s} a b =
       kept = a .kept;
       same = same-trans (entryOf (tablesOf F S) s) (entryOf (tablesOf F S) s) (omega arith) (a .same) (b .same);
       fine = record {
-        readable = a .fine .readable;
+        good-tables = a .fine .good-tables;
         indexed = a .fine .indexed;
         rows-long = a .fine .rows-long;
         scoped = b .scoped;

@@ -57,7 +57,7 @@ module _ {F : List ℕ} {S : Sections} {X : List ℕ} {base : ℕ} where
 
 module _ {F : List ℕ} {S : Sections} {X R W K : List ℕ} {base rt n s : ℕ} (g : ReadyBlock F S X R W K base rt n s) where
   pub block-node : Has F S n (S .nodes)
-  block-node = has-node (g .fine .readable) (g .within)
+  block-node = has-node (g .fine .good-tables) (g .within)
 
   pub block-call : {c : ℕ} → c ≡ nodeAt (tablesOf F S) n .children → ReadyStmts F S X R W K base rt (n + 1) s c
   block-call {c} e =

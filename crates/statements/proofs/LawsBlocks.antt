@@ -80,7 +80,7 @@ module _ {F : List ℕ} {S : Sections} {X : List ℕ} {base : ℕ} where
         rows = a .rows;
         kept = a .kept;
         same = a .same;
-        fine = record { readable = a .fine .readable; indexed = a .fine .indexed; rows-long = a .fine .rows-long; scoped = c; low = a .fine .low; above = l };
+        fine = record { good-tables = a .fine .good-tables; indexed = a .fine .indexed; rows-long = a .fine .rows-long; scoped = c; low = a .fine .low; above = l };
       }
 
   -- the same part seen from a lower height

@@ -16,9 +16,9 @@ use Rattle.typing_rules.specs.Labels.{Label}
 use Rattle.typing_rules.specs.Rules.{both}
 use Rattle.typing_rules.specs.Judge.{Out, andThen, ends, isBelow, referred, execute, executeBlock}
 use Rattle.file_sections.specs.declared.Sections.{Sections}
-use Rattle.file_sections.specs.Layout.{Has, tablesOf}
+use Rattle.file_sections.specs.Layout.{Has, tablesOf, GoodTables}
 use Rattle.file_sections.proofs.LawsRecords.{types-long, nodes-long}
-use Rattle.type_index.specs.Index.{declared, Indexed, Readable}
+use Rattle.type_index.specs.Index.{declared, Indexed}
 use Rattle.bindings.specs.Bindings.{entryOf, scopeOf, Same, Bindable, Bound}
 use Rattle.bindings.proofs.LawsBindings.{scope-bound, scope-same, names-same}
 use Rattle.answers.specs.declared.answer.Judgement.the-variants.{Typed, Refused}
@@ -192,7 +192,7 @@ module _ {F : List ℕ} {S : Sections} {X R W K : List ℕ} {base rt n s : ℕ} 
       (asked .0 .tree) (asked .0 .stands) (asked .0 .room)
 
   pub null-node : Has F S n (S .nodes)
-  null-node = has-node (asked .0 .fine .readable) (asked .0 .within)
+  null-node = has-node (asked .0 .fine .good-tables) (asked .0 .within)
 
   module _ {R₁ W₁ K₁ : List ℕ} {r₁ : Judged} (m₁ : Told F S X R W base (n + 1) s R₁ W₁ K₁ r₁) where
     pub null-no : Untyped r₁ → ToldStmt F S X R W base rt n s R₁ W₁ K₁ r₁
@@ -223,7 +223,7 @@ module _ {F : List ℕ} {S : Sections} {X R W K : List ℕ} {base rt n s : ℕ} 
         module _ {W₂ K₂ : List ℕ} (bound : Bound F S W₁ K₁ s n t₁ W₂ K₂) where
           bound-fine : Fine F S X R₁ W₁ K₁ base s → Fine F S X R₁ W₂ K₂ base (s + 1)
           bound-fine f = record {
-            readable = f .readable;
+            good-tables = f .good-tables;
             indexed = f .indexed;
             rows-long = f .rows-long;
             scoped = bound .scoped;
@@ -250,11 +250,11 @@ module _ {F : List ℕ} {S : Sections} {X R W K : List ℕ} {base rt n s : ℕ} 
 
         module _ (z₁ : k₁ ≡ 7) {t₁ x₁ : ℕ} (et : t₁ ≡ nodeAt (tablesOf F S) n .t) (ex : x₁ ≡ typeAt (tablesOf F S) u .a) where
           -- for `below`
-          pub null-asked : Readable F S × Indexed X (tablesOf F S) (S .types) × (x₁ < S .types) × (t₁ < S .types)
+          pub null-asked : GoodTables F S × Indexed X (tablesOf F S) (S .types) × (x₁ < S .types) × (t₁ < S .types)
           null-asked = (
-            asked .0 .fine .readable,
+            asked .0 .fine .good-tables,
             asked .0 .fine .indexed,
-            subst (λ i. i < S .types) (sym ex) (reference-within (asked .0 .fine .readable) (child-within null-first m₁ y₁) (sym e₁ ∙ z₁)),
+            subst (λ i. i < S .types) (sym ex) (reference-within (asked .0 .fine .good-tables) (child-within null-first m₁ y₁) (sym e₁ ∙ z₁)),
             null-within et,
           )
 

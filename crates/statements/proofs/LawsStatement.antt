@@ -33,7 +33,7 @@ last-kind k l m f30 f31 f32 f33 f34 f35 f36 f37 =
 -- the kind of a statement that is ready, as the dispatcher reads it
 module _ {F : List ℕ} {S : Sections} {X R W K : List ℕ} {base n s : ℕ} (g : ReadyStmt F S X R W K base n s) where
   pub stmt-node : Has F S n (S .nodes)
-  stmt-node = has-node (g .fine .readable) (g .within)
+  stmt-node = has-node (g .fine .good-tables) (g .within)
 
   module _ {k : ℕ} (ek : k ≡ nodeAt (tablesOf F S) n .kind) where
     pub stmt-kind-at : {i : ℕ} → k ≡ i → nodeAt (tablesOf F S) n .kind ≡ i

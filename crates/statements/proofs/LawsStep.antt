@@ -60,7 +60,7 @@ AnswersStep F S X R W base rt n s R′ W′ K′ r z =
 
 module _ {F : List ℕ} {S : Sections} {X R W K : List ℕ} {base rt n s : ℕ} (g : ReadyStep F S X R W K base rt n s) where
   pub step-node : Has F S n (S .nodes)
-  step-node = has-node (g .fine .readable) (g .within)
+  step-node = has-node (g .fine .good-tables) (g .within)
 
   pub step-fits : (n * 2 + 1 < length R) × (n < 65536) × (0 ≤ 1)
   step-fits = mark-fits (g .fine) (g .within) (omega arith)

@@ -80,7 +80,7 @@ written {F} {S} {X} {c} {n} {u} {ps} {b} {M} {R} {W} {R₁} {W₁} {K₁} {R₂}
     let these : rowsOf (drop (1 + length ps) (replicate (1 + length ps) unlabelled ++ M)) ≡ rowsOf M = ap rowsOf (drop-unlabelled (1 + length ps) M) in
     let wide : n * 2 + 1 < length R₂ = omega (arith, d .fine .rows-long, there) in
     record {
-      held = record { readable = d .fine .readable; indexed = d .fine .indexed; scoped = scoped };
+      held = record { good-tables = d .fine .good-tables; indexed = d .fine .indexed; scoped = scoped };
       made = ap (λ l. record { structs = structsOf T (c .structs); names = l })
           (names-same T (c .names) (same-trans (entryOf T (c .names)) (entryOf T (c .names + length ps)) (omega arith) (p .same) (d .same)) (c .names) (omega arith));
       long = ap (λ l. length (1 ∷ 65535 ∷ parameterRows T (typeAt T u .b) ps ++ l)) these ∙ omega (arith, both, own, inner, long);
@@ -103,18 +103,18 @@ module _ {F : List ℕ} {S : Sections} {X R W K : List ℕ} {c : Context} {n : �
 
   -- for `node_t`
   pub body-node : Has F S n (S .nodes)
-  body-node = record { laid = g .held .readable .laid; within = there }
+  body-node = record { laid = g .held .good-tables .laid; within = there }
 
   module _ {t : ℕ} (et : t ≡ nodeAt (tablesOf F S) n .t) where
     kind : hasKind (tablesOf F S) t 6 ≡ true
     kind = subst (λ k. hasKind (tablesOf F S) k 6 ≡ true) (sym (et ∙ g .stands .0 .t-is)) (g .stands .1)
 
     within : t < S .types
-    within = kind-within (g .held .readable) 6 kind
+    within = kind-within (g .held .good-tables) 6 kind
 
     -- for `type_a`, `type_b` and `type_c`
     pub body-type : Has F S t (S .types)
-    body-type = has-type (g .held .readable) within
+    body-type = has-type (g .held .good-tables) within
 
     module _ {first count : ℕ} (eb : first ≡ typeAt (tablesOf F S) t .b) (ec : count ≡ typeAt (tablesOf F S) t .c) where
       counted : (x u : ℕ) (ps : List ℕ) (b : Block) → DeclStands (tablesOf F S) n (function x u ps b) → length ps ≡ count
@@ -126,10 +126,10 @@ module _ {F : List ℕ} {S : Sections} {X R W K : List ℕ} {c : Context} {n : �
       -- for `parameters`
       pub body-parameters : ReadyParameters F S X R W K (c .names) n first count
       body-parameters =
-          let listed = parameters-within (g .held .readable) within (kind-of (tablesOf F S) t 6 kind) eb ec in
+          let listed = parameters-within (g .held .good-tables) within (kind-of (tablesOf F S) t 6 kind) eb ec in
           record {
             fine = record {
-              readable = g .held .readable;
+              good-tables = g .held .good-tables;
               indexed = g .held .indexed;
               rows-long = g .rows-long;
               scoped = g .held .scoped;
@@ -147,7 +147,7 @@ module _ {F : List ℕ} {S : Sections} {X R W K : List ℕ} {c : Context} {n : �
       -- for the height and the node of the block
       pub body-numbers : (c .names + count ≤ 4224) × (n + 1 + count ≤ 4096)
       body-numbers =
-          let laid = g .held .readable .laid in
+          let laid = g .held .good-tables .laid in
           let last = block-within (tablesOf F S) (n + 1 + length (g .parameters)) (g .block) (g .stands .4) in (
             omega (arith, g .room, own-count, laid .nodes-most, laid .built-ins-most),
             omega (arith, last, own-count, nodes-long F S, laid .nodes-most),
@@ -168,7 +168,7 @@ module _ {F : List ℕ} {S : Sections} {X R W K : List ℕ} {c : Context} {n : �
             body-block =
                 ready-block (n + 1 + count) (g .block)
                 (subst (λ k. Fine F S X R₁ W₁ K₁ (c .names) (c .names + k)) own-count (bound (g .parameters) (g .stands .3) own-count .fine))
-                (subst (λ k. k < S .types) (sym ea) (returned-within (g .held .readable) within (kind-of (tablesOf F S) t 6 kind)))
+                (subst (λ k. k < S .types) (sym ea) (returned-within (g .held .good-tables) within (kind-of (tablesOf F S) t 6 kind)))
                 (subst (λ k. BlockStands (tablesOf F S) (n + 1 + k) (g .block)) own-count (g .stands .4)) (omega (arith, g .room, own-count))
 
             module _ {R₂ W₂ K₂ : List ℕ} {r₂ : Judged} (m₂ : ToldBlock F S X R₁ W₁ (c .names) result (n + 1 + count) (c .names + count) R₂ W₂ K₂ r₂) where
@@ -226,7 +226,7 @@ module _ {F : List ℕ} {S : Sections} {X R W K : List ℕ} {c : Context} {n : �
                 body-scoped = (fine-now .scoped, omega arith)
 
                 pub body-fits : (n * 2 + 1 < length R₂) × (n < 65536) × (1 < 65536) × (65535 < 65536)
-                body-fits = (omega (arith, fine-now .rows-long, there), omega (arith, there, g .held .readable .laid .nodes-most), omega arith, omega arith)
+                body-fits = (omega (arith, fine-now .rows-long, there), omega (arith, there, g .held .good-tables .laid .nodes-most), omega arith, omega arith)
 
                 pub body-ok : {K₃ R′ : List ℕ} {e : Context} → r₂ .judgement ≡ Returns → Scoped F S W₂ K₃ (c .names) → R′ ≡ withRow R₂ n 1 65535 → e ≡ withStep c
                     → ToldBody F S X R W c n R′ W₂ K₃ (Next e)

@@ -61,7 +61,7 @@ module _ {F : List ℕ} {S : Sections} {X R W K : List ℕ} {c : Context} {n : �
   global-first =
       ready (n + 1) (g .initializer)
       (record {
-        readable = g .held .readable;
+        good-tables = g .held .good-tables;
         indexed = g .held .indexed;
         rows-long = g .rows-long;
         scoped = g .held .scoped;
@@ -73,10 +73,10 @@ module _ {F : List ℕ} {S : Sections} {X R W K : List ℕ} {c : Context} {n : �
   there = subst (λ k. n < k) (nodes-long F S) (g .stands .0 .within)
 
   pub global-node : Has F S n (S .nodes)
-  global-node = record { laid = g .held .readable .laid; within = there }
+  global-node = record { laid = g .held .good-tables .laid; within = there }
 
   pub global-counts : (c .names < 65536) × (c .steps < 65536)
-  global-counts = let laid = g .held .readable .laid in (omega (arith, g .held .scoped .high, laid .nodes-most, laid .built-ins-most), g .whole .few)
+  global-counts = let laid = g .held .good-tables .laid in (omega (arith, g .held .scoped .high, laid .nodes-most, laid .built-ins-most), g .whole .few)
 
   module _ {R₁ W₁ K₁ : List ℕ} {r₁ : Judged} (m₁ : Told F S X R W (c .names) (n + 1) (c .names) R₁ W₁ K₁ r₁) where
     -- the initializer in the context of the step, in no scope
@@ -110,7 +110,7 @@ module _ {F : List ℕ} {S : Sections} {X R W K : List ℕ} {c : Context} {n : �
 
       pub global-fits : (n * 2 + 1 < length R₁) × (n < 65536) × (t < 65536) × (65535 < 65536)
       global-fits =
-          let laid = g .held .readable .laid in
+          let laid = g .held .good-tables .laid in
           (omega (arith, fine-now .rows-long, there), omega (arith, there, laid .nodes-most), omega (arith, child-within global-first m₁ y₁, laid .types-most), omega arith)
 
       -- an accepted initializer
@@ -134,7 +134,7 @@ module _ {F : List ℕ} {S : Sections} {X R W K : List ℕ} {c : Context} {n : �
           let head : nextResult L ≡ t = ap nextResult (sym (append-nil L)) ∙ expr-head T (contextAt T W c) a (n + 1) empty t L q [] in
           let wide : n * 2 + 1 < length R₁ = omega (arith, fine-now .rows-long, there) in
           record {
-            held = record { readable = g .held .readable; indexed = g .held .indexed; scoped = b .scoped };
+            held = record { good-tables = g .held .good-tables; indexed = g .held .indexed; scoped = b .scoped };
             made = ap (λ l. record { structs = structsOf T (c .structs); names = l })
                 (names-declared b (g .low) ∙ entry-is (h .0 .x-is) (eq-eqb _ _ (h .0 .kind-is)) (names-same T (c .names) (p .after .same) (c .names) (omega arith)));
             long = let all = rows-count L in omega (arith, all, long);

@@ -20,9 +20,9 @@ use Rattle.typing_rules.specs.Contexts as Contexts
 use Rattle.typing_rules.specs.Steps.{hasField, distinctFields}
 use Rattle.typing_rules.specs.Check.{isMiss, fieldsFormed}
 use Rattle.file_sections.specs.declared.Sections.{Sections}
-use Rattle.file_sections.specs.Layout.{tablesOf}
+use Rattle.file_sections.specs.Layout.{tablesOf, GoodTables}
 use Rattle.file_sections.proofs.LawsRecords.{types-long, fields-long}
-use Rattle.type_index.specs.Index.{declared, Indexed, Readable}
+use Rattle.type_index.specs.Index.{declared, Indexed}
 use Rattle.type_index.proofs.LawsIndex.{loop-fails, loop-goes, loop-done, none-tested}
 use Rattle.type_index.proofs.LawsSameTypes.{all-front, all-same}
 use Rattle.bindings.specs.declared.Found.{Found}
@@ -60,7 +60,7 @@ module _ (X : List ℕ) (T : Tables) (first : ℕ) where
     more-fields-formed a f = loop-goes 0 _ j t a f (et ∙ rw ex)
 
 -- the type of a field is one of the file's
-module _ {F : List ℕ} {S : Sections} (R : Readable F S) where
+module _ {F : List ℕ} {S : Sections} (R : GoodTables F S) where
   pub field-type-within : (i : ℕ) → i < S .fields → fieldAt (tablesOf F S) i .type < S .types
   field-type-within i h =
       let l = tables-formed (tablesOf F S) (R .tables) .field i (omega (arith, fields-long F S)) .lower in
@@ -79,7 +79,7 @@ fields-formed C (suc n) g =
     ∙ ap (λ b. isFormed (C .structs) (g 0 .type) && b) (fields-formed C n (λ j. g (suc j)))
 
 -- the index tells whether those of a struct are, where all structs are declared
-pub types-formed-are : (F : List ℕ) (S : Sections) (X : List ℕ) (C : Contexts.Context ℕ) (i : ℕ) → Readable F S → Indexed X (tablesOf F S) (S .types)
+pub types-formed-are : (F : List ℕ) (S : Sections) (X : List ℕ) (C : Contexts.Context ℕ) (i : ℕ) → GoodTables F S → Indexed X (tablesOf F S) (S .types)
     → C .structs ≡ declared (tablesOf F S) → structAt (tablesOf F S) i .first + structAt (tablesOf F S) i .count ≤ S .fields
     → typesFormed X (tablesOf F S) (structAt (tablesOf F S) i .first) (structAt (tablesOf F S) i .count) ≡ fieldsFormed C (structOf (tablesOf F S) i .fields)
 unfolding typesFormed structOf

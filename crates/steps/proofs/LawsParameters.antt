@@ -136,7 +136,7 @@ module _ {F : List ℕ} {S : Sections} {X : List ℕ} {base n first : ℕ} {R W 
       let there : (n + 1) * 2 + length (parameterRows T first l) ≡ m * 2 = omega (arith, long) in
       record {
         fine = record {
-          readable = p .fine .readable;
+          good-tables = p .fine .good-tables;
           indexed = p .fine .indexed;
           rows-long = subst (λ k. S .nodes * 2 ≤ k) (sym (row-length R₁ m t 65535)) (p .fine .rows-long);
           scoped = subst (λ k. Scoped F S W₂ K₂ k) (sym high) (b .scoped);
@@ -224,10 +224,10 @@ module _ {F : List ℕ} {S : Sections} {X R W K : List ℕ} {base n first count 
 
       -- for `node_x` and `list_entry`
       pub parameter-node : Has F S (n + 1 + i) (S .nodes)
-      parameter-node = record { laid = g .fine .readable .laid; within = there }
+      parameter-node = record { laid = g .fine .good-tables .laid; within = there }
 
       pub parameter-entry : Has F S (first + i) (S .list)
-      parameter-entry = record { laid = g .fine .readable .laid; within = omega (arith, g .listed, more) }
+      parameter-entry = record { laid = g .fine .good-tables .laid; within = omega (arith, g .listed, more) }
 
       -- for `bind` and `row`
       module _ {t : ℕ} (et : t ≡ entryAt (tablesOf F S) (first + i)) where
@@ -245,7 +245,7 @@ module _ {F : List ℕ} {S : Sections} {X R W K : List ℕ} {base n first count 
 
         pub parameter-fits : ((n + 1 + i) * 2 + 1 < length R₁) × (n + 1 + i < 65536) × (t < 65536) × (65535 < 65536)
         parameter-fits =
-            let laid = g .fine .readable .laid in
+            let laid = g .fine .good-tables .laid in
             (omega (arith, fine-now .rows-long, there), omega (arith, there, laid .nodes-most), omega (arith, typed, laid .types-most), omega arith)
 
       module _ {x₁ : ℕ} {b₁ : Bool} (ex : x₁ ≡ nodeAt (tablesOf F S) (n + 1 + i) .x) (fresh : Freshness F S W₁ K₁ base x₁ b₁) where

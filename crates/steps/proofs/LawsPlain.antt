@@ -139,7 +139,7 @@ module _ {F : List ℕ} {S : Sections} {N : List ℕ} {c : Context} {i : ℕ} (r
   struct-new d z e = record {
     tells = λ X W K h. record {
       tells = λ R. passes _ 7 i _ (struct-tested ∙ eq-eqb n 0 z)
-          (rowless R _ refl refl (ap Next e) (record { readable = h .readable; indexed = h .indexed; scoped = h .scoped }) (struct-added W));
+          (rowless R _ refl refl (ap Next e) (record { good-tables = h .good-tables; indexed = h .indexed; scoped = h .scoped }) (struct-added W));
     };
     copied = λ _. struct-copied;
     next = λ k g. next-is d k _ g e;
@@ -155,12 +155,12 @@ formed-whole F S X W c t b I w h e =
 module _ {F : List ℕ} {S : Sections} {X W K : List ℕ} {c : Context} {i : ℕ} (ready : ReadyBuiltIn F S X W K c i) where
   built-in-within : builtInAt (tablesOf F S) i .type < S .types
   built-in-within =
-      let l = tables-formed (tablesOf F S) (ready .held .readable .tables) .built-in i (omega (arith, built-ins-long F S, ready .there)) .within in
+      let l = tables-formed (tablesOf F S) (ready .held .good-tables .tables) .built-in i (omega (arith, built-ins-long F S, ready .there)) .within in
       omega (arith, types-long F S)
 
   module _ (t : ℕ) (et : t ≡ builtInAt (tablesOf F S) i .type) where
     pub built-in-marked : 1024 + t < length X
-    built-in-marked = omega (arith, built-in-within, ready .held .indexed .long, ready .held .readable .laid .types-most)
+    built-in-marked = omega (arith, built-in-within, ready .held .indexed .long, ready .held .good-tables .laid .types-most)
 
     module _ (b : Bool) (eb : b ≡ eqb (getD X (1024 + t) 0) 1) where
       built-in-tested : formed (tablesOf F S) (contextAt (tablesOf F S) W c) (builtInAt (tablesOf F S) i .type) ≡ b
@@ -185,7 +185,7 @@ module _ {F : List ℕ} {S : Sections} {X W K : List ℕ} {c : Context} {i : ℕ
 
         built-in-held : (K′ : List ℕ) → K′ ≡ set (set K (512 + i) (getD K (x % 512) 0)) (x % 512) (i + 1) → Held F S X W K′ (withName c)
         built-in-held K′ eK = record {
-          readable = ready .held .readable;
+          good-tables = ready .held .good-tables;
           indexed = ready .held .indexed;
           scoped = scoped-linked
               (ready .held .scoped)
@@ -213,7 +213,7 @@ module _ {F : List ℕ} {S : Sections} {X W K : List ℕ} {c : Context} {i : ℕ
 -- function headings
 module _ {F : List ℕ} {S : Sections} {X W K : List ℕ} {c : Context} {n : ℕ} (ready : ReadyHeading F S X W K c n) where
   pub heading-node : Has F S n (S .nodes)
-  heading-node = record { laid = ready .held .readable .laid; within = subst (λ k. n < k) (nodes-long F S) (ready .stands .0 .within) }
+  heading-node = record { laid = ready .held .good-tables .laid; within = subst (λ k. n < k) (nodes-long F S) (ready .stands .0 .within) }
 
   -- the operands of the node are those of the function
   heading-told : (W′ K′ : List ℕ) (r : Stepped) → Rowless F S X c (heading n (nodeAt (tablesOf F S) n .x) (nodeAt (tablesOf F S) n .t)) W W′ K′ r → ToldHeading F S X W c n W′ K′ r
@@ -223,10 +223,10 @@ module _ {F : List ℕ} {S : Sections} {X W K : List ℕ} {c : Context} {n : ℕ
 
   module _ (t : ℕ) (et : t ≡ nodeAt (tablesOf F S) n .t) where
     heading-within : t < S .types
-    heading-within = subst (λ u. u < S .types) (sym (et ∙ ready .stands .0 .t-is)) (kind-within (ready .held .readable) 6 (ready .stands .1))
+    heading-within = subst (λ u. u < S .types) (sym (et ∙ ready .stands .0 .t-is)) (kind-within (ready .held .good-tables) 6 (ready .stands .1))
 
     pub heading-marked : 1024 + t < length X
-    heading-marked = omega (arith, heading-within, ready .held .indexed .long, ready .held .readable .laid .types-most)
+    heading-marked = omega (arith, heading-within, ready .held .indexed .long, ready .held .good-tables .laid .types-most)
 
     pub heading-bindable : Bindable F S W K (c .names) n t
     heading-bindable = record {
@@ -269,16 +269,16 @@ module _ {F : List ℕ} {S : Sections} {X W K : List ℕ} {c : Context} {n : ℕ
           heading-new d g e = heading-told W′ K′ _ (record {
             tells = λ R. passes _ 9 n _ (heading-tested ∙ not-false b f)
                 (passes _ 7 n _ (heading-asked ∙ not-false m g)
-                (rowless R _ refl refl (ap Next e) (record { readable = ready .held .readable; indexed = ready .held .indexed; scoped = bound .scoped }) heading-added));
+                (rowless R _ refl refl (ap Next e) (record { good-tables = ready .held .good-tables; indexed = ready .held .indexed; scoped = bound .scoped }) heading-added));
           })
 
 -- struct fields
 module _ {F : List ℕ} {S : Sections} {X N : List ℕ} {c : Context} {i : ℕ} (ready : ReadyFields F S X N c i) (first count : ℕ) (ef : first ≡ structAt (tablesOf F S) i .first) (ec : count ≡ structAt (tablesOf F S) i .count) where
   pub fields-listed : first + count ≤ S .fields
-  fields-listed = omega (arith, record-fields F S (ready .readable) i (ready .there))
+  fields-listed = omega (arith, record-fields F S (ready .good-tables) i (ready .there))
 
   pub fields-room : 0 + count ≤ length N
-  fields-room = omega (arith, fields-listed, ready .readable .laid .fields-most, ready .long)
+  fields-room = omega (arith, fields-listed, ready .good-tables .laid .fields-most, ready .long)
 
   pub fields-fit : (N′ : List ℕ) → length N′ ≡ length N → count ≤ length N′
   fields-fit N′ e = omega (arith, fields-room)
@@ -295,10 +295,10 @@ module _ {F : List ℕ} {S : Sections} {X N : List ℕ} {c : Context} {i : ℕ} 
         X
         (contextAt (tablesOf F S) W c)
         i
-        (ready .readable)
+        (ready .good-tables)
         (ready .indexed)
         (ap (λ k. structsOf (tablesOf F S) k) (ready .whole .structs ∙ sym (structs-long F S)))
-        (record-fields F S (ready .readable) i (ready .there)))
+        (record-fields F S (ready .good-tables) i (ready .there)))
 
     pub fields-unformed : not b ≡ true → ToldFields F S X c i (Refused 9 (c .steps) i)
     unfolding runStep
@@ -330,7 +330,7 @@ module _ {F : List ℕ} {S : Sections} {X N : List ℕ} {c : Context} {i : ℕ} 
         tells = λ W K h. record {
           tells = λ R. passes _ 9 i _ (fields-tested W ∙ not-false b f)
               (passes _ 7 i _ (fields-compared ∙ not-false n g)
-              (rowless R _ refl refl (ap Next e) (record { readable = h .readable; indexed = h .indexed; scoped = h .scoped }) refl));
+              (rowless R _ refl refl (ap Next e) (record { good-tables = h .good-tables; indexed = h .indexed; scoped = h .scoped }) refl));
         };
         next = λ k h. next-is d k _ h e;
       }

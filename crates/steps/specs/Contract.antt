@@ -19,8 +19,8 @@ use Rattle.typing_rules.specs.Judge.{Out, ok, no}
 use Rattle.typing_rules.specs.Steps.{Step, structName, builtIn, heading, globalValue, structFields, body, distinctNames, parameters}
 use Rattle.typing_rules.specs.Check.{isMiss, runStep, rowsBegin, stepRows, parameterRows}
 use Rattle.file_sections.specs.declared.Sections.{Sections}
-use Rattle.file_sections.specs.Layout.{Laid, tablesOf}
-use Rattle.type_index.specs.Index.{Indexed, Readable}
+use Rattle.file_sections.specs.Layout.{Laid, tablesOf, GoodTables}
+use Rattle.type_index.specs.Index.{Indexed}
 use Rattle.bindings.specs.Bindings.{entryOf, namesOf, scopeOf, Scoped, Same}
 use Rattle.answers.specs.declared.answer.Judgement.{Judgement}
 use Rattle.answers.specs.declared.answer.Judgement.the-variants.{Typed, GoesOn, Returns}
@@ -64,7 +64,7 @@ spanOf (body n t ps b) = 1 + length ps + sizeBlock b
 
 -- the buffers hold the names of the context c
 pub record Held (F : List ℕ) (S : Sections) (X W K : List ℕ) (c : Context) : Type 0 where
-  pub readable : Readable F S
+  pub good-tables : GoodTables F S
   pub indexed : Indexed X (tablesOf F S) (S .types)
   pub scoped : Scoped F S W K (c .names)
 
@@ -165,7 +165,7 @@ pub record ToldGlobal (F : List ℕ) (S : Sections) (X R W : List ℕ) (c : Cont
 
 -- struct fields
 pub record ReadyFields (F : List ℕ) (S : Sections) (X N : List ℕ) (c : Context) (i : ℕ) : Type 0 where
-  pub readable : Readable F S
+  pub good-tables : GoodTables F S
   pub indexed : Indexed X (tablesOf F S) (S .types)
   pub long : 1024 ≤ length N
   pub whole : Whole S c

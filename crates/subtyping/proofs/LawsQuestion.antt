@@ -18,21 +18,14 @@ use Rattle.oat.proofs.LawsSubtyping.{below-is}
 use Rattle.file_sections.specs.declared.Sections.{Sections}
 use Rattle.file_sections.specs.declared.Reading.{Reading}
 use Rattle.file_sections.specs.declared.Reading.the-variants as Readings
-use Rattle.file_sections.specs.Layout.{Laid, tablesOf}
-use Rattle.file_sections.proofs.LawsFile.{all-stood}
+use Rattle.file_sections.specs.Layout.{tablesOf}
 use Rattle.file_sections.proofs.LawsRecords.{types-long}
 use Rattle.program_file.specs.Reading.{readingOf, limitsOf, numberOf}
-use Rattle.program_file.proofs.Theorem.{accepted, reading-of}
-use Rattle.type_index.specs.Index.{declared, Readable}
+use Rattle.program_file.proofs.Theorem.{reading-of}
+use Rattle.type_index.specs.Index.{declared}
 use Rattle.subtyping.specs.Question.{askOf, onReading, subtypeOf}
 use Rattle.subtyping.specs.declared.question.Answer.{Answer}
 use Rattle.subtyping.specs.declared.question.Answer.the-variants.{Refused, Yes, No}
-
--- a file that was read has its sections laid and its tables right
-pub readable : (s : List ℕ) (r : Reading) (S : Sections) → r ≡ readingOf (limitsOf 200 100) s → r ≡ Readings.Good S → Readable s S
-readable s r S e h =
-    let a = accepted (limitsOf 200 100) s S (sym e ∙ h) in
-    record { laid = all-stood s S (a .sections) .laid; types = a .types; tables = a .tables }
 
 -- yes or no
 module _ (T : Tables) (a b : ℕ) (r : Bool) (e : r ≡ below (declared T) (typeOf T a) (typeOf T b)) where

@@ -18,9 +18,9 @@ use Rattle.oat.specs.Decide.{sameTy, beginsWith, onFound, structBelow}
 use Rattle.oat.proofs.LawsBasics.{and-right, all-more, all-false, below-or-last}
 use Rattle.oat.proofs.LawsTables.{tables-formed}
 use Rattle.file_sections.specs.declared.Sections.{Sections}
-use Rattle.file_sections.specs.Layout.{tablesOf}
+use Rattle.file_sections.specs.Layout.{tablesOf, GoodTables}
 use Rattle.file_sections.proofs.LawsRecords.{types-long, fields-long, structs-long}
-use Rattle.type_index.specs.Index.{declared, firstBelow, recordOf, structNamed, Indexed, Readable}
+use Rattle.type_index.specs.Index.{declared, firstBelow, recordOf, structNamed, Indexed}
 use Rattle.type_index.proofs.LawsIndex.{lookup-is}
 use Rattle.subtyping.specs.Numbered.{sameField, sameFields}
 
@@ -115,10 +115,10 @@ module _ (s : List ℕ) (S : Sections) where
   T = tablesOf s S
 
   -- the type of a field is a type of the file
-  module _ (readable : Readable s S) where
+  module _ (good-tables : GoodTables s S) where
     pub field-type : (i x : ℕ) → i < S .fields → x ≡ fieldAt T i .type → x < S .types
     field-type i x h e =
-        let l = tables-formed T (readable .tables) .field i (omega (arith, fields-long s S)) .lower in
+        let l = tables-formed T (good-tables .tables) .field i (omega (arith, fields-long s S)) .lower in
         omega (arith, types-long s S)
 
     module _ (index : List ℕ) (indexed : Indexed index T (S .types)) where
@@ -130,20 +130,20 @@ module _ (s : List ℕ) (S : Sections) where
           ∙ rw (ex, ey, eq-eqb (fieldAt T i .name) (fieldAt T j .name) (sym em ∙ e ∙ en))
 
   -- the fields of a struct are fields of the file
-  module _ (readable : Readable s S) (i : ℕ) where
+  module _ (good-tables : GoodTables s S) (i : ℕ) where
     fields-of : i < S .structs → structAt T i .first + structAt T i .count ≤ S .fields
     unfolding fieldsBefore
     fields-of h =
-        let f = tables-formed T (readable .tables) in
+        let f = tables-formed T (good-tables .tables) in
         let l : i < length (T .structs) = omega (arith, structs-long s S) in
         omega (arith, f .struct i l, f .used-up, fields-long s S, sum-within (λ j. structAt T j .count) (length (T .structs)) i l)
 
-  module _ (i p : ℕ) (ep : p ≡ structAt T i .first) (count : ℕ) (ec : count ≡ structAt T i .count) (h : i < S .structs) (readable : Readable s S) where
+  module _ (i p : ℕ) (ep : p ≡ structAt T i .first) (count : ℕ) (ec : count ≡ structAt T i .count) (h : i < S .structs) (good-tables : GoodTables s S) where
     pub own-fields : p + count ≤ S .fields
-    own-fields = omega (arith, fields-of readable i h)
+    own-fields = omega (arith, fields-of good-tables i h)
 
     pub first-fields : (n : ℕ) → n ≤ count → p + n ≤ S .fields
-    first-fields n l = omega (arith, fields-of readable i h)
+    first-fields n l = omega (arith, fields-of good-tables i h)
 
   module _ (index : List ℕ) (indexed : Indexed index T (S .types)) where
     -- the index names the record

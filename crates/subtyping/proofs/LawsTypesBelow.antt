@@ -18,9 +18,9 @@ use Rattle.oat.proofs.LawsTypes.{TypesFormed, types-formed}
 use Rattle.oat.proofs.LawsWritten.{type-struct, type-array, type-function, type-nullable}
 use Rattle.oat.proofs.LawsBelow.{plain, params-many, below-base, below-struct, below-array, below-function, below-nullable, below-nullables, below-kinds, below-not-ref, all-none, all-also, all-uneven}
 use Rattle.file_sections.specs.declared.Sections.{Sections}
-use Rattle.file_sections.specs.Layout.{tablesOf}
+use Rattle.file_sections.specs.Layout.{tablesOf, GoodTables}
 use Rattle.file_sections.proofs.LawsRecords.{types-long, list-long}
-use Rattle.type_index.specs.Index.{declared, Indexed, Readable}
+use Rattle.type_index.specs.Index.{declared, Indexed}
 use Rattle.subtyping.specs.Numbered.{belowAt, paramsBelow, Params}
 
 -- the kind of a type written out is its record's kind
@@ -92,9 +92,9 @@ module _ (s : List ℕ) (S : Sections) where
   abbrev pub H : List Struct
   H = declared T
 
-  module _ (readable : Readable s S) where
+  module _ (good-tables : GoodTables s S) where
     formed : TypesFormed 200 T
-    formed = types-formed 200 T (readable .types)
+    formed = types-formed 200 T (good-tables .types)
 
     within : (i : ℕ) → i < S .types → i < length (T .types)
     within i l = omega (arith, types-long s S)
@@ -248,12 +248,12 @@ module _ (s : List ℕ) (S : Sections) where
         shift : (j : ℕ) → p + 1 + j ≡ p + suc j
         shift j = omega arith
 
-    module _ (readable : Readable s S) (l : i < S .types) (q x y : ℕ) (ex : x ≡ entryAt T p) (ey : y ≡ entryAt T q) (t : Bool) (et : t ≡ belowAt T x y) where
+    module _ (good-tables : GoodTables s S) (l : i < S .types) (q x y : ℕ) (ex : x ≡ entryAt T p) (ey : y ≡ entryAt T q) (t : Bool) (et : t ≡ belowAt T x y) where
       first-decides : paramsBelow T p q count ≡ (t && paramsBelow T (p + 1) (q + 1) (count - 1))
       first-decides =
           let h : entryAt T p < S .types = omega (arith, first-lower x ex) in
           param-decides T p q count some
-          (λ z. rw add-zero at (params .value 0 (omega arith)) (sym (kind-is readable (entryAt T p) h) ∙ z))
+          (λ z. rw add-zero at (params .value 0 (omega arith)) (sym (kind-is good-tables (entryAt T p) h) ∙ z))
           ∙ ap (λ b. b && paramsBelow T (p + 1) (q + 1) (count - 1)) (ap₂ (belowAt T) (sym ex) (sym ey) ∙ sym et)
 
       pub first-fails : not t ≡ true → false ≡ paramsBelow T p q count

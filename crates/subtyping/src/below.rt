@@ -16,13 +16,13 @@ ghost use Prim.Native.Nat.{_+_, _<_, _≤_};
 ghost use Rattle.oat.specs.Tables.{typeAt};
 ghost use Rattle.oat.specs.Types.{typeOf, structOf};
 ghost use Rattle.oat.specs.Decide;
-ghost use Rattle.file_sections.specs.Layout.{tablesOf};
-ghost use Rattle.type_index.specs.Index.{declared, Indexed, Readable};
+ghost use Rattle.file_sections.specs.Layout.{tablesOf, GoodTables};
+ghost use Rattle.type_index.specs.Index.{declared, Indexed};
 ghost use Rattle.subtyping.specs.Numbered.{sameField, sameFields, belowAt, paramsBelow, Params};
 
 // The fields i and j have the same name and the same type.
 fn same_field(file: &[u8], sections: Sections, index: &[u16], i: usize, j: usize) -> bool
-    requires { ⌜ Readable (now file) sections × Indexed (now index) (tablesOf (now file) sections) (sections .types) × (i < sections .fields) × (j < sections .fields) ⌝ }
+    requires { ⌜ GoodTables (now file) sections × Indexed (now index) (tablesOf (now file) sections) (sections .types) × (i < sections .fields) × (j < sections .fields) ⌝ }
     ensures { λ r. ⌜ r ≡ sameField (tablesOf (now (file .entry)) sections) i j ⌝ }
 {
     if field_name(file, sections, i) != field_name(file, sections, j) {
@@ -44,7 +44,7 @@ fn same_fields(
     q: usize,
     count: usize,
 ) -> bool
-    requires { ⌜ Readable (now file) sections × Indexed (now index) (tablesOf (now file) sections) (sections .types) × (p + count ≤ sections .fields) × (q + count ≤ sections .fields) ⌝ }
+    requires { ⌜ GoodTables (now file) sections × Indexed (now index) (tablesOf (now file) sections) (sections .types) × (p + count ≤ sections .fields) × (q + count ≤ sections .fields) ⌝ }
     ensures { λ r. ⌜ r ≡ sameFields (tablesOf (now (file .entry)) sections) p q count ⌝ }
 {
     let mut j = 0;
@@ -59,7 +59,7 @@ fn same_fields(
 
 // The fields of the struct j begin those of the struct i.
 fn begins(file: &[u8], sections: Sections, index: &[u16], i: usize, j: usize) -> bool
-    requires { ⌜ Readable (now file) sections × Indexed (now index) (tablesOf (now file) sections) (sections .types) × (i < sections .structs) × (j < sections .structs) ⌝ }
+    requires { ⌜ GoodTables (now file) sections × Indexed (now index) (tablesOf (now file) sections) (sections .types) × (i < sections .structs) × (j < sections .structs) ⌝ }
     ensures { λ r. ⌜ r ≡ Decide.beginsWith (structOf (tablesOf (now (file .entry)) sections) i .fields) (structOf (tablesOf (now (file .entry)) sections) j .fields) ⌝ }
 {
     let count = struct_count(file, sections, j);
@@ -78,7 +78,7 @@ fn begins(file: &[u8], sections: Sections, index: &[u16], i: usize, j: usize) ->
 
 // Both structs are declared, and the fields of the second begin those of the first.
 fn struct_below(file: &[u8], sections: Sections, index: &[u16], a: usize, b: usize) -> bool
-    requires { ⌜ Readable (now file) sections × Indexed (now index) (tablesOf (now file) sections) (sections .types) × (a < sections .types) × (b < sections .types) × (typeAt (tablesOf (now file) sections) a .kind ≡ 4) × (typeAt (tablesOf (now file) sections) b .kind ≡ 4) ⌝ }
+    requires { ⌜ GoodTables (now file) sections × Indexed (now index) (tablesOf (now file) sections) (sections .types) × (a < sections .types) × (b < sections .types) × (typeAt (tablesOf (now file) sections) a .kind ≡ 4) × (typeAt (tablesOf (now file) sections) b .kind ≡ 4) ⌝ }
     ensures { λ r. ⌜ r ≡ Decide.structBelow (declared (tablesOf (now (file .entry)) sections)) (typeAt (tablesOf (now (file .entry)) sections) a .a) (typeAt (tablesOf (now (file .entry)) sections) b .a) ⌝ }
 {
     let first = entry(index, 512 + a);
@@ -94,7 +94,7 @@ fn struct_below(file: &[u8], sections: Sections, index: &[u16], a: usize, b: usi
 
 // A function type is below another: parameters turn round, and come before return types.
 fn function_below(file: &[u8], sections: Sections, index: &[u16], a: usize, b: usize) -> bool
-    requires { ⌜ Readable (now file) sections × Indexed (now index) (tablesOf (now file) sections) (sections .types) × (a < sections .types) × (b < sections .types) × (typeAt (tablesOf (now file) sections) a .kind ≡ 6) × (typeAt (tablesOf (now file) sections) b .kind ≡ 6) ⌝ }
+    requires { ⌜ GoodTables (now file) sections × Indexed (now index) (tablesOf (now file) sections) (sections .types) × (a < sections .types) × (b < sections .types) × (typeAt (tablesOf (now file) sections) a .kind ≡ 6) × (typeAt (tablesOf (now file) sections) b .kind ≡ 6) ⌝ }
     ensures { λ r. ⌜ r ≡ belowAt (tablesOf (now (file .entry)) sections) a b ⌝ }
 {
     let count = type_c(file, sections, a);
@@ -133,7 +133,7 @@ fn params_below(
     q: usize,
     count: usize,
 ) -> bool
-    requires { ⌜ Readable (now file) sections × Indexed (now index) (tablesOf (now file) sections) (sections .types) × (a < sections .types) × (b < sections .types) × Params (now file) sections a p count × Params (now file) sections b q count ⌝ }
+    requires { ⌜ GoodTables (now file) sections × Indexed (now index) (tablesOf (now file) sections) (sections .types) × (a < sections .types) × (b < sections .types) × Params (now file) sections a p count × Params (now file) sections b q count ⌝ }
     ensures { λ r. ⌜ r ≡ paramsBelow (tablesOf (now (file .entry)) sections) p q count ⌝ }
 {
     if count == 0 {
@@ -160,7 +160,7 @@ fn kind_below(
     a: usize,
     b: usize,
 ) -> bool
-    requires { ⌜ Readable (now file) sections × Indexed (now index) (tablesOf (now file) sections) (sections .types) × (a < sections .types) × (b < sections .types) × (kind ≡ typeAt (tablesOf (now file) sections) a .kind) × (kind ≡ typeAt (tablesOf (now file) sections) b .kind) ⌝ }
+    requires { ⌜ GoodTables (now file) sections × Indexed (now index) (tablesOf (now file) sections) (sections .types) × (a < sections .types) × (b < sections .types) × (kind ≡ typeAt (tablesOf (now file) sections) a .kind) × (kind ≡ typeAt (tablesOf (now file) sections) b .kind) ⌝ }
     ensures { λ r. ⌜ r ≡ belowAt (tablesOf (now (file .entry)) sections) a b ⌝ }
 {
     match kind {
@@ -180,7 +180,7 @@ fn kind_below(
 
 // The type a is below the type b, as return types.
 pub fn below(file: &[u8], sections: Sections, index: &[u16], a: usize, b: usize) -> bool
-    requires { ⌜ Readable (now file) sections × Indexed (now index) (tablesOf (now file) sections) (sections .types) × (a < sections .types) × (b < sections .types) ⌝ }
+    requires { ⌜ GoodTables (now file) sections × Indexed (now index) (tablesOf (now file) sections) (sections .types) × (a < sections .types) × (b < sections .types) ⌝ }
     ensures { λ r. ⌜ r ≡ Decide.below (declared (tablesOf (now (file .entry)) sections)) (typeOf (tablesOf (now (file .entry)) sections) a) (typeOf (tablesOf (now (file .entry)) sections) b) ⌝ }
 {
     let kind = type_kind(file, sections, a);

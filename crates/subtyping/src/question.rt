@@ -8,8 +8,8 @@ ghost use Prim.Native.Nat.{_<_};
 ghost use Rattle.oat.specs.Basics.{pick};
 ghost use Rattle.oat.specs.Types.{typeOf};
 ghost use Rattle.oat.specs.Decide.{below};
-ghost use Rattle.file_sections.specs.Layout.{tablesOf};
-ghost use Rattle.type_index.specs.Index.{declared, Readable};
+ghost use Rattle.file_sections.specs.Layout.{tablesOf, GoodTables};
+ghost use Rattle.type_index.specs.Index.{declared};
 ghost use Rattle.subtyping.specs.Question.{subtypeOf};
 
 pub enum Answer {
@@ -20,7 +20,7 @@ pub enum Answer {
 
 // The question on a file that was read and has both types.
 fn ask(file: &[u8], sections: Sections, a: usize, b: usize) -> Answer
-    requires { ⌜ Readable (now file) sections × (a < sections .types) × (b < sections .types) ⌝ }
+    requires { ⌜ GoodTables (now file) sections × (a < sections .types) × (b < sections .types) ⌝ }
     ensures { λ r. ⌜ r ≡ pick (below (declared (tablesOf (now (file .entry)) sections)) (typeOf (tablesOf (now (file .entry)) sections) a) (typeOf (tablesOf (now (file .entry)) sections) b)) Answer.Yes Answer.No ⌝ }
 {
     let mut index = [0u16; 2112];

@@ -22,8 +22,8 @@ use Rattle.oat.proofs.LawsBasics.{below-or-last}
 use Rattle.oat.proofs.LawsSame.{same-sound}
 use Rattle.oat.proofs.LawsWritten.{type-struct, type-array, type-function, type-nullable}
 use Rattle.file_sections.specs.declared.Sections.{Sections}
-use Rattle.file_sections.specs.Layout.{tablesOf}
-use Rattle.type_index.specs.Index.{declared, firstBelow, structNamed, bucketOf, topOf, Chained, Cleared, Firsts, Indexed, Readable}
+use Rattle.file_sections.specs.Layout.{tablesOf, GoodTables}
+use Rattle.type_index.specs.Index.{declared, firstBelow, structNamed, bucketOf, topOf, Chained, Cleared, Firsts, Indexed}
 use Rattle.type_index.proofs.LawsIndex.{firstOf, first-equal, first-most, first-passes, firsts-more, indexed-more}
 use Rattle.type_index.proofs.LawsSameTypes.{kind-is, kind-most, array-kept, function-kept, nullable-kept}
 
@@ -53,7 +53,7 @@ record Referring (T : Tables) (i : ℕ) : Type 0 where
   pub lower : typeAt T i .a < i
   pub type : operandOf (typeOf T i) ≡ typeOf T (typeAt T i .a)
 
-operand-of : (s : List ℕ) (S : Sections) (i : ℕ) → Readable s S → i < S .types → 4 ≤ kindAt (tablesOf s S) i → (kindAt (tablesOf s S) i ≡ 4 → ⊥) → Referring (tablesOf s S) i
+operand-of : (s : List ℕ) (S : Sections) (i : ℕ) → GoodTables s S → i < S .types → 4 ≤ kindAt (tablesOf s S) i → (kindAt (tablesOf s S) i ≡ 4 → ⊥) → Referring (tablesOf s S) i
 operand-of s S i R h l n = go (eqb (kindAt (tablesOf s S) i) 5) (eqb (kindAt (tablesOf s S) i) 6) refl refl
   where
     go : (b d : Bool) → eqb (kindAt (tablesOf s S) i) 5 ≡ b → eqb (kindAt (tablesOf s S) i) 6 ≡ d → Referring (tablesOf s S) i
@@ -98,7 +98,7 @@ module _ (s : List ℕ) (S : Sections) (i k : ℕ) (ek : k ≡ kindAt (tablesOf 
     pub bucket-struct : k ≡ 4 → a % 64 ≡ bucketOf (tablesOf s S) i
     bucket-struct e = ap (λ n. n % 64) ea ∙ sym (bucket-name (tablesOf s S) i (sym ek ∙ e))
 
-    module _ (R : Readable s S) (h : i < S .types) (l : 4 ≤ k) (n : k ≡ 4 → ⊥) where
+    module _ (R : GoodTables s S) (h : i < S .types) (l : 4 ≤ k) (n : k ≡ 4 → ⊥) where
       pub operand-lower : a < i
       operand-lower = omega (arith, operand-of s S i R h (omega arith) (λ e. n (ek ∙ e)) .lower)
 
@@ -134,7 +134,7 @@ module _ (T : Tables) (a b : ℕ) (e : typeOf T a ≡ typeOf T b) (kinds : kindA
           ∙ ap₂ (λ x y. (x + y) % 64) (first-equal (typeOf T) (typeAt T a .a) (typeAt T b .a) (sym (A l n .type) ∙ ap operandOf e ∙ B l′ n′ .type)) kinds
           ∙ sym (bucket-other T b l′ n′)
 
-module _ (s : List ℕ) (S : Sections) (R : Readable s S) (a b : ℕ) (ha : a < S .types) (hb : b < S .types) where
+module _ (s : List ℕ) (S : Sections) (R : GoodTables s S) (a b : ℕ) (ha : a < S .types) (hb : b < S .types) where
   bucket-equal : typeOf (tablesOf s S) a ≡ typeOf (tablesOf s S) b → bucketOf (tablesOf s S) a ≡ bucketOf (tablesOf s S) b
   bucket-equal e =
       bucket-by (tablesOf s S) a b e (sym (kind-is s S R a ha) ∙ ap kindOf e ∙ kind-is s S R b hb) (operand-of s S a R ha) (operand-of s S b R hb)
@@ -229,7 +229,7 @@ module _ (s : List ℕ) (S : Sections) (index : List ℕ) (i : ℕ) where
       pub walk-falls : n < after
       walk-falls = omega (arith, walk-link, top-most (tablesOf s S) (bucketOf (tablesOf s S) i) (after - 1))
 
-      pub walk-on : (t : Bool) → Readable s S → i < S .types → t ≡ sameTy (typeOf (tablesOf s S) (after - 1)) (typeOf (tablesOf s S) i) → t ≡ false → Walks (tablesOf s S) i n
+      pub walk-on : (t : Bool) → GoodTables s S → i < S .types → t ≡ sameTy (typeOf (tablesOf s S) (after - 1)) (typeOf (tablesOf s S) i) → t ≡ false → Walks (tablesOf s S) i n
       walk-on t R h et f = record {
         most = omega (arith, walk-falls, w .most);
         height = after - 1;
@@ -246,7 +246,7 @@ module _ (s : List ℕ) (S : Sections) (index : List ℕ) (i : ℕ) where
               let same : after - 1 ≡ k = omega (arith, ltb-false (after - 1) k a) in
               subst (λ m. sameTy (typeOf (tablesOf s S) m) (typeOf (tablesOf s S) i) ≡ false) same (sym et ∙ f)
 
-pub walk-ends : (s : List ℕ) (S : Sections) (i after : ℕ) → Walks (tablesOf s S) i after → Readable s S → i < S .types → after ≤ 0 → i ≡ firstBelow i (λ k. sameTy (typeOf (tablesOf s S) k) (typeOf (tablesOf s S) i))
+pub walk-ends : (s : List ℕ) (S : Sections) (i after : ℕ) → Walks (tablesOf s S) i after → GoodTables s S → i < S .types → after ≤ 0 → i ≡ firstBelow i (λ k. sameTy (typeOf (tablesOf s S) k) (typeOf (tablesOf s S) i))
 walk-ends s S i after w R h l =
     ⊎-elim
     (λ e. sym e)
@@ -332,7 +332,7 @@ module _ (index : List ℕ) (i b v w : ℕ) where
   }
 
 -- one type more: its entries, and its place in its chain
-module _ (s : List ℕ) (S : Sections) (index index′ : List ℕ) (i b e r m : ℕ) (R : Readable s S) (h : i < S .types) (is : index′ ≡ set (set (set (set (set index i e) (512 + i) r) (1024 + i) m) (1536 + i) (getD (set (set (set index i e) (512 + i) r) (1024 + i) m) (2048 + b) 0)) (2048 + b) (i + 1)) where
+module _ (s : List ℕ) (S : Sections) (index index′ : List ℕ) (i b e r m : ℕ) (R : GoodTables s S) (h : i < S .types) (is : index′ ≡ set (set (set (set (set index i e) (512 + i) r) (1024 + i) m) (1536 + i) (getD (set (set (set index i e) (512 + i) r) (1024 + i) m) (2048 + b) 0)) (2048 + b) (i + 1)) where
   pub one-chained : Chained index (tablesOf s S) i → b ≡ bucketOf (tablesOf s S) i → b < 64 → Chained index′ (tablesOf s S) (i + 1)
   one-chained C eb l =
       let low : i < 512 = omega (arith, R .laid .types-most) in

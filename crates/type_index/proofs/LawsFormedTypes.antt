@@ -18,9 +18,9 @@ use Rattle.oat.proofs.LawsBasics.{and-left}
 use Rattle.oat.proofs.LawsTypes.{LowerValue}
 use Rattle.oat.proofs.LawsWritten.{type-struct, type-array, type-function, type-nullable}
 use Rattle.file_sections.specs.declared.Sections.{Sections}
-use Rattle.file_sections.specs.Layout.{tablesOf}
+use Rattle.file_sections.specs.Layout.{tablesOf, GoodTables}
 use Rattle.file_sections.proofs.LawsRecords.{structs-long}
-use Rattle.type_index.specs.Index.{declared, recordOf, structNamed, paramsFormed, Indexed, Listed, Readable}
+use Rattle.type_index.specs.Index.{declared, recordOf, structNamed, paramsFormed, Indexed, Listed}
 use Rattle.type_index.proofs.LawsIndex.{loop-fails, loop-goes, loop-done, none-tested, lookup-is, names-struct}
 use Rattle.type_index.proofs.LawsSameTypes.{all-front, all-same, plain, kind-is, array-kept, function-kept, nullable-kept}
 
@@ -105,7 +105,7 @@ module _ (s : List ℕ) (S : Sections) (i : ℕ) where
       let is : r ≡ recordOf (tablesOf s S) (typeAt (tablesOf s S) i .a) = er ∙ sym (names-struct s S i k ek _ _ h refl refl) in
       rw (type-struct (tablesOf s S) i (omega arith), lookup-is (tablesOf s S) (typeAt (tablesOf s S) i .a), structs-long s S, ← is) (sym (found-by _ _ refl))
 
-  module _ (index : List ℕ) (R : Readable s S) (h : i < S .types) (I : Indexed index (tablesOf s S) i) where
+  module _ (index : List ℕ) (R : GoodTables s S) (h : i < S .types) (I : Indexed index (tablesOf s S) i) where
     formed-at : (x : ℕ) (r : Bool) → x < i → r ≡ eqb (getD index (1024 + x) 0) 1 → r ≡ isFormed (declared (tablesOf s S)) (typeOf (tablesOf s S) x)
     formed-at x r l e = e ∙ I .formed x l
 

@@ -21,9 +21,9 @@ use Rattle.oat.specs.Decide.{sameTy, isFormed}
 use Rattle.oat.proofs.LawsBasics.{below-or-last, all-more, all-false}
 use Rattle.oat.proofs.LawsSame.{both-true, same-is, same-sound}
 use Rattle.file_sections.specs.declared.Sections.{Sections}
-use Rattle.file_sections.specs.Layout.{tablesOf}
+use Rattle.file_sections.specs.Layout.{tablesOf, GoodTables}
 use Rattle.file_sections.proofs.LawsRecords.{structs-long}
-use Rattle.type_index.specs.Index.{declared, firstBelow, recordOf, structNamed, Indexed, Firsts, Readable}
+use Rattle.type_index.specs.Index.{declared, firstBelow, recordOf, structNamed, Indexed, Firsts}
 
 -- a loop that tests the numbers below n, one after another
 module _ (n : ℕ) (p : ℕ → Bool) (i : ℕ) where
@@ -209,7 +209,7 @@ marked true = refl
 marked false = refl
 
 -- one type more
-module _ (s : List ℕ) (S : Sections) (index : List ℕ) (i e r m : ℕ) (R : Readable s S) (h : i < S .types) (F : Firsts index (tablesOf s S) i) (ee : e ≡ firstBelow i (λ j. sameTy (typeOf (tablesOf s S) j) (typeOf (tablesOf s S) i))) (I : Indexed index (tablesOf s S) i) where
+module _ (s : List ℕ) (S : Sections) (index : List ℕ) (i e r m : ℕ) (R : GoodTables s S) (h : i < S .types) (F : Firsts index (tablesOf s S) i) (ee : e ≡ firstBelow i (λ j. sameTy (typeOf (tablesOf s S) j) (typeOf (tablesOf s S) i))) (I : Indexed index (tablesOf s S) i) where
   below-512 : i < 512
   below-512 = omega (arith, R .laid .types-most)
 
@@ -259,7 +259,7 @@ indexed-all index T i n h k I =
     rw e at I
 
 -- the numbers that are stored fit
-pub first-fits : (s : List ℕ) (S : Sections) (i e : ℕ) → Readable s S → i < S .types → e ≡ firstBelow i (λ j. sameTy (typeOf (tablesOf s S) j) (typeOf (tablesOf s S) i)) → e < 65536
+pub first-fits : (s : List ℕ) (S : Sections) (i e : ℕ) → GoodTables s S → i < S .types → e ≡ firstBelow i (λ j. sameTy (typeOf (tablesOf s S) j) (typeOf (tablesOf s S) i)) → e < 65536
 first-fits s S i e R h ee = omega (arith, first-most (λ j. sameTy (typeOf (tablesOf s S) j) (typeOf (tablesOf s S) i)) i, R .laid .types-most)
 
 record-most : (T : Tables) (x : ℕ) → recordOf T x ≤ length (T .structs)
@@ -274,5 +274,5 @@ named-most T i = go (eqb (kindAt T i) 4)
     go true = record-most T (typeAt T i .a)
     go false = omega arith
 
-pub named-fits : (s : List ℕ) (S : Sections) (i r : ℕ) → Readable s S → r ≡ structNamed (tablesOf s S) i → r < 65536
+pub named-fits : (s : List ℕ) (S : Sections) (i r : ℕ) → GoodTables s S → r ≡ structNamed (tablesOf s S) i → r < 65536
 named-fits s S i r R er = omega (arith, named-most (tablesOf s S) i, structs-long s S, R .laid .structs-most)

@@ -20,9 +20,9 @@ use Rattle.oat.proofs.LawsSame.{same-sound, same-refl}
 use Rattle.oat.proofs.LawsTypes.{LowerValue, FunctionType, NullableType, TypesFormed, types-formed}
 use Rattle.oat.proofs.LawsWritten.{type-struct, type-array, type-function, type-nullable}
 use Rattle.file_sections.specs.declared.Sections.{Sections}
-use Rattle.file_sections.specs.Layout.{tablesOf}
+use Rattle.file_sections.specs.Layout.{tablesOf, GoodTables}
 use Rattle.file_sections.proofs.LawsRecords.{types-long, list-long}
-use Rattle.type_index.specs.Index.{sameParams, Indexed, Listed, Operand, Parameters, Readable}
+use Rattle.type_index.specs.Index.{sameParams, Indexed, Listed, Operand, Parameters}
 use Rattle.type_index.proofs.LawsIndex.{loop-fails, loop-goes, loop-done, none-tested}
 
 -- all from the first on, and tests that agree
@@ -77,7 +77,7 @@ kind-picked (suc (suc (suc (suc (suc (suc (suc zero))))))) x t ts h = refl
 kind-picked (suc (suc (suc (suc (suc (suc (suc (suc k)))))))) x t ts h = absurd (omega arith)
 
 -- what the rules say of the type i
-module _ (s : List ℕ) (S : Sections) (R : Readable s S) where
+module _ (s : List ℕ) (S : Sections) (R : GoodTables s S) where
   kept : TypesFormed 200 (tablesOf s S)
   kept = types-formed 200 (tablesOf s S) (R .types)
 
@@ -119,7 +119,7 @@ different t u h = go (sameTy t u) refl
     go false e = refl
 
 module _ (s : List ℕ) (S : Sections) (a b : ℕ) where
-  pub kinds-differ : (j k : ℕ) → Readable s S → a < b → b < S .types → j ≡ kindAt (tablesOf s S) a → k ≡ kindAt (tablesOf s S) b → (j ≡ k → ⊥) → false ≡ sameTy (typeOf (tablesOf s S) a) (typeOf (tablesOf s S) b)
+  pub kinds-differ : (j k : ℕ) → GoodTables s S → a < b → b < S .types → j ≡ kindAt (tablesOf s S) a → k ≡ kindAt (tablesOf s S) b → (j ≡ k → ⊥) → false ≡ sameTy (typeOf (tablesOf s S) a) (typeOf (tablesOf s S) b)
   kinds-differ j k R l h ej ek n =
       sym (different _ _ (λ e. n (omega (arith, e, kind-is s S R a (omega arith), kind-is s S R b h))))
 
@@ -133,7 +133,7 @@ module _ (s : List ℕ) (S : Sections) (a b : ℕ) where
     same-struct x y h ex ey =
         rw (type-struct (tablesOf s S) a (omega arith), type-struct (tablesOf s S) b (omega arith)) (ap₂ eqb ex ey)
 
-    module _ (index : List ℕ) (R : Readable s S) (l : a < b) (h : b < S .types) (I : Indexed index (tablesOf s S) b) where
+    module _ (index : List ℕ) (R : GoodTables s S) (l : a < b) (h : b < S .types) (I : Indexed index (tablesOf s S) b) where
       pub same-referred : (r : Bool) → (j ≡ 5) ⊎ (j ≡ 7) → r ≡ eqb (getD index (typeAt (tablesOf s S) a .a) 0) (getD index (typeAt (tablesOf s S) b .a) 0) → r ≡ sameTy (typeOf (tablesOf s S) a) (typeOf (tablesOf s S) b)
       unfolding sameTy
       same-referred r d er = ⊎-elim of-array of-nullable d
@@ -186,7 +186,7 @@ unfolding sameParams
 params-same index T i p q count I f g = all-same count _ _ (λ j h. I .same _ _ (f j h) (g j h)) ∙ sym (sames-written T count p q)
 
 -- what a type refers to is lower
-module _ (s : List ℕ) (S : Sections) (i : ℕ) (R : Readable s S) (h : i < S .types) where
+module _ (s : List ℕ) (S : Sections) (i : ℕ) (R : GoodTables s S) (h : i < S .types) where
   referred-lower : (k a : ℕ) → k ≡ kindAt (tablesOf s S) i → (k ≡ 5) ⊎ (k ≡ 7) → a ≡ typeAt (tablesOf s S) i .a → a < i
   referred-lower k a ek d ea =
       ⊎-elim (λ e. omega (arith, array-kept s S R i h (omega arith) .lower)) (λ e. omega (arith, nullable-kept s S R i h (omega arith) .lower)) d
@@ -199,7 +199,7 @@ pub lower-there : (a b n : ℕ) → b < n → a < b → a < n
 lower-there a b n h l = omega arith
 
 -- the parameters of a function type stand in the type list
-module _ (s : List ℕ) (S : Sections) (i count : ℕ) (R : Readable s S) (h : i < S .types) (k : kindAt (tablesOf s S) i ≡ 6) where
+module _ (s : List ℕ) (S : Sections) (i count : ℕ) (R : GoodTables s S) (h : i < S .types) (k : kindAt (tablesOf s S) i ≡ 6) where
   pub parameters-in : count ≡ typeAt (tablesOf s S) i .c → Parameters s S i count
   parameters-in ec =
       let F = function-kept s S R i h k in
@@ -220,11 +220,11 @@ module _ (s : List ℕ) (S : Sections) (i first count : ℕ) where
   pub parameters-listed : first ≡ typeAt (tablesOf s S) i .b → Parameters s S i count → Listed s S first count
   parameters-listed e P = rw e (P .listed)
 
-  pub params-listed : first ≡ typeAt (tablesOf s S) i .b → count ≡ typeAt (tablesOf s S) i .c → Readable s S → i < S .types → kindAt (tablesOf s S) i ≡ 6 → Listed s S first count
+  pub params-listed : first ≡ typeAt (tablesOf s S) i .b → count ≡ typeAt (tablesOf s S) i .c → GoodTables s S → i < S .types → kindAt (tablesOf s S) i ≡ 6 → Listed s S first count
   params-listed eb ec R h k = parameters-listed eb (parameters-in s S i count R h k ec)
 
 -- the entries of what a type refers to lie in the index
-module _ (s : List ℕ) (S : Sections) (i n : ℕ) (R : Readable s S) (h : i < S .types) (long : 1536 ≤ n) where
+module _ (s : List ℕ) (S : Sections) (i n : ℕ) (R : GoodTables s S) (h : i < S .types) (long : 1536 ≤ n) where
   referred-in : (k : ℕ) → k ≡ kindAt (tablesOf s S) i → (k ≡ 5) ⊎ (k ≡ 7) → Operand s S i n
   referred-in k ek d = record { there = h; below = omega (arith, referred-lower s S i R h k _ ek d refl, R .laid .types-most) }
 
@@ -242,11 +242,11 @@ module _ (s : List ℕ) (S : Sections) (i n : ℕ) (R : Readable s S) (h : i < S
     returns-marked k = omega (arith, returns-lower s S i R h x k ex, R .laid .types-most)
 
 -- a lower one of two types
-pub low-referred-in : (s : List ℕ) (S : Sections) (a b n k : ℕ) → Readable s S → b < S .types → 1536 ≤ n → k ≡ kindAt (tablesOf s S) a → (k ≡ 5) ⊎ (k ≡ 7) → a < b → Operand s S a n
+pub low-referred-in : (s : List ℕ) (S : Sections) (a b n k : ℕ) → GoodTables s S → b < S .types → 1536 ≤ n → k ≡ kindAt (tablesOf s S) a → (k ≡ 5) ⊎ (k ≡ 7) → a < b → Operand s S a n
 low-referred-in s S a b n k R h long ek d l = referred-in s S a n R (omega arith) long k ek d
 
 -- two function types
-module _ (s : List ℕ) (S : Sections) (a b : ℕ) (R : Readable s S) (l : a < b) (h : b < S .types) (ka : kindAt (tablesOf s S) a ≡ 6) (kb : kindAt (tablesOf s S) b ≡ 6) where
+module _ (s : List ℕ) (S : Sections) (a b : ℕ) (R : GoodTables s S) (l : a < b) (h : b < S .types) (ka : kindAt (tablesOf s S) a ≡ 6) (kb : kindAt (tablesOf s S) b ≡ 6) where
   params-of : ℕ → Tys
   params-of i = writtenParams (typeOf (tablesOf s S)) (tablesOf s S) (typeAt (tablesOf s S) i .b) (typeAt (tablesOf s S) i .c)
 

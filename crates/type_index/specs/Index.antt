@@ -10,8 +10,7 @@ use lib.ListN.{length, getD}
 use lib.Dec.{eqb, ltb}
 use Rattle.oat.specs.Basics.{pick, allBelow}
 use Rattle.oat.specs.Tables.{Tables, typeAt, entryAt, structAt}
-use Rattle.oat.specs.TypeRules.{kindAt, typesRight}
-use Rattle.oat.specs.TableRules.{tablesRight}
+use Rattle.oat.specs.TypeRules.{kindAt}
 use Rattle.oat.specs.Types.{Struct, typeOf, structsOf}
 use Rattle.oat.specs.Decide.{sameTy, isFormed}
 use Rattle.file_sections.specs.declared.Sections.{Sections}
@@ -41,12 +40,6 @@ pub record Indexed (index : List ℕ) (T : Tables) (n : ℕ) : Type 0 where
   pub same : (i j : ℕ) → i < n → j < n → eqb (getD index i 0) (getD index j 0) ≡ sameTy (typeOf T i) (typeOf T j)
   pub named : (i : ℕ) → i < n → getD index (512 + i) 0 ≡ structNamed T i
   pub formed : (i : ℕ) → i < n → eqb (getD index (1024 + i) 0) 1 ≡ isFormed (declared T) (typeOf T i)
-
--- a file whose sections stand and whose tables keep the rules
-pub record Readable (s : List ℕ) (S : Sections) : Type 0 where
-  pub laid : Laid s S
-  pub types : typesRight 200 (tablesOf s S) ≡ true
-  pub tables : tablesRight (tablesOf s S) ≡ true
 
 -- every entry of the first n types is the first equal type
 pub record Firsts (index : List ℕ) (T : Tables) (n : ℕ) : Type 0 where

@@ -15,8 +15,8 @@ ghost use lib.ListN.{length, getD};
 ghost use Rattle.oat.specs.TypeRules.{kindAt};
 ghost use Rattle.oat.specs.Types.{typeOf};
 ghost use Rattle.oat.specs.Decide.{isFormed};
-ghost use Rattle.file_sections.specs.Layout.{Laid, Has, tablesOf};
-ghost use Rattle.type_index.specs.Index.{declared, structNamed, paramsFormed, Indexed, Listed, Readable};
+ghost use Rattle.file_sections.specs.Layout.{Laid, Has, tablesOf, GoodTables};
+ghost use Rattle.type_index.specs.Index.{declared, structNamed, paramsFormed, Indexed, Listed};
 ghost use Rattle.type_index.specs.Records.{Recorded};
 
 // The first record of the struct that the type i names, or the number of structs.
@@ -55,7 +55,7 @@ fn params_formed(file: &[u8], sections: Sections, index: &[u16], first: usize, c
 
 // The function type i is well-formed, where lower types are indexed.
 fn function_formed(file: &[u8], sections: Sections, index: &[u16], i: usize) -> bool
-    requires { ⌜ Readable (now file) sections × (i < sections .types) × Indexed (now index) (tablesOf (now file) sections) i ⌝ }
+    requires { ⌜ GoodTables (now file) sections × (i < sections .types) × Indexed (now index) (tablesOf (now file) sections) i ⌝ }
     requires { ⌜ kindAt (tablesOf (now file) sections) i ≡ 6 ⌝ }
     ensures { λ r. ⌜ r ≡ isFormed (declared (tablesOf (now (file .entry)) sections)) (typeOf (tablesOf (now (file .entry)) sections) i) ⌝ }
 {
@@ -79,7 +79,7 @@ pub fn formed_lower(
     i: usize,
     declared_at: usize,
 ) -> bool
-    requires { ⌜ Readable (now file) sections × (i < sections .types) × Indexed (now index) (tablesOf (now file) sections) i × («declared_at» ≡ structNamed (tablesOf (now file) sections) i) ⌝ }
+    requires { ⌜ GoodTables (now file) sections × (i < sections .types) × Indexed (now index) (tablesOf (now file) sections) i × («declared_at» ≡ structNamed (tablesOf (now file) sections) i) ⌝ }
     ensures { λ r. ⌜ r ≡ isFormed (declared (tablesOf (now (file .entry)) sections)) (typeOf (tablesOf (now (file .entry)) sections) i) ⌝ }
 {
     match type_kind(file, sections, i) {

@@ -11,8 +11,8 @@ ghost use mathlib.Core.Path.{_≡_};
 ghost use Prim.Native.Nat.{_+_, _<_, _≤_};
 ghost use lib.ListN.{length, getD, set};
 ghost use Rattle.oat.specs.Basics.{pick};
-ghost use Rattle.file_sections.specs.Layout.{tablesOf};
-ghost use Rattle.type_index.specs.Index.{Chained, Cleared, Firsts, Indexed, Readable};
+ghost use Rattle.file_sections.specs.Layout.{tablesOf, GoodTables};
+ghost use Rattle.type_index.specs.Index.{Chained, Cleared, Firsts, Indexed};
 ghost use Rattle.type_index.specs.Records.{Recorded};
 
 // 1 where the test passes, else 0.
@@ -37,7 +37,7 @@ fn link(index: &mut [u16], i: usize, bucket: usize)
 // The entries of the type i and its place in its chain, where lower types are indexed and the struct records are chained.
 fn index_one(file: &[u8], sections: Sections, records: &[u16], index: &mut [u16], i: usize)
     requires { ⌜ Recorded (now records) (tablesOf (now file) sections) (sections .structs) ⌝ }
-    requires { ⌜ Readable (now file) sections × (i < sections .types) × Indexed (now index) (tablesOf (now file) sections) i ⌝ }
+    requires { ⌜ GoodTables (now file) sections × (i < sections .types) × Indexed (now index) (tablesOf (now file) sections) i ⌝ }
     requires { ⌜ Firsts (now index) (tablesOf (now file) sections) i × Chained (now index) (tablesOf (now file) sections) i ⌝ }
     ensures { λ _. ⌜ Indexed (now (index .exit)) (tablesOf (now (file .entry)) sections) (i + 1) ⌝ }
     ensures { λ _. ⌜ Firsts (now (index .exit)) (tablesOf (now (file .entry)) sections) (i + 1) ⌝ }
@@ -67,7 +67,7 @@ fn clear(index: &mut [u16])
 
 // The entries of every type, where the struct records are chained.
 fn index_each(file: &[u8], sections: Sections, records: &[u16], index: &mut [u16])
-    requires { ⌜ Readable (now file) sections × (2112 ≤ length (now index)) × Recorded (now records) (tablesOf (now file) sections) (sections .structs) ⌝ }
+    requires { ⌜ GoodTables (now file) sections × (2112 ≤ length (now index)) × Recorded (now records) (tablesOf (now file) sections) (sections .structs) ⌝ }
     ensures { λ _. ⌜ Indexed (now (index .exit)) (tablesOf (now (file .entry)) sections) (sections .types) ⌝ }
 {
     clear(&mut *index);
@@ -80,7 +80,7 @@ fn index_each(file: &[u8], sections: Sections, records: &[u16], index: &mut [u16
 
 // The entries of every type.
 pub fn index_types(file: &[u8], sections: Sections, index: &mut [u16])
-    requires { ⌜ Readable (now file) sections × (2112 ≤ length (now index)) ⌝ }
+    requires { ⌜ GoodTables (now file) sections × (2112 ≤ length (now index)) ⌝ }
     ensures { λ _. ⌜ Indexed (now (index .exit)) (tablesOf (now (file .entry)) sections) (sections .types) ⌝ }
 {
     let mut records = [0u16; 320];

@@ -14,8 +14,8 @@ ghost use Rattle.oat.specs.Tables.{typeAt};
 ghost use Rattle.oat.specs.TypeRules.{kindAt};
 ghost use Rattle.oat.specs.Types.{typeOf};
 ghost use Rattle.oat.specs.Decide.{sameTy};
-ghost use Rattle.file_sections.specs.Layout.{Laid, tablesOf};
-ghost use Rattle.type_index.specs.Index.{firstBelow, sameParams, bucketOf, Chained, Firsts, Indexed, Listed, Operand, Parameters, Readable};
+ghost use Rattle.file_sections.specs.Layout.{Laid, tablesOf, GoodTables};
+ghost use Rattle.type_index.specs.Index.{firstBelow, sameParams, bucketOf, Chained, Firsts, Indexed, Listed, Operand, Parameters};
 
 // The entry i of the index.
 pub fn entry(index: &[u16], i: usize) -> usize
@@ -92,7 +92,7 @@ fn same_operands(file: &[u8], sections: Sections, index: &[u16], a: usize, b: us
 
 // Two function types are equal, where lower types are indexed.
 fn same_function(file: &[u8], sections: Sections, index: &[u16], a: usize, b: usize) -> bool
-    requires { ⌜ Readable (now file) sections × (a < b) × (b < sections .types) × Indexed (now index) (tablesOf (now file) sections) b ⌝ }
+    requires { ⌜ GoodTables (now file) sections × (a < b) × (b < sections .types) × Indexed (now index) (tablesOf (now file) sections) b ⌝ }
     requires { ⌜ (kindAt (tablesOf (now file) sections) a ≡ 6) × (kindAt (tablesOf (now file) sections) b ≡ 6) ⌝ }
     ensures { λ r. ⌜ r ≡ sameTy (typeOf (tablesOf (now (file .entry)) sections) a) (typeOf (tablesOf (now (file .entry)) sections) b) ⌝ }
 {
@@ -108,7 +108,7 @@ fn same_function(file: &[u8], sections: Sections, index: &[u16], a: usize, b: us
 
 // Two types are equal, where lower types are indexed.
 fn same_lower(file: &[u8], sections: Sections, index: &[u16], a: usize, b: usize) -> bool
-    requires { ⌜ Readable (now file) sections × (a < b) × (b < sections .types) × Indexed (now index) (tablesOf (now file) sections) b ⌝ }
+    requires { ⌜ GoodTables (now file) sections × (a < b) × (b < sections .types) × Indexed (now index) (tablesOf (now file) sections) b ⌝ }
     ensures { λ r. ⌜ r ≡ sameTy (typeOf (tablesOf (now (file .entry)) sections) a) (typeOf (tablesOf (now (file .entry)) sections) b) ⌝ }
 {
     let kind = type_kind(file, sections, a);
@@ -125,7 +125,7 @@ fn same_lower(file: &[u8], sections: Sections, index: &[u16], a: usize, b: usize
 
 // The bucket of the type i, where lower types are indexed: equal types have equal buckets.
 pub fn bucket(file: &[u8], sections: Sections, index: &[u16], i: usize) -> usize
-    requires { ⌜ Readable (now file) sections × (i < sections .types) × Indexed (now index) (tablesOf (now file) sections) i ⌝ }
+    requires { ⌜ GoodTables (now file) sections × (i < sections .types) × Indexed (now index) (tablesOf (now file) sections) i ⌝ }
     requires { ⌜ Firsts (now index) (tablesOf (now file) sections) i ⌝ }
     ensures { λ r. ⌜ (r ≡ bucketOf (tablesOf (now (file .entry)) sections) i) × (r < 64) ⌝ }
 {
@@ -143,7 +143,7 @@ pub fn bucket(file: &[u8], sections: Sections, index: &[u16], i: usize) -> usize
 
 // The lowest number of a type equal to the type i, where lower types are indexed and chained, and i belongs to the bucket.
 pub fn lowest(file: &[u8], sections: Sections, index: &[u16], i: usize, bucket: usize) -> usize
-    requires { ⌜ Readable (now file) sections × (i < sections .types) × Indexed (now index) (tablesOf (now file) sections) i ⌝ }
+    requires { ⌜ GoodTables (now file) sections × (i < sections .types) × Indexed (now index) (tablesOf (now file) sections) i ⌝ }
     requires { ⌜ Firsts (now index) (tablesOf (now file) sections) i × Chained (now index) (tablesOf (now file) sections) i ⌝ }
     requires { ⌜ (bucket ≡ bucketOf (tablesOf (now file) sections) i) × (bucket < 64) ⌝ }
     ensures { λ r. ⌜ r ≡ firstBelow i (λ j. sameTy (typeOf (tablesOf (now (file .entry)) sections) j) (typeOf (tablesOf (now (file .entry)) sections) i)) ⌝ }

@@ -67,7 +67,7 @@ each-one n (function x t ps b ∷ ds) = omega (arith, each-one (n + sizeDecl (fu
 -- the first groups
 module _ {F : List ℕ} {S : Sections} {X N W K : List ℕ} (z : ReadyRun F S X N W K) where
   pub first-structs : Laid F S × (1024 ≤ length N)
-  first-structs = (z .held .readable .laid, z .long)
+  first-structs = (z .held .good-tables .laid, z .long)
 
   pub first-structs-stop : {r : Stepped} → ToldStructs F S r → Stopped r → ToldFirst F S X W W K r
   first-structs-stop told e = record { tells = λ R ds D. runs-stop (tabulate (S .«built_ins») builtIn ++ headings 0 ds) e (told .tells X R W K (z .held)) }
@@ -89,7 +89,7 @@ module _ {F : List ℕ} {S : Sections} {X N W K : List ℕ} (z : ReadyRun F S X 
       held = runs-next e₁ (told₁ .tells X [] W K (z .held)) .1;
       structs = omega (arith, structs-counted .structs-are);
       none = omega (arith, structs-counted .names-are);
-      few = omega (arith, structs-counted .steps-are, z .held .readable .laid .structs-most);
+      few = omega (arith, structs-counted .steps-are, z .held .good-tables .laid .structs-most);
     }
 
     module _ {r₂ : Stepped} {K₂ : List ℕ} (told₂ : ToldBuiltIns F S X W c K₂ r₂) where
@@ -125,7 +125,7 @@ module _ {F : List ℕ} {S : Sections} {X N W K : List ℕ} (z : ReadyRun F S X 
               declarations = z .declarations;
               declares = z .declares;
               room = omega (arith, m .names-are, structs-counted .names-are, built-ins-counted .names-are, group-few headings-group 0 (z .declarations));
-              few = omega (arith, structs-counted .steps-are, built-ins-counted .steps-are, z .held .readable .laid .structs-most, z .held .readable .laid .built-ins-most);
+              few = omega (arith, structs-counted .steps-are, built-ins-counted .steps-are, z .held .good-tables .laid .structs-most, z .held .good-tables .laid .built-ins-most);
             }
 
         pub first-done : {r : Stepped} {W′ K′ : List ℕ} → HeadingsTold F S X d W W′ K′ r → ToldFirst F S X W W′ K′ r
@@ -163,7 +163,7 @@ module _ {F : List ℕ} {S : Sections} {X N W K : List ℕ} (z : ReadyRun F S X 
         }
 
     few-headings : (ds : List Decl) → Declares F S ds → length (headings 0 ds) + length (globals 0 ds) ≤ 4096
-    few-headings ds D = omega (arith, each-one 0 ds, decls-some ds, D .used-up, z .held .readable .laid .nodes-most)
+    few-headings ds D = omega (arith, each-one 0 ds, decls-some ds, D .used-up, z .held .good-tables .laid .nodes-most)
 
     pub all-globals : ReadyDecls globals F S X W₁ K₁ c
     all-globals =
@@ -177,7 +177,7 @@ module _ {F : List ℕ} {S : Sections} {X N W K : List ℕ} (z : ReadyRun F S X 
           declarations = ds;
           declares = D;
           room = omega (arith, m .names-are, first-counted ds D .names-are, each-one 0 ds);
-          few = omega (arith, first-counted ds D .steps-are, few-headings ds D, z .held .readable .laid .structs-most, z .held .readable .laid .built-ins-most);
+          few = omega (arith, first-counted ds D .steps-are, few-headings ds D, z .held .good-tables .laid .structs-most, z .held .good-tables .laid .built-ins-most);
         }
 
     module _ {R R₂ W₂ K₂ : List ℕ} {r₂ : Stepped} (told₂ : ToldDecls globals F S X c R W₁ R₂ W₂ K₂ r₂) where
@@ -205,11 +205,11 @@ module _ {F : List ℕ} {S : Sections} {X N W K : List ℕ} (z : ReadyRun F S X 
             let ds = z .declarations in
             let D = z .declares in
             record {
-              readable = z .held .readable;
+              good-tables = z .held .good-tables;
               indexed = z .held .indexed;
               long = omega (arith, z .long);
               structs = omega (arith, first-counted ds D .structs-are, second-counted ds D .structs-are);
-              few = omega (arith, first-counted ds D .steps-are, second-counted ds D .steps-are, few-headings ds D, z .held .readable .laid .structs-most, z .held .readable .laid .built-ins-most);
+              few = omega (arith, first-counted ds D .steps-are, second-counted ds D .steps-are, few-headings ds D, z .held .good-tables .laid .structs-most, z .held .good-tables .laid .built-ins-most);
             }
 
         held-after : Held F S X W₂ K₂ d
@@ -250,7 +250,7 @@ module _ {F : List ℕ} {S : Sections} {X N W K : List ℕ} (z : ReadyRun F S X 
                   declarations = ds;
                   declares = D;
                   room = omega (arith, m .names-are, f .names-are, s .names-are, third-counted .names-are, each-one 0 ds);
-                  few = omega (arith, f .steps-are, s .steps-are, third-counted .steps-are, few-headings ds D, z .held .readable .laid .structs-most, z .held .readable .laid .built-ins-most);
+                  few = omega (arith, f .steps-are, s .steps-are, third-counted .steps-are, few-headings ds D, z .held .good-tables .laid .structs-most, z .held .good-tables .laid .built-ins-most);
                 }
 
             pub all-done : {R′ W′ K′ : List ℕ} {r : Stepped} → ToldDecls bodies F S X b R₂ W₂ R′ W′ K′ r → ToldRun F S X R W R′ W′ K′ r

@@ -22,14 +22,13 @@ use Rattle.typing_rules.proofs.RowsTheorem.{segments-long}
 use Rattle.file_sections.specs.declared.Sections.{Sections}
 use Rattle.file_sections.specs.declared.Reading.{Reading}
 use Rattle.file_sections.specs.declared.Reading.the-variants.{Refused as Unread, Good}
-use Rattle.file_sections.specs.Layout.{tablesOf}
+use Rattle.file_sections.specs.Layout.{tablesOf, GoodTables}
 use Rattle.file_sections.proofs.LawsRecords.{nodes-long}
 use Rattle.program_file.specs.Reading.{readingOf, numberOf}
-use Rattle.program_file.proofs.Theorem.{Bytes, program-of, read-tables}
-use Rattle.type_index.specs.Index.{Indexed, Readable}
+use Rattle.program_file.proofs.Theorem.{Bytes, program-of, read-tables, good-tables}
+use Rattle.type_index.specs.Index.{Indexed}
 use Rattle.bindings.specs.Bindings.{namesOf}
 use Rattle.bindings.proofs.LawsBindings.{scoped-none}
-use Rattle.subtyping.proofs.LawsQuestion.{readable}
 use Rattle.demand3.specs.CheckFile.{limits, needed, outcome, Checks, unreadable, rows-short, work-short, checked}
 use Rattle.demand3.proofs.Theorem.{fits, demand3}
 use Rattle.demand3.proofs.LawsPlaces.{refused-fits, accepted-fits}
@@ -125,12 +124,12 @@ ends-answer {F} {S} {R′} p f e l (ends-refused n s u q h) =
 
 -- the check of a readable file
 module _ {F : List ℕ} {S : Sections} {R W : List ℕ} (z : ReadyCheck F S R W) where
-  pub check-readable : Readable F S
-  check-readable = readable F (Good S) S (sym (z .reads)) refl
+  pub check-tables : GoodTables F S
+  check-tables = good-tables F (Good S) S (sym (z .reads)) refl
 
   pub check-run : {X N K : List ℕ} → Indexed X (tablesOf F S) (S .types) → 1024 ≤ length N → 4736 ≤ length K → ((h : ℕ) → h < 512 → getD K h 0 ≡ 0) → ReadyRun F S X N W K
   check-run {X} {N} {K} x n k h = record {
-    held = record { readable = check-readable; indexed = x; scoped = scoped-none F S W K (check-readable .laid) (omega (arith, z .work-long)) k h };
+    held = record { good-tables = check-tables; indexed = x; scoped = scoped-none F S W K (check-tables .laid) (omega (arith, z .work-long)) k h };
     long = n;
     declarations = z .program .declarations;
     declares = declares (z .program) (z .file) (z .reads);
@@ -161,7 +160,7 @@ check-numbers p = go (runOf p) refl
 
 -- a readable file has few nodes
 pub nodes-few : (F : List ℕ) {S : Sections} {g : Reading} → g ≡ readingOf limits F → g ≡ Good S → S .nodes ≤ 4096
-nodes-few F {S} {g} i j = readable F g S i j .laid .nodes-most
+nodes-few F {S} {g} i j = good-tables F g S i j .laid .nodes-most
 
 -- a slice of bytes holds bytes
 pub bytes-of : (F : List ℕ) → ((i : ℕ) → Fits w8 (getD F i 0)) → Bytes F

@@ -47,7 +47,7 @@ block-some (block ss) = omega arith
 
 module _ {F : List ℕ} {S : Sections} {X W K : List ℕ} {c : Context} {n : ℕ} (z : ReadyDecl F S X W K c n) where
   pub decl-node : Has F S n (S .nodes)
-  decl-node = record { laid = z .held .readable .laid; within = subst (λ k. n < k) (nodes-long F S) (decl-within (tablesOf F S) n (z .declaration) (z .stands)) }
+  decl-node = record { laid = z .held .good-tables .laid; within = subst (λ k. n < k) (nodes-long F S) (decl-within (tablesOf F S) n (z .declaration) (z .stands)) }
 
   module _ {k : ℕ} (e : k ≡ nodeAt (tablesOf F S) n .kind) where
     -- headings

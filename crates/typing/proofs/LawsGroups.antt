@@ -164,7 +164,7 @@ module _ {steps : ℕ → List Decl → List Step} {k : ℕ} (g : Group steps k)
             next-decl (z .declares) r h λ d ys e s.
             record {
               held = runs-next refl (r .runs) .1;
-              whole = record { structs = omega (arith, along-counts .structs-are, z .structs); few = omega (arith, along-counts .steps-are, few-done, z .few, z .held .readable .laid .nodes-most) };
+              whole = record { structs = omega (arith, along-counts .structs-are, z .structs); few = omega (arith, along-counts .steps-are, few-done, z .few, z .held .good-tables .laid .nodes-most) };
               low = omega (arith, along-counts .names-are, z .low);
               declaration = d;
               stands = s;
@@ -174,7 +174,7 @@ module _ {steps : ℕ → List Decl → List Step} {k : ℕ} (g : Group steps k)
         pub along-tree : Tree F S node
         along-tree =
             let r = a .at (z .declarations) (z .declares) in
-            next-decl (z .declares) r h λ d ys e s. record { laid = z .held .readable .laid; end = node + sizeDecl d; tree = decl-tree (tablesOf F S) node d s }
+            next-decl (z .declares) r h λ d ys e s. record { laid = z .held .good-tables .laid; end = node + sizeDecl d; tree = decl-tree (tablesOf F S) node d s }
 
         -- the next declaration
         module _ {n′ : ℕ} (p : Past F S node n′) where

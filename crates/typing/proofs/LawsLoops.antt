@@ -111,7 +111,7 @@ module _ {F : List ℕ} {S : Sections} {X W : List ℕ} {c₀ : Context} where
           held = held;
           whole = record {
             structs = omega (arith, ap (λ x. x .structs) e, m .structs-are, z .structs);
-            few = omega (arith, ap (λ x. x .steps) e, m .steps-are, n, z .few, z .held .readable .laid .built-ins-most);
+            few = omega (arith, ap (λ x. x .steps) e, m .steps-are, n, z .few, z .held .good-tables .laid .built-ins-most);
           };
           there = h;
           next = omega (arith, ap (λ x. x .names) e, m .names-are, n, z .none);
@@ -147,12 +147,12 @@ module _ {F : List ℕ} {S : Sections} {X : List ℕ} {c₀ : Context} where
   module _ {i : ℕ} {c : Context} (a : FieldsDone F S X c₀ i c) where
     pub fields-ready : {N N₀ : List ℕ} → ReadyStructs F S X N₀ c₀ → length N ≡ length N₀ → i < S .structs → ReadyFields F S X N c i
     fields-ready z e h = record {
-      readable = z .readable;
+      good-tables = z .good-tables;
       indexed = z .indexed;
       long = omega (arith, z .long);
       whole = record {
         structs = ap (λ x. x .structs) (a .counted) ∙ z .structs;
-        few = omega (arith, ap (λ x. x .steps) (a .counted), z .few, z .readable .laid .structs-most);
+        few = omega (arith, ap (λ x. x .steps) (a .counted), z .few, z .good-tables .laid .structs-most);
       };
       there = h;
     }

@@ -11,8 +11,8 @@ use Rattle.oat.specs.ProgramFile.{Program}
 use Rattle.typing_rules.specs.Steps.{Step, structName, builtIn, structFields, headings, stepsOf}
 use Rattle.typing_rules.specs.Check.{Segment, Ran, refused, withSegment, rowsBegin, run}
 use Rattle.file_sections.specs.declared.Sections.{Sections}
-use Rattle.file_sections.specs.Layout.{tablesOf}
-use Rattle.type_index.specs.Index.{Indexed, Readable}
+use Rattle.file_sections.specs.Layout.{tablesOf, GoodTables}
+use Rattle.type_index.specs.Index.{Indexed}
 use Rattle.steps.specs.declared.context.Context.{Context}
 use Rattle.steps.specs.declared.context.Stepped.{Stepped}
 use Rattle.steps.specs.declared.context.Stepped.the-variants.{Next, Refused}
@@ -75,7 +75,7 @@ pub record ToldBuiltIns (F : List ℕ) (S : Sections) (X W : List ℕ) (c : Cont
 
 -- struct fields
 pub record ReadyStructs (F : List ℕ) (S : Sections) (X N : List ℕ) (c : Context) : Type 0 where
-  pub readable : Readable F S
+  pub good-tables : GoodTables F S
   pub indexed : Indexed X (tablesOf F S) (S .types)
   pub long : 1024 ≤ length N
   pub structs : c .structs ≡ S .structs

@@ -11,7 +11,7 @@ node-kind-requires : tie.Need-node-kind-requires
 node-kind-requires c κs = condition-node (c .before .before .before .before .before .pre)
 
 add-ends : tie.Need-add-ends
-add-ends c = omega (arith, (c .before .before .before .before .before .before .before .before .pre) .within, (c .before .before .before .before .before .before .before .before .pre) .fine .readable .laid .nodes-most)
+add-ends c = omega (arith, (c .before .before .before .before .before .before .before .before .pre) .within, (c .before .before .before .before .before .before .before .before .pre) .fine .good-tables .laid .nodes-most)
 
 ends-requires : tie.Need-ends-requires
 ends-requires c κs = condition-fits (c .before .before .before .before .before .before .before .before .pre)

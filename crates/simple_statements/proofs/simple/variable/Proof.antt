@@ -9,7 +9,7 @@ use Rattle.simple_statements.proofs.simple.variable.Statement.{statemen
 use Rattle.simple_statements.proofs.simple.variable.Tie as tie
 
 add-expression : tie.Need-add-expression
-add-expression c = omega (arith, (c .before .before .before .before .before .before .before .before .pre .0) .within, (c .before .before .before .before .before .before .before .before .pre .0) .fine .readable .laid .nodes-most)
+add-expression c = omega (arith, (c .before .before .before .before .before .before .before .before .pre .0) .within, (c .before .before .before .before .before .before .before .before .pre .0) .fine .good-tables .laid .nodes-most)
 
 expression-requires : tie.Need-expression-requires
 expression-requires c κs = variable-first (c .before .before .before .before .before .before .before .before .pre .0) (c .before .before .before .before .before .before .before .before .pre .1)
@@ -18,7 +18,7 @@ returns : tie.Need-returns
 returns c = variable-no (c .before .before .before .before .before .before .before .before .before .before .before .before .before .before .before .before .pre .0) (c .before .before .before .before .before .before .before .before .before .before .before .before .before .before .before .before .pre .1) (c .before .before .before .before .before .before .before .expression .ensures) (untyped _ (c .match .keys2))
 
 node-x-requires : tie.Need-node-x-requires
-node-x-requires c κs = has-node ((c .before .before .before .before .before .before .before .before .before .before .before .before .before .before .before .before .before .before .before .before .pre .0) .fine .readable) ((c .before .before .before .before .before .before .before .before .before .before .before .before .before .before .before .before .before .before .before .before .pre .0) .within)
+node-x-requires c κs = has-node ((c .before .before .before .before .before .before .before .before .before .before .before .before .before .before .before .before .before .before .before .before .pre .0) .fine .good-tables) ((c .before .before .before .before .before .before .before .before .before .before .before .before .before .before .before .before .before .before .before .before .pre .0) .within)
 
 is-fresh-requires : tie.Need-is-fresh-requires
 is-fresh-requires c κs = variable-some (c .before .before .before .before .before .before .before .before .before .before .before .before .before .before .before .before .before .before .before .before .before .pre .0) (c .before .before .before .before .before .before .before .before .before .before .before .before .before .before .before .before .before .before .before .before .before .pre .1) (c .before .before .before .before .before .before .before .before .before .before .before .before .expression .ensures) (c .before .before .before .before .judgement .given .1)
@@ -30,7 +30,7 @@ bind-requires : tie.Need-bind-requires
 bind-requires c κs = variable-bindable (c .before .before .before .before .before .before .before .before .before .before .before .before .before .before .before .before .before .before .before .before .before .before .before .before .before .pre .0) (c .before .before .before .before .before .before .before .before .before .before .before .before .before .before .before .before .before .before .before .before .before .before .before .before .before .pre .1) (c .before .before .before .before .before .before .before .before .before .before .before .before .before .before .before .before .expression .ensures) (c .before .before .before .before .before .before .before .before .judgement .given .1)
 
 add-ends : tie.Need-add-ends
-add-ends c = omega (arith, (c .before .before .before .before .before .before .before .before .before .before .before .before .before .before .before .before .before .before .before .before .before .before .before .before .before .before .before .before .before .before .before .pre .0) .fine .scoped .high, (c .before .before .before .before .before .before .before .before .before .before .before .before .before .before .before .before .before .before .before .before .before .before .before .before .before .before .before .before .before .before .before .pre .0) .fine .readable .laid .nodes-most, (c .before .before .before .before .before .before .before .before .before .before .before .before .before .before .before .before .before .before .before .before .before .before .before .before .before .before .before .before .before .before .before .pre .0) .fine .readable .laid .built-ins-most)
+add-ends c = omega (arith, (c .before .before .before .before .before .before .before .before .before .before .before .before .before .before .before .before .before .before .before .before .before .before .before .before .before .before .before .before .before .before .before .pre .0) .fine .scoped .high, (c .before .before .before .before .before .before .before .before .before .before .before .before .before .before .before .before .before .before .before .before .before .before .before .before .before .before .before .before .before .before .before .pre .0) .fine .good-tables .laid .nodes-most, (c .before .before .before .before .before .before .before .before .before .before .before .before .before .before .before .before .before .before .before .before .before .before .before .before .before .before .before .before .before .before .before .pre .0) .fine .good-tables .laid .built-ins-most)
 
 ends-requires : tie.Need-ends-requires
 ends-requires c κs = mark-fits (variable-fine (c .before .before .before .before .before .before .before .before .before .before .before .before .before .before .before .before .before .before .before .before .before .before .before .before .before .before .before .before .before .before .before .pre .0) (c .before .before .before .before .before .before .before .before .before .before .before .before .before .before .before .before .before .before .before .before .before .before .before .before .before .before .before .before .before .before .before .pre .1) (c .before .before .before .before .before .before .before .before .before .before .before .before .before .before .before .before .before .before .before .before .before .before .expression .ensures) (c .before .before .before .before .before .before .before .before .before .before .before .before .before .before .judgement .given .1)) ((c .before .before .before .before .before .before .before .before .before .before .before .before .before .before .before .before .before .before .before .before .before .before .before .before .before .before .before .before .before .before .before .pre .0) .within) (omega arith)

@@ -19,10 +19,10 @@ loop-holds : tie.Need-loop-holds Inv-loop μ-loop
 loop-holds c = (parameters-start (c .before .before .before .before .before .pre), refl, refl, refl)
 
 add-at : tie.Need-add-at Inv-loop μ-loop
-add-at c = omega (arith, parameter-node (c .before .before .before .before .before .before .before .pre) (c .before .loop .inv .0) (c .loop-test .taken) .within, c .before .before .before .before .before .before .before .pre .fine .readable .laid .nodes-most)
+add-at c = omega (arith, parameter-node (c .before .before .before .before .before .before .before .pre) (c .before .loop .inv .0) (c .loop-test .taken) .within, c .before .before .before .before .before .before .before .pre .fine .good-tables .laid .nodes-most)
 
 add-at-2 : tie.Need-add-at-2 Inv-loop μ-loop
-add-at-2 c = omega (arith, parameter-node (c .before .before .before .before .before .before .before .pre) (c .before .loop .inv .0) (c .loop-test .taken) .within, c .before .before .before .before .before .before .before .pre .fine .readable .laid .nodes-most)
+add-at-2 c = omega (arith, parameter-node (c .before .before .before .before .before .before .before .pre) (c .before .loop .inv .0) (c .loop-test .taken) .within, c .before .before .before .before .before .before .before .pre .fine .good-tables .laid .nodes-most)
 
 node-x-requires : tie.Need-node-x-requires Inv-loop μ-loop
 node-x-requires c κs = parameter-node (c .before .before .before .before .before .before .before .pre) (c .before .loop .inv .0) (c .loop-test .taken)
@@ -34,13 +34,13 @@ returns : tie.Need-returns Inv-loop μ-loop
 returns c = parameter-taken (c .before .before .before .before .before .before .before .before .before .before .before .before .pre) (c .before .before .before .before .before .before .loop .inv .0) (c .before .before .before .before .before .loop-test .taken) (c .before .before .before .before .node-x .ensures .0) (c .before .is-fresh .ensures) (c .if1 .taken)
 
 add-list-entry : tie.Need-add-list-entry Inv-loop μ-loop
-add-list-entry c = omega (arith, parameter-entry (c .before .before .before .before .before .before .before .before .before .before .before .before .pre) (c .before .before .before .before .before .before .loop .inv .0) (c .before .before .before .before .before .loop-test .taken) .within, c .before .before .before .before .before .before .before .before .before .before .before .before .pre .fine .readable .laid .list-most)
+add-list-entry c = omega (arith, parameter-entry (c .before .before .before .before .before .before .before .before .before .before .before .before .pre) (c .before .before .before .before .before .before .loop .inv .0) (c .before .before .before .before .before .loop-test .taken) .within, c .before .before .before .before .before .before .before .before .before .before .before .before .pre .fine .good-tables .laid .list-most)
 
 list-entry-requires : tie.Need-list-entry-requires Inv-loop μ-loop
 list-entry-requires c κs = parameter-entry (c .before .before .before .before .before .before .before .before .before .before .before .before .pre) (c .before .before .before .before .before .before .loop .inv .0) (c .before .before .before .before .before .loop-test .taken)
 
 add-bind : tie.Need-add-bind Inv-loop μ-loop
-add-bind c = omega (arith, c .before .before .before .before .before .before .before .before .loop-test .taken, c .before .before .before .before .before .before .before .before .before .before .before .before .before .before .before .pre .room, c .before .before .before .before .before .before .before .before .before .before .before .before .before .before .before .pre .fine .readable .laid .nodes-most, c .before .before .before .before .before .before .before .before .before .before .before .before .before .before .before .pre .fine .readable .laid .built-ins-most)
+add-bind c = omega (arith, c .before .before .before .before .before .before .before .before .loop-test .taken, c .before .before .before .before .before .before .before .before .before .before .before .before .before .before .before .pre .room, c .before .before .before .before .before .before .before .before .before .before .before .before .before .before .before .pre .fine .good-tables .laid .nodes-most, c .before .before .before .before .before .before .before .before .before .before .before .before .before .before .before .pre .fine .good-tables .laid .built-ins-most)
 
 bind-requires : tie.Need-bind-requires Inv-loop μ-loop
 bind-requires c κs = parameter-bindable (c .before .before .before .before .before .before .before .before .before .before .before .before .before .before .before .pre) (c .before .before .before .before .before .before .before .before .before .loop .inv .0) (c .before .before .before .before .before .before .before .before .loop-test .taken) (c .before .before .list-entry .ensures .0)

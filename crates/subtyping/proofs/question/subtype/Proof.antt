@@ -1,6 +1,7 @@
 -- `question::subtype` meets its contract. Assumes nothing.
 use borrow.Author.Needs.{needs}
-use Rattle.subtyping.proofs.LawsQuestion.{readable, not-read, first-lacks, second-lacks, both-there}
+use Rattle.program_file.proofs.Theorem.{good-tables}
+use Rattle.subtyping.proofs.LawsQuestion.{not-read, first-lacks, second-lacks, both-there}
 use Rattle.subtyping.proofs.question.subtype.Statement.{statement}
 use Rattle.subtyping.proofs.question.subtype.Tie as tie
 
@@ -15,5 +16,5 @@ subtype-spec =
     (λ c. search (not-read, needs))
     (λ c. search (first-lacks, needs))
     (λ c. search (second-lacks, needs))
-    (λ c κs. (search (readable, needs), search needs, search needs))
+    (λ c κs. (search (good-tables, needs), search needs, search needs))
     (λ c. search (both-there, needs)))

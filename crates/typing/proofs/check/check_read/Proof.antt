@@ -2,12 +2,12 @@
 use native.Mathlib.Omega.{arith}
 use lib.ListN.{getD-replicate}
 use borrow.Author.Needs.{needs}
-use Rattle.typing.proofs.LawsCheck.{check-readable, check-run, check-small, check-told}
+use Rattle.typing.proofs.LawsCheck.{check-tables, check-run, check-small, check-told}
 use Rattle.typing.proofs.check.check_read.Statement.{statement}
 use Rattle.typing.proofs.check.check_read.Tie as tie
 
 index-types-requires : tie.Need-index-types-requires
-index-types-requires c κs = (check-readable (c .before .before .before .before .pre), search needs)
+index-types-requires c κs = (check-tables (c .before .before .before .before .pre), search needs)
 
 run-requires : tie.Need-run-requires
 run-requires c κs = (check-run (c .before .before .before .before .before .before .before .before .before .before .before .pre) (c .before .before .before .before .before .before .index-types .ensures) (search needs) (search needs) (λ h l. getD-replicate 4736 h 0 0 (omega arith)), omega (arith, c .before .before .before .before .before .before .before .before .before .before .before .pre .rows-long))

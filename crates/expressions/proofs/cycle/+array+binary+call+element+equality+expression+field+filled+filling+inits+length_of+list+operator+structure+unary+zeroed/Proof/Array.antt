@@ -21,7 +21,7 @@ abbrev claims : ℕ → array-lts.Claims
 claims t = (node-t-reads.Asked, node-t-reads.Learnt, type-a-reads.Asked, type-a-reads.Learnt, is-formed-reads.Asked, is-formed-reads.Learnt, refused-reads.Asked, refused-reads.Learnt, node-children-reads.Asked, node-children-reads.Learnt, list-below t, list.Post, typed-reads.Asked, typed-reads.Learnt)
 
 node-t-requires : (t : ℕ) → array-lts.Need-node-t-requires (claims t) (array-at t) array.Post
-node-t-requires t c κs = has-node ((c .before .before .before .before .before .pre .1 .0) .fine .readable) ((c .before .before .before .before .before .pre .1 .0) .within)
+node-t-requires t c κs = has-node ((c .before .before .before .before .before .pre .1 .0) .fine .good-tables) ((c .before .before .before .before .before .pre .1 .0) .within)
 
 type-a-requires : (t : ℕ) → array-lts.Need-type-a-requires (claims t) (array-at t) array.Post
 type-a-requires t c κs = array-type (c .before .before .before .before .before .before .pre .1 .0) (c .before .before .before .before .before .before .pre .1 .1) (c .node-t .ensures .0)
@@ -33,10 +33,10 @@ returns : (t : ℕ) → array-lts.Need-returns (claims t) (array-at t) array.Pos
 returns t c = array-unformed (c .before .before .before .before .before .before .before .before .before .before .pre .1 .0) (c .before .before .before .before .before .before .before .before .before .before .pre .1 .1) (c .before .before .before .before .node-t .ensures .0) (c .before .before .before .type-a .ensures .0) (c .before .before .is-formed .ensures) (c .before .if1 .taken) (c .refused .ensures)
 
 add-list : (t : ℕ) → array-lts.Need-add-list (claims t) (array-at t) array.Post
-add-list t c = omega (arith, (c .before .before .before .before .before .before .before .before .before .before .before .before .pre .1 .0) .within, (c .before .before .before .before .before .before .before .before .before .before .before .before .pre .1 .0) .fine .readable .laid .nodes-most)
+add-list t c = omega (arith, (c .before .before .before .before .before .before .before .before .before .before .before .before .pre .1 .0) .within, (c .before .before .before .before .before .before .before .before .before .before .before .before .pre .1 .0) .fine .good-tables .laid .nodes-most)
 
 node-children-requires : (t : ℕ) → array-lts.Need-node-children-requires (claims t) (array-at t) array.Post
-node-children-requires t c κs = has-node ((c .before .before .before .before .before .before .before .before .before .before .before .before .pre .1 .0) .fine .readable) ((c .before .before .before .before .before .before .before .before .before .before .before .before .pre .1 .0) .within)
+node-children-requires t c κs = has-node ((c .before .before .before .before .before .before .before .before .before .before .before .before .pre .1 .0) .fine .good-tables) ((c .before .before .before .before .before .before .before .before .before .before .before .before .pre .1 .0) .within)
 
 list-requires : (t : ℕ) → array-lts.Need-list-requires (claims t) (array-at t) array.Post
 list-requires t c κs = (omega (arith, c .before .before .before .before .before .before .before .before .before .before .before .before .before .pre .0, (c .before .before .before .before .before .before .before .before .before .before .before .before .before .pre .1 .0) .within), array-list (c .before .before .before .before .before .before .before .before .before .before .before .before .before .pre .1 .0) (c .before .before .before .before .before .before .before .before .before .before .before .before .before .pre .1 .1) (c .before .before .before .before .before .before .before .node-t .ensures .0) (c .before .before .before .before .before .before .type-a .ensures .0) (c .node-children .ensures .0))

@@ -17,7 +17,7 @@ abbrev claims : ℕ → binary-lts.Claims
 claims t = (node-x-reads.Asked, node-x-reads.Learnt, operator-below t, operator.Post, equality-below t, equality.Post)
 
 node-x-requires : (t : ℕ) → binary-lts.Need-node-x-requires (claims t) (binary-at t) binary.Post
-node-x-requires t c κs = has-node ((c .before .before .before .before .before .pre .1 .0) .fine .readable) ((c .before .before .before .before .before .pre .1 .0) .within)
+node-x-requires t c κs = has-node ((c .before .before .before .before .before .pre .1 .0) .fine .good-tables) ((c .before .before .before .before .before .pre .1 .0) .within)
 
 operator-requires : (t : ℕ) → binary-lts.Need-operator-requires (claims t) (binary-at t) binary.Post
 operator-requires t c κs = (omega (arith, c .before .before .before .before .before .before .before .before .before .before .before .pre .0), ((c .before .before .before .before .before .before .before .before .before .before .before .pre .1 .0), ((c .before .before .before .before .before .before .before .before .before .before .before .pre .1 .1), ints-to-bool (c .before .before .before .before .before .node-x .ensures .0) (omega (arith, c .before .before .before .before .if1 .left)) (omega (arith, c .before .before .before .if2 .taken)))))

@@ -23,7 +23,7 @@ abbrev claims : ℕ → call-lts.Claims
 claims t = (expression-below t, expression.Post, type-kind-reads.Asked, type-kind-reads.Learnt, refused-reads.Asked, refused-reads.Learnt, type-a-reads.Asked, type-a-reads.Learnt, type-c-reads.Asked, type-c-reads.Learnt, node-children-reads.Asked, node-children-reads.Learnt, type-b-reads.Asked, type-b-reads.Learnt, list-below t, list.Post, typed-reads.Asked, typed-reads.Learnt)
 
 add-expression : (t : ℕ) → call-lts.Need-add-expression (claims t) (call-at t) call.Post
-add-expression t c = omega (arith, (c .before .before .before .before .before .before .before .before .pre .1 .0) .within, (c .before .before .before .before .before .before .before .before .pre .1 .0) .fine .readable .laid .nodes-most)
+add-expression t c = omega (arith, (c .before .before .before .before .before .before .before .before .pre .1 .0) .within, (c .before .before .before .before .before .before .before .before .pre .1 .0) .fine .good-tables .laid .nodes-most)
 
 expression-requires : (t : ℕ) → call-lts.Need-expression-requires (claims t) (call-at t) call.Post
 expression-requires t c κs = (omega (arith, c .before .before .before .before .before .before .before .before .pre .0, (c .before .before .before .before .before .before .before .before .pre .1 .0) .within), call-first (c .before .before .before .before .before .before .before .before .pre .1 .0) (c .before .before .before .before .before .before .before .before .pre .1 .1))
@@ -50,7 +50,7 @@ type-c-requires : (t : ℕ) → call-lts.Need-type-c-requires (claims t) (call-a
 type-c-requires t c κs = child-type (call-first (c .before .before .before .before .before .before .before .before .before .before .before .before .before .before .before .before .before .before .before .before .before .before .before .pre .1 .0) (c .before .before .before .before .before .before .before .before .before .before .before .before .before .before .before .before .before .before .before .before .before .before .before .pre .1 .1)) (c .before .before .before .before .before .before .before .before .before .before .before .before .before .before .expression .ensures) (c .before .before .before .before .before .before .first .given .1)
 
 node-children-requires : (t : ℕ) → call-lts.Need-node-children-requires (claims t) (call-at t) call.Post
-node-children-requires t c κs = has-node ((c .before .before .before .before .before .before .before .before .before .before .before .before .before .before .before .before .before .before .before .before .before .before .before .before .pre .1 .0) .fine .readable) ((c .before .before .before .before .before .before .before .before .before .before .before .before .before .before .before .before .before .before .before .before .before .before .before .before .pre .1 .0) .within)
+node-children-requires t c κs = has-node ((c .before .before .before .before .before .before .before .before .before .before .before .before .before .before .before .before .before .before .before .before .before .before .before .before .pre .1 .0) .fine .good-tables) ((c .before .before .before .before .before .before .before .before .before .before .before .before .before .before .before .before .before .before .before .before .before .before .before .before .pre .1 .0) .within)
 
 returns-4 : (t : ℕ) → call-lts.Need-returns-4 (claims t) (call-at t) call.Post
 returns-4 t c = call-count (c .before .before .before .before .before .before .before .before .before .before .before .before .before .before .before .before .before .before .before .before .before .before .before .before .before .before .before .pre .1 .0) (c .before .before .before .before .before .before .before .before .before .before .before .before .before .before .before .before .before .before .before .before .before .before .before .before .before .before .before .pre .1 .1) (c .before .before .before .before .before .before .before .before .before .before .before .before .before .before .before .before .before .before .expression .ensures) (c .before .before .before .before .before .before .before .before .before .before .first .given .1) (c .before .before .before .before .before .before .before .before .type-kind .ensures .0) (c .before .before .before .before .before .before .before .if1 .left) (c .before .before .before .before .before .before .type-a .ensures .0) (c .before .before .before .before .before .type-kind2 .ensures .0) (c .before .before .before .before .if2 .left) (c .before .before .before .type-c .ensures .0) (c .before .before .node-children .ensures .0) (c .before .if3 .taken) (c .refused3 .ensures)

@@ -29,7 +29,7 @@ abbrev claims : ℕ → expression-lts.Claims
 claims t = (node-kind-reads.Asked, node-kind-reads.Learnt, null-reads.Asked, null-reads.Learnt, name-reads.Asked, name-reads.Learnt, array-below t, array.Post, zeroed-below t, zeroed.Post, filled-below t, filled.Post, element-below t, element.Post, length-of-below t, length-of.Post, structure-below t, structure.Post, field-below t, field.Post, call-below t, call.Post, unary-below t, unary.Post, literal-reads.Asked, literal-reads.Learnt, binary-below t, binary.Post)
 
 node-kind-requires : (t : ℕ) → expression-lts.Need-node-kind-requires (claims t) (expression-at t) expression.Post
-node-kind-requires t c κs = has-node ((c .before .before .before .before .before .pre .1) .fine .readable) ((c .before .before .before .before .before .pre .1) .within)
+node-kind-requires t c κs = has-node ((c .before .before .before .before .before .pre .1) .fine .good-tables) ((c .before .before .before .before .before .pre .1) .within)
 
 null-requires : (t : ℕ) → expression-lts.Need-null-requires (claims t) (expression-at t) expression.Post
 null-requires t c κs = null-asked (c .before .before .before .before .before .before .before .before .pre .1) (kind-at (c .before .before .before .before .before .before .before .before .pre .1) (c .before .before .node-kind .ensures .0) (c .before .match .keys1))

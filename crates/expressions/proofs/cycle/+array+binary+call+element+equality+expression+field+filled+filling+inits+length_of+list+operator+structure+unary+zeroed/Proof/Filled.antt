@@ -25,7 +25,7 @@ abbrev claims : ℕ → filled-lts.Claims
 claims t = (node-t-reads.Asked, node-t-reads.Learnt, type-a-reads.Asked, type-a-reads.Learnt, is-formed-reads.Asked, is-formed-reads.Learnt, refused-reads.Asked, refused-reads.Learnt, expression-below t, expression.Post, type-kind-reads.Asked, type-kind-reads.Learnt, node-x-reads.Asked, node-x-reads.Learnt, is-fresh-reads.Asked, is-fresh-reads.Learnt, filling-below t, filling.Post, typed-reads.Asked, typed-reads.Learnt)
 
 node-t-requires : (t : ℕ) → filled-lts.Need-node-t-requires (claims t) (filled-at t) filled.Post
-node-t-requires t c κs = has-node ((c .before .before .before .before .before .pre .1 .0) .fine .readable) ((c .before .before .before .before .before .pre .1 .0) .within)
+node-t-requires t c κs = has-node ((c .before .before .before .before .before .pre .1 .0) .fine .good-tables) ((c .before .before .before .before .before .pre .1 .0) .within)
 
 type-a-requires : (t : ℕ) → filled-lts.Need-type-a-requires (claims t) (filled-at t) filled.Post
 type-a-requires t c κs = filled-array (c .before .before .before .before .before .before .pre .1 .0) (c .before .before .before .before .before .before .pre .1 .1) (c .node-t .ensures .0)
@@ -37,7 +37,7 @@ returns : (t : ℕ) → filled-lts.Need-returns (claims t) (filled-at t) filled.
 returns t c = filled-unformed (c .before .before .before .before .before .before .before .before .before .before .pre .1 .0) (c .before .before .before .before .before .before .before .before .before .before .pre .1 .1) (c .before .before .before .before .node-t .ensures .0) (c .before .before .before .type-a .ensures .0) (c .before .before .is-formed .ensures) (c .before .if1 .taken) (c .refused .ensures)
 
 add-expression : (t : ℕ) → filled-lts.Need-add-expression (claims t) (filled-at t) filled.Post
-add-expression t c = omega (arith, (c .before .before .before .before .before .before .before .before .before .before .before .before .pre .1 .0) .within, (c .before .before .before .before .before .before .before .before .before .before .before .before .pre .1 .0) .fine .readable .laid .nodes-most)
+add-expression t c = omega (arith, (c .before .before .before .before .before .before .before .before .before .before .before .before .pre .1 .0) .within, (c .before .before .before .before .before .before .before .before .before .before .before .before .pre .1 .0) .fine .good-tables .laid .nodes-most)
 
 expression-requires : (t : ℕ) → filled-lts.Need-expression-requires (claims t) (filled-at t) filled.Post
 expression-requires t c κs = (omega (arith, c .before .before .before .before .before .before .before .before .before .before .before .before .pre .0, (c .before .before .before .before .before .before .before .before .before .before .before .before .pre .1 .0) .within), filled-first (c .before .before .before .before .before .before .before .before .before .before .before .before .pre .1 .0) (c .before .before .before .before .before .before .before .before .before .before .before .before .pre .1 .1))
@@ -52,7 +52,7 @@ returns-3 : (t : ℕ) → filled-lts.Need-returns-3 (claims t) (filled-at t) fil
 returns-3 t c = filled-sort (c .before .before .before .before .before .before .before .before .before .before .before .before .before .before .before .before .before .before .before .before .before .before .before .before .before .pre .1 .0) (c .before .before .before .before .before .before .before .before .before .before .before .before .before .before .before .before .before .before .before .before .before .before .before .before .before .pre .1 .1) (c .before .before .before .before .before .before .before .before .before .before .before .before .before .before .before .before .before .before .before .node-t .ensures .0) (c .before .before .before .before .before .before .before .before .before .before .before .before .before .before .before .before .before .before .type-a .ensures .0) (c .before .before .before .before .before .before .before .before .before .before .before .before .before .before .before .before .before .is-formed .ensures) (c .before .before .before .before .before .before .before .before .before .before .before .before .before .before .before .before .if1 .left) (c .before .before .before .before .before .before .before .before .before .before .before .before .expression .ensures) (c .before .before .before .before .first .given .1) (c .before .before .type-kind .ensures .0) (c .before .if2 .taken) (c .refused2 .ensures)
 
 node-x-requires : (t : ℕ) → filled-lts.Need-node-x-requires (claims t) (filled-at t) filled.Post
-node-x-requires t c κs = has-node ((c .before .before .before .before .before .before .before .before .before .before .before .before .before .before .before .before .before .before .before .before .before .before .before .before .before .before .pre .1 .0) .fine .readable) ((c .before .before .before .before .before .before .before .before .before .before .before .before .before .before .before .before .before .before .before .before .before .before .before .before .before .before .pre .1 .0) .within)
+node-x-requires t c κs = has-node ((c .before .before .before .before .before .before .before .before .before .before .before .before .before .before .before .before .before .before .before .before .before .before .before .before .before .before .pre .1 .0) .fine .good-tables) ((c .before .before .before .before .before .before .before .before .before .before .before .before .before .before .before .before .before .before .before .before .before .before .before .before .before .before .pre .1 .0) .within)
 
 is-fresh-requires : (t : ℕ) → filled-lts.Need-is-fresh-requires (claims t) (filled-at t) filled.Post
 is-fresh-requires t c κs = filled-some (c .before .before .before .before .before .before .before .before .before .before .before .before .before .before .before .before .before .before .before .before .before .before .before .before .before .before .before .pre .1 .0) (c .before .before .before .before .before .before .before .before .before .before .before .before .before .before .before .before .before .before .before .before .before .before .before .before .before .before .before .pre .1 .1) (c .before .before .before .before .before .before .before .before .before .before .before .before .before .before .expression .ensures) (c .before .before .before .before .before .before .first .given .1)

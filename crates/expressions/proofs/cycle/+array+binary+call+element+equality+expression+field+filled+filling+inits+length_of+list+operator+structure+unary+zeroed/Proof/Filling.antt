@@ -23,7 +23,7 @@ bind-requires : (t : ℕ) → filling-lts.Need-bind-requires (claims t) (filling
 bind-requires t c κs = filling-bindable (c .before .before .before .before .before .before .before .pre .1)
 
 add-expression : (t : ℕ) → filling-lts.Need-add-expression (claims t) (filling-at t) filling.Post
-add-expression t c = omega (arith, (c .before .before .before .before .before .before .before .before .before .before .before .before .before .before .before .pre .1) .fine .scoped .high, (c .before .before .before .before .before .before .before .before .before .before .before .before .before .before .before .pre .1) .fine .readable .laid .nodes-most, (c .before .before .before .before .before .before .before .before .before .before .before .before .before .before .before .pre .1) .fine .readable .laid .built-ins-most)
+add-expression t c = omega (arith, (c .before .before .before .before .before .before .before .before .before .before .before .before .before .before .before .pre .1) .fine .scoped .high, (c .before .before .before .before .before .before .before .before .before .before .before .before .before .before .before .pre .1) .fine .good-tables .laid .nodes-most, (c .before .before .before .before .before .before .before .before .before .before .before .before .before .before .before .pre .1) .fine .good-tables .laid .built-ins-most)
 
 expression-requires : (t : ℕ) → filling-lts.Need-expression-requires (claims t) (filling-at t) filling.Post
 expression-requires t c κs = (omega (arith, c .before .before .before .before .before .before .before .before .before .before .before .before .before .before .before .pre .0, (c .before .before .before .before .before .before .before .before .before .before .before .before .before .before .before .pre .1) .after-node, (c .before .before .before .before .before .before .before .before .before .before .before .before .before .before .before .pre .1) .within), filling-ready (c .before .before .before .before .before .before .before .before .before .before .before .before .before .before .before .pre .1) (c .before .before .before .before .before .before .before .bind .ensures))
@@ -41,7 +41,7 @@ returns : (t : ℕ) → filling-lts.Need-returns (claims t) (filling-at t) filli
 returns t c = filling-no (c .before .before .before .before .before .before .before .before .before .before .before .before .before .before .before .before .before .before .before .before .before .before .before .pre .1) (c .before .before .before .before .before .before .before .before .before .before .before .before .before .before .before .bind .ensures) (c .before .before .before .before .before .before .before .expression .ensures) (untyped _ (c .match .keys2))
 
 add-leave : (t : ℕ) → filling-lts.Need-add-leave (claims t) (filling-at t) filling.Post
-add-leave t c = omega (arith, (c .before .before .before .before .before .before .before .before .before .before .before .before .before .before .before .before .before .before .before .before .before .before .before .before .before .before .before .pre .1) .fine .scoped .high, (c .before .before .before .before .before .before .before .before .before .before .before .before .before .before .before .before .before .before .before .before .before .before .before .before .before .before .before .pre .1) .fine .readable .laid .nodes-most, (c .before .before .before .before .before .before .before .before .before .before .before .before .before .before .before .before .before .before .before .before .before .before .before .before .before .before .before .pre .1) .fine .readable .laid .built-ins-most)
+add-leave t c = omega (arith, (c .before .before .before .before .before .before .before .before .before .before .before .before .before .before .before .before .before .before .before .before .before .before .before .before .before .before .before .pre .1) .fine .scoped .high, (c .before .before .before .before .before .before .before .before .before .before .before .before .before .before .before .before .before .before .before .before .before .before .before .before .before .before .before .pre .1) .fine .good-tables .laid .nodes-most, (c .before .before .before .before .before .before .before .before .before .before .before .before .before .before .before .before .before .before .before .before .before .before .before .before .before .before .before .pre .1) .fine .good-tables .laid .built-ins-most)
 
 leave-requires : (t : ℕ) → filling-lts.Need-leave-requires (claims t) (filling-at t) filling.Post
 leave-requires t c κs = filling-left (c .before .before .before .before .before .before .before .before .before .before .before .before .before .before .before .before .before .before .before .before .before .before .before .before .before .before .before .pre .1) (c .before .before .before .before .before .before .before .before .before .before .before .before .before .before .before .before .before .before .before .bind .ensures) (c .before .before .before .before .before .before .before .before .before .before .before .expression .ensures) (c .before .before .before .judgement .given .1)

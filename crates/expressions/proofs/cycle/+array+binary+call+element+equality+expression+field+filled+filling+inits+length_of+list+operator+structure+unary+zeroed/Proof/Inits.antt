@@ -29,7 +29,7 @@ loop-holds : (t : ℕ) → inits-lts.Need-loop-holds (claims t) (inits-at t) ini
 loop-holds t c = (inits-start (c .before .before .before .before .before .pre .1), refl, refl, refl)
 
 add-expression : (t : ℕ) → inits-lts.Need-add-expression (claims t) (inits-at t) inits.Post Inv-loop μ-loop
-add-expression t c = omega (arith, inits-here (c .before .before .before .before .before .before .before .before .before .before .pre .1) (c .before .before .before .before .loop .inv .0) (c .before .before .before .loop-test .taken), (c .before .before .before .before .before .before .before .before .before .before .pre .1) .fine .readable .laid .nodes-most)
+add-expression t c = omega (arith, inits-here (c .before .before .before .before .before .before .before .before .before .before .pre .1) (c .before .before .before .before .loop .inv .0) (c .before .before .before .loop-test .taken), (c .before .before .before .before .before .before .before .before .before .before .pre .1) .fine .good-tables .laid .nodes-most)
 
 expression-requires : (t : ℕ) → inits-lts.Need-expression-requires (claims t) (inits-at t) inits.Post Inv-loop μ-loop
 expression-requires t c κs = (omega (arith, c .before .before .before .before .before .before .before .before .before .before .pre .0, inits-forward (c .before .before .before .before .before .before .before .before .before .before .pre .1) (c .before .before .before .before .loop .inv .0), inits-here (c .before .before .before .before .before .before .before .before .before .before .pre .1) (c .before .before .before .before .loop .inv .0) (c .before .before .before .loop-test .taken)), inits-ready (c .before .before .before .before .before .before .before .before .before .before .pre .1) (c .before .before .before .before .loop .inv .0) (c .before .before .before .loop-test .taken))
@@ -41,7 +41,7 @@ row-requires : (t : ℕ) → inits-lts.Need-row-requires (claims t) (inits-at t)
 row-requires t c κs = inits-row (c .before .before .before .before .before .before .before .before .before .before .before .before .before .before .before .before .before .before .before .before .before .pre .1) (c .before .before .before .before .before .before .before .before .before .before .before .before .before .before .before .loop .inv .0) (c .before .before .before .before .before .before .before .before .before .before .before .before .before .before .loop-test .taken) (c .before .before .before .before .before .before .before .before .before .before .expression .ensures) (c .before .before .judgement .given .1)
 
 node-x-requires : (t : ℕ) → inits-lts.Need-node-x-requires (claims t) (inits-at t) inits.Post Inv-loop μ-loop
-node-x-requires t c κs = has-node ((c .before .before .before .before .before .before .before .before .before .before .before .before .before .before .before .before .before .before .before .before .before .before .before .before .pre .1) .fine .readable) (inits-here (c .before .before .before .before .before .before .before .before .before .before .before .before .before .before .before .before .before .before .before .before .before .before .before .before .pre .1) (c .before .before .before .before .before .before .before .before .before .before .before .before .before .before .before .before .before .before .loop .inv .0) (c .before .before .before .before .before .before .before .before .before .before .before .before .before .before .before .before .before .loop-test .taken))
+node-x-requires t c κs = has-node ((c .before .before .before .before .before .before .before .before .before .before .before .before .before .before .before .before .before .before .before .before .before .before .before .before .pre .1) .fine .good-tables) (inits-here (c .before .before .before .before .before .before .before .before .before .before .before .before .before .before .before .before .before .before .before .before .before .before .before .before .pre .1) (c .before .before .before .before .before .before .before .before .before .before .before .before .before .before .before .before .before .before .loop .inv .0) (c .before .before .before .before .before .before .before .before .before .before .before .before .before .before .before .before .before .loop-test .taken))
 
 still-fits-requires : (t : ℕ) → inits-lts.Need-still-fits-requires (claims t) (inits-at t) inits.Post Inv-loop μ-loop
 still-fits-requires t c κs = inits-tested (c .before .before .before .before .before .before .before .before .before .before .before .before .before .before .before .before .before .before .before .before .before .before .before .before .before .pre .1) (c .before .before .before .before .before .before .before .before .before .before .before .before .before .before .before .before .before .before .before .loop .inv .0) (c .before .before .before .before .before .before .before .before .before .before .before .before .before .before .before .before .before .before .loop-test .taken) (c .before .before .before .before .before .before .before .before .before .before .before .before .before .before .expression .ensures) (c .before .before .before .before .before .before .judgement .given .1)

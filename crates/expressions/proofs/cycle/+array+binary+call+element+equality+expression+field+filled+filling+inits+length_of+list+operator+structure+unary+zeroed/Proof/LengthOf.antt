@@ -19,7 +19,7 @@ abbrev claims : ℕ → length-of-lts.Claims
 claims t = (expression-below t, expression.Post, type-kind-reads.Asked, type-kind-reads.Learnt, refused-reads.Asked, refused-reads.Learnt, typed-reads.Asked, typed-reads.Learnt)
 
 add-expression : (t : ℕ) → length-of-lts.Need-add-expression (claims t) (length-of-at t) length-of.Post
-add-expression t c = omega (arith, (c .before .before .before .before .before .before .before .before .pre .1 .0) .within, (c .before .before .before .before .before .before .before .before .pre .1 .0) .fine .readable .laid .nodes-most)
+add-expression t c = omega (arith, (c .before .before .before .before .before .before .before .before .pre .1 .0) .within, (c .before .before .before .before .before .before .before .before .pre .1 .0) .fine .good-tables .laid .nodes-most)
 
 expression-requires : (t : ℕ) → length-of-lts.Need-expression-requires (claims t) (length-of-at t) length-of.Post
 expression-requires t c κs = (omega (arith, c .before .before .before .before .before .before .before .before .pre .0, (c .before .before .before .before .before .before .before .before .pre .1 .0) .within), length-first (c .before .before .before .before .before .before .before .before .pre .1 .0) (c .before .before .before .before .before .before .before .before .pre .1 .1))
@@ -34,7 +34,7 @@ returns-2 : (t : ℕ) → length-of-lts.Need-returns-2 (claims t) (length-of-at 
 returns-2 t c = length-sort (c .before .before .before .before .before .before .before .before .before .before .before .before .before .before .before .before .before .before .before .before .before .pre .1 .0) (c .before .before .before .before .before .before .before .before .before .before .before .before .before .before .before .before .before .before .before .before .before .pre .1 .1) (c .before .before .before .before .before .before .before .before .before .before .before .before .expression .ensures) (c .before .before .before .before .judgement .given .1) (c .before .before .type-kind .ensures .0) (c .before .if1 .taken) (c .refused .ensures)
 
 typed-requires : (t : ℕ) → length-of-lts.Need-typed-requires (claims t) (length-of-at t) length-of.Post
-typed-requires t c κs = row-fits (child-fine (length-first (c .before .before .before .before .before .before .before .before .before .before .before .before .before .before .before .before .before .before .before .before .before .pre .1 .0) (c .before .before .before .before .before .before .before .before .before .before .before .before .before .before .before .before .before .before .before .before .before .pre .1 .1)) (c .before .before .before .before .before .before .before .before .before .before .before .before .expression .ensures) (c .before .before .before .before .judgement .given .1)) ((c .before .before .before .before .before .before .before .before .before .before .before .before .before .before .before .before .before .before .before .before .before .pre .1 .0) .within) (base-within ((c .before .before .before .before .before .before .before .before .before .before .before .before .before .before .before .before .before .before .before .before .before .pre .1 .0) .fine .readable) (omega arith))
+typed-requires t c κs = row-fits (child-fine (length-first (c .before .before .before .before .before .before .before .before .before .before .before .before .before .before .before .before .before .before .before .before .before .pre .1 .0) (c .before .before .before .before .before .before .before .before .before .before .before .before .before .before .before .before .before .before .before .before .before .pre .1 .1)) (c .before .before .before .before .before .before .before .before .before .before .before .before .expression .ensures) (c .before .before .before .before .judgement .given .1)) ((c .before .before .before .before .before .before .before .before .before .before .before .before .before .before .before .before .before .before .before .before .before .pre .1 .0) .within) (base-within ((c .before .before .before .before .before .before .before .before .before .before .before .before .before .before .before .before .before .before .before .before .before .pre .1 .0) .fine .good-tables) (omega arith))
 
 same-length-7 : (t : ℕ) → length-of-lts.Need-same-length-7 (claims t) (length-of-at t) length-of.Post
 same-length-7 t c = omega (arith, c .before .before .before .before .before .before .before .before .before .before .before .before .before .before .before .expression, c .before .before .typed)

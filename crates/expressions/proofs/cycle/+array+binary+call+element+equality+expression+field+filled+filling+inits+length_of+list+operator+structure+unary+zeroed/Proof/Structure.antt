@@ -21,10 +21,10 @@ abbrev claims : ℕ → structure-lts.Claims
 claims t = (node-t-reads.Asked, node-t-reads.Learnt, entry-reads.Asked, entry-reads.Learnt, refused-reads.Asked, refused-reads.Learnt, names-fit-reads.Asked, names-fit-reads.Learnt, node-children-reads.Asked, node-children-reads.Learnt, inits-below t, inits.Post, typed-reads.Asked, typed-reads.Learnt)
 
 node-t-requires : (t : ℕ) → structure-lts.Need-node-t-requires (claims t) (structure-at t) structure.Post
-node-t-requires t c κs = has-node ((c .before .before .before .before .before .pre .1 .0) .fine .readable) ((c .before .before .before .before .before .pre .1 .0) .within)
+node-t-requires t c κs = has-node ((c .before .before .before .before .before .pre .1 .0) .fine .good-tables) ((c .before .before .before .before .before .pre .1 .0) .within)
 
 add-entry : (t : ℕ) → structure-lts.Need-add-entry (claims t) (structure-at t) structure.Post
-add-entry t c = omega (arith, struct-within (c .before .before .before .before .before .before .pre .1 .0) (c .before .before .before .before .before .before .pre .1 .1) (c .node-t .ensures .0), (c .before .before .before .before .before .before .pre .1 .0) .fine .readable .laid .types-most)
+add-entry t c = omega (arith, struct-within (c .before .before .before .before .before .before .pre .1 .0) (c .before .before .before .before .before .before .pre .1 .1) (c .node-t .ensures .0), (c .before .before .before .before .before .before .pre .1 .0) .fine .good-tables .laid .types-most)
 
 entry-requires : (t : ℕ) → structure-lts.Need-entry-requires (claims t) (structure-at t) structure.Post
 entry-requires t c κs = named-entry ((c .before .before .before .before .before .before .pre .1 .0) .fine) (struct-within (c .before .before .before .before .before .before .pre .1 .0) (c .before .before .before .before .before .before .pre .1 .1) (c .node-t .ensures .0))
@@ -36,7 +36,7 @@ sub-names-fit : (t : ℕ) → structure-lts.Need-sub-names-fit (claims t) (struc
 sub-names-fit t c = struct-low (c .before .before .before .before .before .before .before .before .before .before .before .pre .1 .0) (c .before .before .before .before .before .before .before .before .before .before .before .pre .1 .1) (c .before .before .before .before .before .node-t .ensures .0)
 
 mul-names-fit : (t : ℕ) → structure-lts.Need-mul-names-fit (claims t) (structure-at t) structure.Post
-mul-names-fit t c = omega (arith, (c .before .before .before .before .before .before .before .before .before .before .before .pre .1 .0) .fine .scoped .high, (c .before .before .before .before .before .before .before .before .before .before .before .pre .1 .0) .fine .readable .laid .nodes-most, (c .before .before .before .before .before .before .before .before .before .before .before .pre .1 .0) .fine .readable .laid .built-ins-most)
+mul-names-fit t c = omega (arith, (c .before .before .before .before .before .before .before .before .before .before .before .pre .1 .0) .fine .scoped .high, (c .before .before .before .before .before .before .before .before .before .before .before .pre .1 .0) .fine .good-tables .laid .nodes-most, (c .before .before .before .before .before .before .before .before .before .before .before .pre .1 .0) .fine .good-tables .laid .built-ins-most)
 
 names-fit-requires : (t : ℕ) → structure-lts.Need-names-fit-requires (claims t) (structure-at t) structure.Post
 names-fit-requires t c κs = struct-named (c .before .before .before .before .before .before .before .before .before .before .before .pre .1 .0) (c .before .before .before .before .before .before .before .before .before .before .before .pre .1 .1) (c .before .before .before .before .before .node-t .ensures .0) (c .before .before .before .before .entry .ensures .0) (c .before .before .if1 .left)
@@ -45,10 +45,10 @@ returns-2 : (t : ℕ) → structure-lts.Need-returns-2 (claims t) (structure-at 
 returns-2 t c = struct-names (c .before .before .before .before .before .before .before .before .before .before .before .before .before .before .before .before .pre .1 .0) (c .before .before .before .before .before .before .before .before .before .before .before .before .before .before .before .before .pre .1 .1) (c .before .before .before .before .before .before .before .before .before .before .node-t .ensures .0) (c .before .before .before .before .before .before .before .before .before .entry .ensures .0) (c .before .before .before .before .before .before .before .if1 .left) (c .before .before .before .before .names-fit .ensures) (c .before .if2 .taken) (c .refused2 .ensures)
 
 add-inits : (t : ℕ) → structure-lts.Need-add-inits (claims t) (structure-at t) structure.Post
-add-inits t c = omega (arith, (c .before .before .before .before .before .before .before .before .before .before .before .before .before .before .before .before .before .before .pre .1 .0) .within, (c .before .before .before .before .before .before .before .before .before .before .before .before .before .before .before .before .before .before .pre .1 .0) .fine .readable .laid .nodes-most)
+add-inits t c = omega (arith, (c .before .before .before .before .before .before .before .before .before .before .before .before .before .before .before .before .before .before .pre .1 .0) .within, (c .before .before .before .before .before .before .before .before .before .before .before .before .before .before .before .before .before .before .pre .1 .0) .fine .good-tables .laid .nodes-most)
 
 node-children-requires : (t : ℕ) → structure-lts.Need-node-children-requires (claims t) (structure-at t) structure.Post
-node-children-requires t c κs = has-node ((c .before .before .before .before .before .before .before .before .before .before .before .before .before .before .before .before .before .before .pre .1 .0) .fine .readable) ((c .before .before .before .before .before .before .before .before .before .before .before .before .before .before .before .before .before .before .pre .1 .0) .within)
+node-children-requires t c κs = has-node ((c .before .before .before .before .before .before .before .before .before .before .before .before .before .before .before .before .before .before .pre .1 .0) .fine .good-tables) ((c .before .before .before .before .before .before .before .before .before .before .before .before .before .before .before .before .before .before .pre .1 .0) .within)
 
 inits-requires : (t : ℕ) → structure-lts.Need-inits-requires (claims t) (structure-at t) structure.Post
 inits-requires t c κs = (omega (arith, c .before .before .before .before .before .before .before .before .before .before .before .before .before .before .before .before .before .before .before .pre .0, (c .before .before .before .before .before .before .before .before .before .before .before .before .before .before .before .before .before .before .before .pre .1 .0) .within), struct-inits (c .before .before .before .before .before .before .before .before .before .before .before .before .before .before .before .before .before .before .before .pre .1 .0) (c .before .before .before .before .before .before .before .before .before .before .before .before .before .before .before .before .before .before .before .pre .1 .1) (c .before .before .before .before .before .before .before .before .before .before .before .before .before .node-t .ensures .0) (c .before .before .before .before .before .before .before .before .before .before .before .before .entry .ensures .0) (c .before .before .before .before .before .before .before .before .before .before .if1 .left) (c .before .before .before .before .before .before .before .names-fit .ensures) (c .before .before .before .before .before .before .before .names-fit .kept .1 .1 .0) (c .node-children .ensures .0))

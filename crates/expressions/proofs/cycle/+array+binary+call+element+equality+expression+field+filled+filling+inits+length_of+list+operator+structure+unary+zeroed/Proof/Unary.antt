@@ -21,7 +21,7 @@ abbrev claims : ℕ → unary-lts.Claims
 claims t = (expression-below t, expression.Post, node-x-reads.Asked, node-x-reads.Learnt, unary-type-reads.Asked, unary-type-reads.Learnt, type-kind-reads.Asked, type-kind-reads.Learnt, refused-reads.Asked, refused-reads.Learnt, typed-reads.Asked, typed-reads.Learnt)
 
 add-expression : (t : ℕ) → unary-lts.Need-add-expression (claims t) (unary-at t) unary.Post
-add-expression t c = omega (arith, (c .before .before .before .before .before .before .before .before .pre .1 .0) .within, (c .before .before .before .before .before .before .before .before .pre .1 .0) .fine .readable .laid .nodes-most)
+add-expression t c = omega (arith, (c .before .before .before .before .before .before .before .before .pre .1 .0) .within, (c .before .before .before .before .before .before .before .before .pre .1 .0) .fine .good-tables .laid .nodes-most)
 
 expression-requires : (t : ℕ) → unary-lts.Need-expression-requires (claims t) (unary-at t) unary.Post
 expression-requires t c κs = (omega (arith, c .before .before .before .before .before .before .before .before .pre .0, (c .before .before .before .before .before .before .before .before .pre .1 .0) .within), unary-first (c .before .before .before .before .before .before .before .before .pre .1 .0) (c .before .before .before .before .before .before .before .before .pre .1 .1))
@@ -30,7 +30,7 @@ returns : (t : ℕ) → unary-lts.Need-returns (claims t) (unary-at t) unary.Pos
 returns t c = unary-no (c .before .before .before .before .before .before .before .before .before .before .before .before .before .before .before .before .pre .1 .0) (c .before .before .before .before .before .before .before .before .before .before .before .before .before .before .before .before .pre .1 .1) (c .before .before .before .before .before .before .before .expression .ensures) (untyped _ (c .match .keys2))
 
 node-x-requires : (t : ℕ) → unary-lts.Need-node-x-requires (claims t) (unary-at t) unary.Post
-node-x-requires t c κs = has-node ((c .before .before .before .before .before .before .before .before .before .before .before .before .before .before .before .before .before .before .pre .1 .0) .fine .readable) ((c .before .before .before .before .before .before .before .before .before .before .before .before .before .before .before .before .before .before .pre .1 .0) .within)
+node-x-requires t c κs = has-node ((c .before .before .before .before .before .before .before .before .before .before .before .before .before .before .before .before .before .before .pre .1 .0) .fine .good-tables) ((c .before .before .before .before .before .before .before .before .before .before .before .before .before .before .before .before .before .before .pre .1 .0) .within)
 
 type-kind-requires : (t : ℕ) → unary-lts.Need-type-kind-requires (claims t) (unary-at t) unary.Post
 type-kind-requires t c κs = child-type (unary-first (c .before .before .before .before .before .before .before .before .before .before .before .before .before .before .before .before .before .before .before .before .pre .1 .0) (c .before .before .before .before .before .before .before .before .before .before .before .before .before .before .before .before .before .before .before .before .pre .1 .1)) (c .before .before .before .before .before .before .before .before .before .before .before .expression .ensures) (c .before .before .before .judgement .given .1)

@@ -23,10 +23,10 @@ abbrev claims : ℕ → zeroed-lts.Claims
 claims t = (node-t-reads.Asked, node-t-reads.Learnt, type-a-reads.Asked, type-a-reads.Learnt, is-formed-reads.Asked, is-formed-reads.Learnt, refused-reads.Asked, refused-reads.Learnt, expression-below t, expression.Post, type-kind-reads.Asked, type-kind-reads.Learnt, has-default-reads.Asked, has-default-reads.Learnt, typed-reads.Asked, typed-reads.Learnt)
 
 node-t-requires : (t : ℕ) → zeroed-lts.Need-node-t-requires (claims t) (zeroed-at t) zeroed.Post
-node-t-requires t c κs = has-node ((c .before .before .before .before .before .pre .1 .0) .fine .readable) ((c .before .before .before .before .before .pre .1 .0) .within)
+node-t-requires t c κs = has-node ((c .before .before .before .before .before .pre .1 .0) .fine .good-tables) ((c .before .before .before .before .before .pre .1 .0) .within)
 
 type-a-requires : (t : ℕ) → zeroed-lts.Need-type-a-requires (claims t) (zeroed-at t) zeroed.Post
-type-a-requires t c κs = has-type ((c .before .before .before .before .before .before .pre .1 .0) .fine .readable) (default-array (c .before .before .before .before .before .before .pre .1 .0) (c .before .before .before .before .before .before .pre .1 .1) (c .node-t .ensures .0))
+type-a-requires t c κs = has-type ((c .before .before .before .before .before .before .pre .1 .0) .fine .good-tables) (default-array (c .before .before .before .before .before .before .pre .1 .0) (c .before .before .before .before .before .before .pre .1 .1) (c .node-t .ensures .0))
 
 is-formed-requires : (t : ℕ) → zeroed-lts.Need-is-formed-requires (claims t) (zeroed-at t) zeroed.Post
 is-formed-requires t c κs = formed-entry ((c .before .before .before .before .before .before .before .pre .1 .0) .fine) ((default-within (c .before .before .before .before .before .before .before .pre .1 .0) (c .before .before .before .before .before .before .before .pre .1 .1) (c .before .node-t .ensures .0) (c .type-a .ensures .0)) .1)
@@ -35,7 +35,7 @@ returns : (t : ℕ) → zeroed-lts.Need-returns (claims t) (zeroed-at t) zeroed.
 returns t c = default-unformed (c .before .before .before .before .before .before .before .before .before .before .pre .1 .0) (c .before .before .before .before .before .before .before .before .before .before .pre .1 .1) (c .before .before .before .before .node-t .ensures .0) (c .before .before .before .type-a .ensures .0) (c .before .before .is-formed .ensures) (c .before .if1 .taken) (c .refused .ensures)
 
 add-expression : (t : ℕ) → zeroed-lts.Need-add-expression (claims t) (zeroed-at t) zeroed.Post
-add-expression t c = omega (arith, (c .before .before .before .before .before .before .before .before .before .before .before .before .pre .1 .0) .within, (c .before .before .before .before .before .before .before .before .before .before .before .before .pre .1 .0) .fine .readable .laid .nodes-most)
+add-expression t c = omega (arith, (c .before .before .before .before .before .before .before .before .before .before .before .before .pre .1 .0) .within, (c .before .before .before .before .before .before .before .before .before .before .before .before .pre .1 .0) .fine .good-tables .laid .nodes-most)
 
 expression-requires : (t : ℕ) → zeroed-lts.Need-expression-requires (claims t) (zeroed-at t) zeroed.Post
 expression-requires t c κs = (omega (arith, c .before .before .before .before .before .before .before .before .before .before .before .before .pre .0, (c .before .before .before .before .before .before .before .before .before .before .before .before .pre .1 .0) .within), default-first (c .before .before .before .before .before .before .before .before .before .before .before .before .pre .1 .0) (c .before .before .before .before .before .before .before .before .before .before .before .before .pre .1 .1) (c .before .before .before .before .before .before .node-t .ensures .0) (c .before .before .before .before .before .type-a .ensures .0) (c .before .before .before .before .is-formed .ensures) (c .before .before .before .if1 .left))
@@ -50,7 +50,7 @@ returns-3 : (t : ℕ) → zeroed-lts.Need-returns-3 (claims t) (zeroed-at t) zer
 returns-3 t c = default-sort (c .before .before .before .before .before .before .before .before .before .before .before .before .before .before .before .before .before .before .before .before .before .before .before .before .before .pre .1 .0) (c .before .before .before .before .before .before .before .before .before .before .before .before .before .before .before .before .before .before .before .before .before .before .before .before .before .pre .1 .1) (c .before .before .before .before .before .before .before .before .before .before .before .before .before .before .before .before .before .before .before .node-t .ensures .0) (c .before .before .before .before .before .before .before .before .before .before .before .before .before .before .before .before .before .before .type-a .ensures .0) (c .before .before .before .before .before .before .before .before .before .before .before .before .before .before .before .before .before .is-formed .ensures) (c .before .before .before .before .before .before .before .before .before .before .before .before .before .before .before .before .if1 .left) (c .before .before .before .before .before .before .before .before .before .before .before .before .expression .ensures) (c .before .before .before .before .judgement .given .1) (c .before .before .type-kind .ensures .0) (c .before .if2 .taken) (c .refused2 .ensures)
 
 has-default-requires : (t : ℕ) → zeroed-lts.Need-has-default-requires (claims t) (zeroed-at t) zeroed.Post
-has-default-requires t c κs = has-type ((c .before .before .before .before .before .before .before .before .before .before .before .before .before .before .before .before .before .before .before .before .before .before .before .before .pre .1 .0) .fine .readable) ((default-within (c .before .before .before .before .before .before .before .before .before .before .before .before .before .before .before .before .before .before .before .before .before .before .before .before .pre .1 .0) (c .before .before .before .before .before .before .before .before .before .before .before .before .before .before .before .before .before .before .before .before .before .before .before .before .pre .1 .1) (c .before .before .before .before .before .before .before .before .before .before .before .before .before .before .before .before .before .before .node-t .ensures .0) (c .before .before .before .before .before .before .before .before .before .before .before .before .before .before .before .before .before .type-a .ensures .0)) .1)
+has-default-requires t c κs = has-type ((c .before .before .before .before .before .before .before .before .before .before .before .before .before .before .before .before .before .before .before .before .before .before .before .before .pre .1 .0) .fine .good-tables) ((default-within (c .before .before .before .before .before .before .before .before .before .before .before .before .before .before .before .before .before .before .before .before .before .before .before .before .pre .1 .0) (c .before .before .before .before .before .before .before .before .before .before .before .before .before .before .before .before .before .before .before .before .before .before .before .before .pre .1 .1) (c .before .before .before .before .before .before .before .before .before .before .before .before .before .before .before .before .before .before .node-t .ensures .0) (c .before .before .before .before .before .before .before .before .before .before .before .before .before .before .before .before .before .type-a .ensures .0)) .1)
 
 returns-4 : (t : ℕ) → zeroed-lts.Need-returns-4 (claims t) (zeroed-at t) zeroed.Post
 returns-4 t c = default-none (c .before .before .before .before .before .before .before .before .before .before .before .before .before .before .before .before .before .before .before .before .before .before .before .before .before .before .before .pre .1 .0) (c .before .before .before .before .before .before .before .before .before .before .before .before .before .before .before .before .before .before .before .before .before .before .before .before .before .before .before .pre .1 .1) (c .before .before .before .before .before .before .before .before .before .before .before .before .before .before .before .before .before .before .before .before .before .node-t .ensures .0) (c .before .before .before .before .before .before .before .before .before .before .before .before .before .before .before .before .before .before .before .before .type-a .ensures .0) (c .before .before .before .before .before .before .before .before .before .before .before .before .before .before .before .before .before .before .before .is-formed .ensures) (c .before .before .before .before .before .before .before .before .before .before .before .before .before .before .before .before .before .before .if1 .left) (c .before .before .before .before .before .before .before .before .before .before .before .before .before .before .expression .ensures) (c .before .before .before .before .before .before .judgement .given .1) (c .before .before .before .before .type-kind .ensures .0) (c .before .before .before .if2 .left) (c .before .before .has-default .ensures) (c .before .if3 .taken) (c .refused3 .ensures)

@@ -18,7 +18,7 @@ abbrev claims : ℕ → block-lts.Claims
 claims t = (node-children-reads.Asked, node-children-reads.Learnt, statements-below t, statements.Post, leave-reads.Asked, leave-reads.Learnt, mark-of-reads.Asked, mark-of-reads.Learnt, ends-reads.Asked, ends-reads.Learnt)
 
 add-statements : (t : ℕ) → block-lts.Need-add-statements (claims t) (block-at t) block.Post
-add-statements t c = omega (arith, (c .before .before .before .before .before .before .before .before .pre .1) .within, (c .before .before .before .before .before .before .before .before .pre .1) .fine .readable .laid .nodes-most)
+add-statements t c = omega (arith, (c .before .before .before .before .before .before .before .before .pre .1) .within, (c .before .before .before .before .before .before .before .before .pre .1) .fine .good-tables .laid .nodes-most)
 
 node-children-requires : (t : ℕ) → block-lts.Need-node-children-requires (claims t) (block-at t) block.Post
 node-children-requires t c κs = block-node (c .before .before .before .before .before .before .before .before .pre .1)

@@ -21,7 +21,7 @@ abbrev claims : ℕ → for-loop-lts.Claims
 claims t = (node-children-reads.Asked, node-children-reads.Learnt, variables-reads.Asked, variables-reads.Learnt, condition-reads.Asked, condition-reads.Learnt, turn-below t, turn.Post, leave-reads.Asked, leave-reads.Learnt, ends-reads.Asked, ends-reads.Learnt)
 
 add-variables : (t : ℕ) → for-loop-lts.Need-add-variables (claims t) (for-loop-at t) for-loop.Post
-add-variables t c = omega (arith, (c .before .before .before .before .before .before .before .before .pre .1 .0 .0) .within, (c .before .before .before .before .before .before .before .before .pre .1 .0 .0) .fine .readable .laid .nodes-most)
+add-variables t c = omega (arith, (c .before .before .before .before .before .before .before .before .pre .1 .0 .0) .within, (c .before .before .before .before .before .before .before .before .pre .1 .0 .0) .fine .good-tables .laid .nodes-most)
 
 node-children-requires : (t : ℕ) → for-loop-lts.Need-node-children-requires (claims t) (for-loop-at t) for-loop.Post
 node-children-requires t c κs = stmt-node (c .before .before .before .before .before .before .before .before .pre .1 .0 .0)

@@ -20,7 +20,7 @@ abbrev claims : ℕ → if-else-lts.Claims
 claims t = (expression-reads.Asked, expression-reads.Learnt, type-kind-reads.Asked, type-kind-reads.Learnt, refused-reads.Asked, refused-reads.Learnt, arms-below t, arms.Post, mark-of-reads.Asked, mark-of-reads.Learnt, ends-reads.Asked, ends-reads.Learnt)
 
 add-expression : (t : ℕ) → if-else-lts.Need-add-expression (claims t) (if-else-at t) if-else.Post
-add-expression t c = omega (arith, (c .before .before .before .before .before .before .before .before .pre .1 .0 .0) .within, (c .before .before .before .before .before .before .before .before .pre .1 .0 .0) .fine .readable .laid .nodes-most)
+add-expression t c = omega (arith, (c .before .before .before .before .before .before .before .before .pre .1 .0 .0) .within, (c .before .before .before .before .before .before .before .before .pre .1 .0 .0) .fine .good-tables .laid .nodes-most)
 
 expression-requires : (t : ℕ) → if-else-lts.Need-expression-requires (claims t) (if-else-at t) if-else.Post
 expression-requires t c κs = if-first (c .before .before .before .before .before .before .before .before .pre .1 .0) (c .before .before .before .before .before .before .before .before .pre .1 .1)

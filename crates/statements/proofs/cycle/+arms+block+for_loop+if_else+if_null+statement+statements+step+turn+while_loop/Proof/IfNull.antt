@@ -24,7 +24,7 @@ abbrev claims : ℕ → if-null-lts.Claims
 claims t = (expression-reads.Asked, expression-reads.Learnt, type-kind-reads.Asked, type-kind-reads.Learnt, refused-reads.Asked, refused-reads.Learnt, node-t-reads.Asked, node-t-reads.Learnt, type-a-reads.Asked, type-a-reads.Learnt, below-reads.Asked, below-reads.Learnt, bind-reads.Asked, bind-reads.Learnt, arms-below t, arms.Post, mark-of-reads.Asked, mark-of-reads.Learnt, ends-reads.Asked, ends-reads.Learnt)
 
 add-expression : (t : ℕ) → if-null-lts.Need-add-expression (claims t) (if-null-at t) if-null.Post
-add-expression t c = omega (arith, (c .before .before .before .before .before .before .before .before .pre .1 .0 .0) .within, (c .before .before .before .before .before .before .before .before .pre .1 .0 .0) .fine .readable .laid .nodes-most)
+add-expression t c = omega (arith, (c .before .before .before .before .before .before .before .before .pre .1 .0 .0) .within, (c .before .before .before .before .before .before .before .before .pre .1 .0 .0) .fine .good-tables .laid .nodes-most)
 
 expression-requires : (t : ℕ) → if-null-lts.Need-expression-requires (claims t) (if-null-at t) if-null.Post
 expression-requires t c κs = null-first (c .before .before .before .before .before .before .before .before .pre .1 .0) (c .before .before .before .before .before .before .before .before .pre .1 .1)
@@ -54,7 +54,7 @@ bind-requires : (t : ℕ) → if-null-lts.Need-bind-requires (claims t) (if-null
 bind-requires t c κs = null-bindable (c .before .before .before .before .before .before .before .before .before .before .before .before .before .before .before .before .before .before .before .before .before .before .before .before .before .before .pre .1 .0) (c .before .before .before .before .before .before .before .before .before .before .before .before .before .before .before .before .before .before .before .before .before .before .before .before .before .before .pre .1 .1) (c .before .before .before .before .before .before .before .before .before .before .before .before .before .before .before .before .before .expression .ensures) (c .before .before .before .before .before .before .before .before .before .first .given .1) (c .before .before .before .before .before .node-t .ensures .0)
 
 add-arms : (t : ℕ) → if-null-lts.Need-add-arms (claims t) (if-null-at t) if-null.Post
-add-arms t c = omega (arith, (c .before .before .before .before .before .before .before .before .before .before .before .before .before .before .before .before .before .before .before .before .before .before .before .before .before .before .before .before .before .before .before .before .before .before .pre .1 .0 .0) .fine .scoped .high, (c .before .before .before .before .before .before .before .before .before .before .before .before .before .before .before .before .before .before .before .before .before .before .before .before .before .before .before .before .before .before .before .before .before .before .pre .1 .0 .0) .fine .readable .laid .nodes-most, (c .before .before .before .before .before .before .before .before .before .before .before .before .before .before .before .before .before .before .before .before .before .before .before .before .before .before .before .before .before .before .before .before .before .before .pre .1 .0 .0) .fine .readable .laid .built-ins-most)
+add-arms t c = omega (arith, (c .before .before .before .before .before .before .before .before .before .before .before .before .before .before .before .before .before .before .before .before .before .before .before .before .before .before .before .before .before .before .before .before .before .before .pre .1 .0 .0) .fine .scoped .high, (c .before .before .before .before .before .before .before .before .before .before .before .before .before .before .before .before .before .before .before .before .before .before .before .before .before .before .before .before .before .before .before .before .before .before .pre .1 .0 .0) .fine .good-tables .laid .nodes-most, (c .before .before .before .before .before .before .before .before .before .before .before .before .before .before .before .before .before .before .before .before .before .before .before .before .before .before .before .before .before .before .before .before .before .before .pre .1 .0 .0) .fine .good-tables .laid .built-ins-most)
 
 arms-requires : (t : ℕ) → if-null-lts.Need-arms-requires (claims t) (if-null-at t) if-null.Post
 arms-requires t c κs = let g = null-second (c .before .before .before .before .before .before .before .before .before .before .before .before .before .before .before .before .before .before .before .before .before .before .before .before .before .before .before .before .before .before .before .before .before .before .pre .1 .0) (c .before .before .before .before .before .before .before .before .before .before .before .before .before .before .before .before .before .before .before .before .before .before .before .before .before .before .before .before .before .before .before .before .before .before .pre .1 .1) (c .before .before .before .before .before .before .before .before .before .before .before .before .before .before .before .before .before .before .before .before .before .before .before .before .before .expression .ensures) (c .before .before .before .before .before .before .before .before .before .before .before .before .before .before .before .before .before .first .given .1) (c .before .before .before .before .before .before .before .before .before .before .before .before .before .node-t .ensures .0) (c .before .before .before .before .before .before .before .bind .ensures) in (omega (arith, g .0, c .before .before .before .before .before .before .before .before .before .before .before .before .before .before .before .before .before .before .before .before .before .before .before .before .before .before .before .before .before .before .before .before .before .before .pre .0, (c .before .before .before .before .before .before .before .before .before .before .before .before .before .before .before .before .before .before .before .before .before .before .before .before .before .before .before .before .before .before .before .before .before .before .pre .1 .0 .0) .within), g .1)

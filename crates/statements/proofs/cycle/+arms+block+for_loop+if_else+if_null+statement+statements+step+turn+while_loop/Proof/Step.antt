@@ -22,7 +22,7 @@ node-kind-requires : (t : ℕ) → step-lts.Need-node-kind-requires (claims t) (
 node-kind-requires t c κs = step-node (c .before .before .before .before .before .pre .1)
 
 add-ends : (t : ℕ) → step-lts.Need-add-ends (claims t) (step-at t) step.Post
-add-ends t c = omega (arith, (c .before .before .before .before .before .before .before .before .pre .1) .within, (c .before .before .before .before .before .before .before .before .pre .1) .fine .readable .laid .nodes-most)
+add-ends t c = omega (arith, (c .before .before .before .before .before .before .before .before .pre .1) .within, (c .before .before .before .before .before .before .before .before .pre .1) .fine .good-tables .laid .nodes-most)
 
 ends-requires : (t : ℕ) → step-lts.Need-ends-requires (claims t) (step-at t) step.Post
 ends-requires t c κs = step-fits (c .before .before .before .before .before .before .before .before .pre .1)

@@ -20,7 +20,7 @@ abbrev claims : ℕ → while-loop-lts.Claims
 claims t = (expression-reads.Asked, expression-reads.Learnt, type-kind-reads.Asked, type-kind-reads.Learnt, refused-reads.Asked, refused-reads.Learnt, block-below t, block.Post, ends-reads.Asked, ends-reads.Learnt)
 
 add-expression : (t : ℕ) → while-loop-lts.Need-add-expression (claims t) (while-loop-at t) while-loop.Post
-add-expression t c = omega (arith, (c .before .before .before .before .before .before .before .before .pre .1 .0 .0) .within, (c .before .before .before .before .before .before .before .before .pre .1 .0 .0) .fine .readable .laid .nodes-most)
+add-expression t c = omega (arith, (c .before .before .before .before .before .before .before .before .pre .1 .0 .0) .within, (c .before .before .before .before .before .before .before .before .pre .1 .0 .0) .fine .good-tables .laid .nodes-most)
 
 expression-requires : (t : ℕ) → while-loop-lts.Need-expression-requires (claims t) (while-loop-at t) while-loop.Post
 expression-requires t c κs = while-first (c .before .before .before .before .before .before .before .before .pre .1 .0 .0) (c .before .before .before .before .before .before .before .before .pre .1 .1)

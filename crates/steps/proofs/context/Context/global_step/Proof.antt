@@ -7,7 +7,7 @@ use Rattle.steps.proofs.context.Context.global_step.Statement.{statemen
 use Rattle.steps.proofs.context.Context.global_step.Tie as tie
 
 add-expression : tie.Need-add-expression
-add-expression c = omega (arith, global-node (c .before .before .before .before .before .before .before .before .pre) .within, c .before .before .before .before .before .before .before .before .pre .held .readable .laid .nodes-most)
+add-expression c = omega (arith, global-node (c .before .before .before .before .before .before .before .before .pre) .within, c .before .before .before .before .before .before .before .before .pre .held .good-tables .laid .nodes-most)
 
 expression-requires : tie.Need-expression-requires
 expression-requires c κs = global-first (c .before .before .before .before .before .before .before .before .pre)
