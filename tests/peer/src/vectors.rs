@@ -143,7 +143,7 @@ pub fn table(packed: &[Vec<u8>; 3]) -> Vec<(Mutant, Part, [usize; 3])> {
     ALL.iter().map(|&(m, part, _)| (m, part, count(m, part))).collect()
 }
 
-/// The tables of docs/TESTING.md: a line for each part, a line for each mutant.
+/// What `mutants` prints: a line for each part, as docs/TESTING.md has it, and a line for each mutant.
 pub fn mutant_tables(stored: &[Vec<u8>; 3]) -> String {
     let tables = [table(stored), table(&hand_written()), table(&generated())];
     let mut out = String::from(
