@@ -5,7 +5,6 @@ use mathlib.Core.Bool.{Bool, true, false, not, _&&_, and-false, false≢true}
 use mathlib.Core.List.{List}
 use Prim.Native.Nat.{ℕ, _+_, _≤_, _<_}
 use native.Mathlib.Omega.{arith}
-use lib.ListN.{getD}
 use lib.Dec.{eqb}
 use borrow.Author.Tests.{eqb-false, eq-eqb, ne-eqb, not-true, not-false}
 use Rattle.oat.specs.Tables.{Tables, typeAt, entryAt, nodeAt}
@@ -14,7 +13,7 @@ use Rattle.oat.specs.Decide.{below}
 use Rattle.file_sections.specs.declared.Sections.{Sections}
 use Rattle.file_sections.specs.Layout.{Laid, Has, tablesOf, GoodTables}
 use Rattle.file_sections.proofs.LawsRecords.{structs-long}
-use Rattle.type_index.specs.Index.{declared}
+use Rattle.type_index.specs.Index.{declared, formedEntry, Entered}
 use Rattle.typing_rules.specs.Operators.{unaryType}
 use Rattle.typing_rules.specs.Rules.{member}
 use Rattle.typing_rules.specs.Judge.{hasDefault, isBelow, isBelowMember}
@@ -147,10 +146,13 @@ module _ (F : List ℕ) (S : Sections) (b : Bool) (t r x : ℕ) (f : FieldType) 
 pub field-there : (F : List ℕ) (S : Sections) (r x u : ℕ) (f : FieldType) → GoodTables F S → numberOf f ≡ fieldIn (tablesOf F S) r x → f ≡ Of u → u < S .types
 field-there F S r x u f R ef e = found-below F S R r x u (sym ef ∙ ap numberOf e)
 
--- a null of the type k, well-formed or not
-module _ (X R : List ℕ) (k n s t : ℕ) (b : Bool) (e : t ≡ k) (eb : b ≡ eqb (getD X (1024 + t) 0) 1) where
-  marked : eqb (getD X (1024 + k) 0) 1 ≡ b
-  marked = sym (eb ∙ ap (λ i. eqb (getD X (1024 + i) 0) 1) e)
+-- a null of the type k, read as t: the index has its entries, and it is well-formed or not
+pub null-entered : (X : List ℕ) (k t : ℕ) → t ≡ k → Entered X k → Entered X t
+null-entered X k t e h = rw e h
+
+module _ (X R : List ℕ) (k n s t : ℕ) (b : Bool) (e : t ≡ k) (eb : b ≡ formedEntry X t) where
+  marked : formedEntry X k ≡ b
+  marked = sym (eb ∙ ap (formedEntry X) e)
 
   pub null-unformed : (R′ : List ℕ) (r : Judged) → not b ≡ true → r .judgement ≡ Refused 9 n → NullAnswer X R k n s R′ r
   null-unformed R′ r h er = record {

@@ -4,12 +4,12 @@ use mathlib.Core.Path.{_≡_}
 use mathlib.Core.Bool.{Bool, true, false, _||_}
 use mathlib.Core.List.{List, []}
 use Prim.Native.Nat.{ℕ, _+_, _*_, _≤_, _<_}
-use lib.ListN.{getD, set}
+use lib.ListN.{set}
 use lib.Dec.{eqb}
 use Rattle.oat.specs.Basics.{pick}
 use Rattle.oat.specs.Tables.{Tables, entryAt, nodeAt}
 use Rattle.typing_rules.specs.Contexts.{Context}
-use Rattle.type_index.specs.Index.{declared}
+use Rattle.type_index.specs.Index.{declared, formedEntry}
 use Rattle.file_sections.specs.declared.Sections.{Sections}
 use Rattle.file_sections.specs.Layout.{tablesOf}
 use Rattle.bindings.specs.declared.Found.the-variants.{At, Nothing}
@@ -33,8 +33,8 @@ leafAnswer t n s = record { judgement = Typed t; next = n + 1; scope = s }
 
 -- what `null` answers where the type is well-formed, by the index, and where it is not
 pub record NullAnswer (X R : List ℕ) (t n s : ℕ) (R′ : List ℕ) (r : Judged) : Type 0 where
-  pub formed : eqb (getD X (1024 + t) 0) 1 ≡ true → (r ≡ leafAnswer t n s) × (R′ ≡ withRow R n t 65535)
-  pub unformed : eqb (getD X (1024 + t) 0) 1 ≡ false → r .judgement ≡ Refused 9 n
+  pub formed : formedEntry X t ≡ true → (r ≡ leafAnswer t n s) × (R′ ≡ withRow R n t 65535)
+  pub unformed : formedEntry X t ≡ false → r .judgement ≡ Refused 9 n
 
 -- what `name` answers where the name is bound, and where it is not
 pub record NameAnswer (F : List ℕ) (S : Sections) (R W K : List ℕ) (n s : ℕ) (R′ : List ℕ) (r : Judged) : Type 0 where

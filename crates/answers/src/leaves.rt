@@ -29,7 +29,7 @@ ghost use Rattle.typing_rules.specs.Operators.{unaryType};
 ghost use Rattle.typing_rules.specs.Rules.{member};
 ghost use Rattle.typing_rules.specs.Judge.{hasDefault, isBelow, isBelowMember};
 ghost use Rattle.file_sections.specs.Layout.{Laid, Has, tablesOf, GoodTables};
-ghost use Rattle.type_index.specs.Index.{Indexed};
+ghost use Rattle.type_index.specs.Index.{Entered, Indexed};
 ghost use Rattle.bindings.specs.Bindings.{Some};
 ghost use Rattle.answers.specs.Answers.{structsAlone, withRow, leafAnswer, literalKind, Expecting, expectedAt, NullAnswer, NameAnswer};
 
@@ -127,7 +127,7 @@ pub fn null(
     node: usize,
     scope: usize,
 ) -> Judged
-    requires { ⌜ Has (now file) sections node (sections .nodes) × (1536 ≤ length (now index)) × (nodeAt (tablesOf (now file) sections) node .t < 512) × (sections .nodes * 2 ≤ length (now rows)) ⌝ }
+    requires { ⌜ Has (now file) sections node (sections .nodes) × Entered (now index) (nodeAt (tablesOf (now file) sections) node .t) × (sections .nodes * 2 ≤ length (now rows)) ⌝ }
     ensures { λ r. ⌜ NullAnswer (now (index .entry)) (now (rows .entry)) (nodeAt (tablesOf (now (file .entry)) sections) node .t) node scope (now (rows .exit)) r ⌝ }
 {
     let t = node_t(file, sections, node);

@@ -4,8 +4,7 @@ use mathlib.Core.Bool.{Bool, true, false}
 use mathlib.Core.List.{List, [], _∷_, _++_}
 use Prim.Native.Nat.{ℕ, zero, suc, _+_, _*_, _≤_, _<_}
 use native.Mathlib.Omega.{arith}
-use lib.ListN.{length, getD}
-use lib.Dec.{eqb}
+use lib.ListN.{length}
 use Rattle.oat.specs.Tables.{Tables, typeAt, entryAt, nodeAt}
 use Rattle.oat.specs.TypeRules.{kindAt}
 use Rattle.oat.specs.TableRules.{hasKind}
@@ -21,7 +20,8 @@ use Rattle.typing_rules.specs.Judge.{ok, judge}
 use Rattle.file_sections.specs.declared.Sections.{Sections}
 use Rattle.file_sections.specs.Layout.{Laid, Has, tablesOf, GoodTables}
 use Rattle.file_sections.proofs.LawsRecords.{nodes-long, types-long, list-long}
-use Rattle.type_index.specs.Index.{declared, recordOf, structNamed, Indexed}
+use Rattle.type_index.specs.Index.{declared, recordOf, structNamed, formedEntry, Entered, Indexed}
+use Rattle.type_index.proofs.LawsIndex.{entered}
 use Rattle.bindings.specs.Bindings.{scopeOf}
 use Rattle.answers.specs.declared.answer.Judgement.the-variants.{Typed}
 use Rattle.answers.specs.declared.answer.Judged.{Judged}
@@ -80,16 +80,11 @@ module _ {F : List ℕ} {S : Sections} (good-tables : GoodTables F S) where
   pub reference-within : {t : ℕ} → t < S .types → typeAt (tablesOf F S) t .kind ≡ 7 → typeAt (tablesOf F S) t .a < S .types
   reference-within {t} h k = let l = formed .nullable t (within h) k .lower in omega arith
 
--- the index tells which types are well-formed
--- where the index has the entries of a type
-module _ {F : List ℕ} {S : Sections} {X R W K : List ℕ} {base s : ℕ} (f : Fine F S X R W K base s) {t : ℕ} (h : t < S .types) where
-  pub formed-entry : 1024 + t < length X
-  formed-entry = omega (arith, f .indexed .long, f .good-tables .laid .types-most)
+-- the index has the entries of a type, and tells whether it is well-formed
+pub type-entered : {F : List ℕ} {S : Sections} {X R W K : List ℕ} {base s : ℕ} → Fine F S X R W K base s → {t : ℕ} → t < S .types → Entered X t
+type-entered f h = entered (f .good-tables) (f .indexed) h
 
-  pub named-entry : 512 + t < length X
-  named-entry = omega (arith, f .indexed .long, f .good-tables .laid .types-most)
-
-pub formed-is : {F : List ℕ} {S : Sections} {X R W K : List ℕ} {base s : ℕ} → Fine F S X R W K base s → {t : ℕ} {b : Bool} → t < S .types → b ≡ eqb (getD X (1024 + t) 0) 1
+pub formed-is : {F : List ℕ} {S : Sections} {X R W K : List ℕ} {base s : ℕ} → Fine F S X R W K base s → {t : ℕ} {b : Bool} → t < S .types → b ≡ formedEntry X t
     → b ≡ isFormed (declared (tablesOf F S)) (typeOf (tablesOf F S) t)
 formed-is f {t} h e = e ∙ f .indexed .formed t h
 

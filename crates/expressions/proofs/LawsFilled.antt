@@ -4,8 +4,6 @@ use mathlib.Core.Bool.{Bool, true, false, not}
 use mathlib.Core.List.{List, _++_}
 use Prim.Native.Nat.{ℕ, _+_, _≤_, _<_}
 use native.Mathlib.Omega.{arith}
-use lib.ListN.{length, getD}
-use lib.Dec.{eqb}
 use borrow.Author.Tests.{eq-eqb, ne-eqb, not-true, not-false}
 use Rattle.oat.specs.Tables.{typeAt, nodeAt}
 use Rattle.oat.specs.TableRules.{hasKind}
@@ -20,7 +18,7 @@ use Rattle.typing_rules.specs.Judge.{Out, ok, no, andThen, needs, plain, referr
 use Rattle.file_sections.specs.declared.Sections.{Sections}
 use Rattle.file_sections.specs.Layout.{Has, tablesOf, GoodTables}
 use Rattle.file_sections.proofs.LawsRecords.{nodes-long}
-use Rattle.type_index.specs.Index.{declared, Indexed}
+use Rattle.type_index.specs.Index.{declared, formedEntry, Entered, Indexed}
 use Rattle.bindings.specs.Bindings.{entryOf, scopeOf, Scoped, Some, Same, Freshness, Bindable, Bound}
 use Rattle.bindings.proofs.LawsBindings.{scope-bound, names-bound, scope-same, names-same, same-trans}
 use Rattle.answers.specs.declared.answer.Judgement.the-variants.{Typed, Refused}
@@ -30,7 +28,7 @@ use Rattle.expressions.specs.Contract.{contextOf, Fine, After, Typing, M
 use Rattle.expressions.proofs.LawsMeets.{Untyped, stops, passes, child-no, child-ok}
 use Rattle.expressions.proofs.LawsAfter.{ready, typing-of, after-append, rule-typed}
 use Rattle.expressions.proofs.LawsLabels.{expr-long, expr-closed}
-use Rattle.expressions.proofs.LawsChild.{has-node, has-type, base-within, kind-within, element-within, formed-is}
+use Rattle.expressions.proofs.LawsChild.{has-node, has-type, base-within, kind-within, element-within, type-entered, formed-is}
 use Rattle.expressions.proofs.LawsShape.{on-filled, size-one, stands-within}
 
 -- the element of an array type
@@ -235,10 +233,10 @@ module _ {F : List ℕ} {S : Sections} {X R W K : List ℕ} {base n s : ℕ} (g 
       pub filled-element : x₁ < S .types
       filled-element = array-element (g .fine .good-tables) filled-kind et ea
 
-      pub filled-index : 1024 + x₁ < length X
-      filled-index = omega (arith, filled-element, g .fine .indexed .long, g .fine .good-tables .laid .types-most)
+      pub filled-entered : Entered X x₁
+      filled-entered = type-entered (g .fine) filled-element
 
-      module _ {b₁ : Bool} (eb : b₁ ≡ eqb (getD X (1024 + x₁) 0) 1) where
+      module _ {b₁ : Bool} (eb : b₁ ≡ formedEntry X x₁) where
         formed-at : (t : ℕ) → nodeAt (tablesOf F S) n .t ≡ t → formed (tablesOf F S) (contextOf (tablesOf F S) W base) (referred (tablesOf F S) t) ≡ b₁
         formed-at t e = sym (formed-is (g .fine) filled-element eb ∙ ap (λ i. isFormed (declared (tablesOf F S)) (typeOf (tablesOf F S) i)) (ea ∙ ap (λ i. typeAt (tablesOf F S) i .a) (et ∙ e)))
 

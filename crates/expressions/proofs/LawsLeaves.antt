@@ -5,8 +5,7 @@ use mathlib.Core.Bool.{Bool, true, false}
 use mathlib.Core.List.{List, [], _∷_}
 use Prim.Native.Nat.{ℕ, _+_, _*_, _≤_, _<_}
 use native.Mathlib.Omega.{arith}
-use lib.ListN.{length, getD}
-use lib.Dec.{eqb}
+use lib.ListN.{length}
 use Rattle.oat.specs.Tables.{nodeAt}
 use Rattle.oat.specs.Types.{typeOf}
 use Rattle.oat.specs.Decide.{isFormed}
@@ -16,7 +15,7 @@ use Rattle.typing_rules.specs.Operators.{literalType}
 use Rattle.typing_rules.specs.Judge.{typedAs, plain, named, formed, judge}
 use Rattle.file_sections.specs.declared.Sections.{Sections}
 use Rattle.file_sections.specs.Layout.{Has, tablesOf}
-use Rattle.type_index.specs.Index.{declared}
+use Rattle.type_index.specs.Index.{declared, formedEntry, Entered}
 use Rattle.bindings.specs.declared.Found.{Found}
 use Rattle.bindings.specs.declared.Found.the-variants.{At, Nothing}
 use Rattle.bindings.specs.Bindings.{namesOf, scopeOf, latest, Some}
@@ -26,7 +25,7 @@ use Rattle.answers.specs.Answers.{withRow, leafAnswer, NullAnswer, NameAnswer, 
 use Rattle.expressions.specs.Contract.{contextOf, After, Typing, Meets, accepts, refuses, Answers, Ready, Told}
 use Rattle.expressions.proofs.LawsMeets.{stops, passes}
 use Rattle.expressions.proofs.LawsAfter.{after-none, after-row}
-use Rattle.expressions.proofs.LawsChild.{has-node, base-within, kind-within}
+use Rattle.expressions.proofs.LawsChild.{has-node, base-within, kind-within, type-entered}
 use Rattle.expressions.proofs.LawsShape.{on-null, on-literal, on-name, literal-type}
 
 -- an accepted leaf
@@ -51,13 +50,10 @@ module _ {F : List ℕ} {S : Sections} {X R W K : List ℕ} {base n s : ℕ} (g 
         on-null (λ e. nodeAt (tablesOf F S) n .t < S .types)
         (λ t h. subst (λ i. i < S .types) (sym (h .0 .t-is)) (kind-within (g .fine .good-tables) 7 (h .1))) kind (g .tree) (g .stands)
 
-    pub null-type : nodeAt (tablesOf F S) n .t < 512
-    null-type = omega (arith, null-within, g .fine .good-tables .laid .types-most)
+    pub null-asked : Has F S n (S .nodes) × Entered X (nodeAt (tablesOf F S) n .t) × (S .nodes * 2 ≤ length R)
+    null-asked = (leaf-node, type-entered (g .fine) null-within, g .fine .rows-long)
 
-    pub null-asked : Has F S n (S .nodes) × (1536 ≤ length X) × (nodeAt (tablesOf F S) n .t < 512) × (S .nodes * 2 ≤ length R)
-    null-asked = (leaf-node, g .fine .indexed .long, null-type, g .fine .rows-long)
-
-    null-formed : (t : ℕ) (b : Bool) → nodeAt (tablesOf F S) n .t ≡ t → eqb (getD X (1024 + nodeAt (tablesOf F S) n .t) 0) 1 ≡ b
+    null-formed : (t : ℕ) (b : Bool) → nodeAt (tablesOf F S) n .t ≡ t → formedEntry X (nodeAt (tablesOf F S) n .t) ≡ b
         → formed (tablesOf F S) (contextOf (tablesOf F S) W base) t ≡ b
     null-formed t b e f =
         ap (λ i. isFormed (declared (tablesOf F S)) (typeOf (tablesOf F S) i)) (sym e)
@@ -68,10 +64,10 @@ module _ {F : List ℕ} {S : Sections} {X R W K : List ℕ} {base n s : ℕ} (g 
     null-told {R′} {r} a =
         record {
           tells = on-null (Answers F S X R W base n s R′ W K r)
-              (λ t h. go t (h .0 .t-is) (eqb (getD X (1024 + nodeAt (tablesOf F S) n .t) 0) 1) refl) kind;
+              (λ t h. go t (h .0 .t-is) (formedEntry X (nodeAt (tablesOf F S) n .t)) refl) kind;
         }
       where
-        go : (t : ℕ) → nodeAt (tablesOf F S) n .t ≡ t → (b : Bool) → eqb (getD X (1024 + nodeAt (tablesOf F S) n .t) 0) 1 ≡ b → Answers F S X R W base n s R′ W K r (null t)
+        go : (t : ℕ) → nodeAt (tablesOf F S) n .t ≡ t → (b : Bool) → formedEntry X (nodeAt (tablesOf F S) n .t) ≡ b → Answers F S X R W base n s R′ W K r (null t)
         go t e true f =
             passes _ 9 n _ (null-formed t true e f)
             (subst (λ i. Meets (Typing F S X base n 1 s R W R′ W K r) r (plain i (scopeOf (tablesOf F S) W base s) [])) e

@@ -4,7 +4,7 @@ use mathlib.Core.Bool.{Bool, true, false, not}
 use mathlib.Core.List.{List, _++_}
 use Prim.Native.Nat.{ℕ, _+_, _-_, _*_, _≤_, _<_}
 use native.Mathlib.Omega.{arith}
-use lib.ListN.{length, getD}
+use lib.ListN.{length}
 use lib.Dec.{eqb}
 use borrow.Author.Tests.{eq-eqb, ne-eqb, lt-ltb, le-ltb, not-true, not-false}
 use Rattle.oat.specs.Basics.{pick}
@@ -18,7 +18,7 @@ use Rattle.typing_rules.specs.Judge.{Out, ok, no, andThen, needs, onDeclared, p
 use Rattle.file_sections.specs.declared.Sections.{Sections}
 use Rattle.file_sections.specs.Layout.{Has, tablesOf}
 use Rattle.file_sections.proofs.LawsRecords.{nodes-long, structs-long, built-ins-long}
-use Rattle.type_index.specs.Index.{declared, recordOf, structNamed}
+use Rattle.type_index.specs.Index.{declared, recordOf, structNamed, structEntry, formedEntry, Entered}
 use Rattle.type_index.proofs.LawsIndex.{lookup-is}
 use Rattle.bindings.specs.Bindings.{entryOf, scopeOf, Same}
 use Rattle.bindings.proofs.LawsBindings.{scope-same, names-same}
@@ -31,7 +31,7 @@ use Rattle.answers.specs.Answers.{withRow}
 use Rattle.expressions.specs.Contract.{contextOf, Fine, After, Typing, Listing, Meets, accepts, refuses, Answers, Ready, Told, expectedBelow, listed, ReadyList, ToldList, initialized, ReadyInits, ToldInits}
 use Rattle.expressions.proofs.LawsMeets.{Untyped, Unlisted, stops, passes, child-no, child-ok, list-no, list-ok}
 use Rattle.expressions.proofs.LawsAfter.{same-more, fine-stack, ready, typing-of, after-append, rule-typed}
-use Rattle.expressions.proofs.LawsChild.{child-within, has-type, kind-within, element-within, returned-within, formed-is, parameters-within}
+use Rattle.expressions.proofs.LawsChild.{child-within, has-type, kind-within, element-within, returned-within, type-entered, formed-is, parameters-within}
 use Rattle.expressions.proofs.LawsList.{exprIn, judgedIn, listedIn, listed-fine}
 use Rattle.expressions.proofs.LawsInits.{initsIn, fitsIn, initializedIn, initialized-fine}
 use Rattle.expressions.proofs.LawsLabels.{expr-long, expr-closed}
@@ -100,8 +100,8 @@ module _ {F : List ℕ} {S : Sections} {X R W K : List ℕ} {base n s : ℕ} (g 
     pub array-element : u < S .types
     array-element = subst (λ i. i < S .types) (sym eu) (element-within (g .fine .good-tables) array-within (array-kind .1))
 
-    pub array-entry : 1024 + u < length X
-    array-entry = omega (arith, array-element, g .fine .good-tables .laid .types-most, g .fine .indexed .long)
+    pub array-entered : Entered X u
+    array-entered = type-entered (g .fine) array-element
 
     pub array-list : {c : ℕ} → c ≡ nodeAt (tablesOf F S) n .children → ReadyList F S X R W K base (n + 1) s c (Each u)
     array-list {c} ec =
@@ -117,7 +117,7 @@ module _ {F : List ℕ} {S : Sections} {X R W K : List ℕ} {base n s : ℕ} (g 
         })
         kind (g .tree) (g .stands) (g .room)
 
-    module _ {b : Bool} (eb : b ≡ eqb (getD X (1024 + u) 0) 1) where
+    module _ {b : Bool} (eb : b ≡ formedEntry X u) where
       array-formed : b ≡ formed (tablesOf F S) (contextOf (tablesOf F S) W base) (referred (tablesOf F S) t)
       array-formed = formed-is (g .fine) array-element eb ∙ ap (formed (tablesOf F S) (contextOf (tablesOf F S) W base)) eu
 
@@ -327,7 +327,7 @@ module _ {F : List ℕ} {S : Sections} {X R W K : List ℕ} {base n s : ℕ} (g 
   pub struct-low : S .«built_ins» ≤ s
   struct-low = omega (arith, g .fine .low, g .fine .above)
 
-  module _ {o : ℕ} (eo : o ≡ getD X (512 + t) 0) where
+  module _ {o : ℕ} (eo : o ≡ structEntry X t) where
     owner-is : o ≡ recordOf (tablesOf F S) (referred (tablesOf F S) t)
     owner-is = eo ∙ g .fine .indexed .named t struct-within ∙ struct-record (tablesOf F S) t (struct-kind .1)
 

@@ -4,7 +4,7 @@ use mathlib.Core.Bool.{Bool, true, false, not, _&&_, _||_}
 use mathlib.Core.List.{List, [], _∷_, _++_}
 use Prim.Native.Nat.{ℕ, zero, suc, _+_, _*_, _≤_, _<_}
 use native.Mathlib.Omega.{arith}
-use lib.ListN.{length, getD}
+use lib.ListN.{length}
 use lib.Dec.{eqb}
 use borrow.Author.Tests.{eq-eqb, ne-eqb, not-true, not-false}
 use Rattle.oat.specs.Basics.{pick}
@@ -17,7 +17,7 @@ use Rattle.typing_rules.specs.Labels.{Label}
 use Rattle.typing_rules.specs.Judge.{judge, plain, formed, referred, fieldType, isBelow, hasDefault, Number, number, unknown, fieldOf}
 use Rattle.file_sections.specs.declared.Sections.{Sections}
 use Rattle.file_sections.specs.Layout.{tablesOf}
-use Rattle.type_index.specs.Index.{declared}
+use Rattle.type_index.specs.Index.{declared, structEntry, formedEntry}
 use Rattle.file_sections.proofs.LawsRecords.{types-long}
 use Rattle.bindings.specs.Bindings.{scopeOf}
 use Rattle.fields.specs.declared.lookup.FieldType.{FieldType}
@@ -127,7 +127,7 @@ module _ {F : List ℕ} {S : Sections} {X R W K : List ℕ} {base n s : ℕ} (g 
       (w, subst (λ i. i < S .types) (sym ex) (element-within (g .fine .good-tables) w (subst (λ i. typeAt (tablesOf F S) i .kind ≡ 5) (sym is) (kind-of (tablesOf F S) u 5 (h .1)))))) kind
       (g .tree) (g .stands)
 
-  module _ {b : Bool} (eb : b ≡ eqb (getD X (1024 + x) 0) 1) where
+  module _ {b : Bool} (eb : b ≡ formedEntry X x) where
     default-formed : (u : ℕ) (a : Expr) → Stands (tablesOf F S) n (defaultArray u a) → b ≡ formed (tablesOf F S) (contextOf (tablesOf F S) W base) (referred (tablesOf F S) u)
     default-formed u a h =
         subst (λ i. b ≡ formed (tablesOf F S) (contextOf (tablesOf F S) W base) (typeAt (tablesOf F S) i .a)) (et ∙ h .0 .t-is)
@@ -216,7 +216,7 @@ module _ {F : List ℕ} {S : Sections} {X R W K : List ℕ} {base n s : ℕ} (g 
                 (λ x a h. child-ok _ _ t y₁ (m₁ .tells a (h .1)) λ L q p. stops _ 10 n _ (ne-eqb _ _ (λ i. f (e₁ ∙ i))) e) kind;
           }
 
-      module _ (k : k₁ ≡ 4) {o x₁ : ℕ} (eo : o ≡ getD X (512 + t) 0) (ex : x₁ ≡ nodeAt (tablesOf F S) n .x) (f : FieldType) (ef : numberOf f ≡ fieldIn (tablesOf F S) o x₁) where
+      module _ (k : k₁ ≡ 4) {o x₁ : ℕ} (eo : o ≡ structEntry X t) (ex : x₁ ≡ nodeAt (tablesOf F S) n .x) (f : FieldType) (ef : numberOf f ≡ fieldIn (tablesOf F S) o x₁) where
         field-meant : (x : ℕ) (a : Expr) → Stands (tablesOf F S) n (field x a) → t < S .types
             → fieldOf (tablesOf F S) (referred (tablesOf F S) t) x 0 (length (declared (tablesOf F S))) ≡ numberOf f
         field-meant x a h w =

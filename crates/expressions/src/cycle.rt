@@ -30,7 +30,7 @@ use file_sections::records::type_c;
 use file_sections::records::type_kind;
 use subtyping::below::below;
 use type_index::formed::is_formed;
-use type_index::same::entry;
+use type_index::formed::struct_record;
 ghost use mathlib.Core.Path.{_≡_};
 ghost use mathlib.Core.Bool.{Bool, true, false};
 ghost use Prim.Native.Nat.{_+_, _<_};
@@ -480,7 +480,7 @@ fn structure(
     ensures { λ r. ⌜ Told (now (file .entry)) sections (now (index .entry)) (now (rows .entry)) (now (work .entry)) base node scope (now (rows .exit)) (now (work .exit)) (now (chains .exit)) r ⌝ }
 {
     let t = node_t(file, sections, node);
-    let owner = entry(index, 512 + t);
+    let owner = struct_record(index, t);
     if sections.structs <= owner {
         return refused(9, node);
     }
@@ -552,7 +552,7 @@ fn field(
     let found = field_of(
         file,
         sections,
-        entry(index, 512 + t),
+        struct_record(index, t),
         node_x(file, sections, node),
     );
     let FieldType::Of(u) = found else {

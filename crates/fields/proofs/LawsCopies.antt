@@ -14,18 +14,25 @@ use Rattle.oat.specs.Nodes.{InitsStand}
 use Rattle.file_sections.specs.declared.Sections.{Sections}
 use Rattle.file_sections.specs.Layout.{Laid, tablesOf}
 use Rattle.file_sections.proofs.LawsRecords.{nodes-long}
-use Rattle.fields.specs.Literal.{Tree, Past, NamesAt, Below, Initializers, Copied, CopiedFields}
+use Rattle.fields.specs.Literal.{Tree, Past, NamesAt, Below, Beyond, Initializers, Copied, CopiedFields}
 use Rattle.fields.proofs.LawsTrees.{init-tree}
 
--- a number stored at `at` or past it
+-- a number stored at `at`
 module _ (top at v : ℕ) (l k : List ℕ) where
   below-stored : top ≤ at → Below top l k → Below top l (set k at v)
   below-stored h b = record { at = λ i n. getD-set-other k at i v 0 (λ e. omega arith) ∙ b .at i n }
 
+beyond-stored : (top i v : ℕ) (l k : List ℕ) → Beyond (top + i) l k → Beyond (top + (i + 1)) l (set k (top + i) v)
+beyond-stored top i v l k b = record { at = λ j n. getD-set-other k (top + i) j v 0 (λ e. omega arith) ∙ b .at j (omega arith) }
+
 -- names of fields
 module _ (s : List ℕ) (S : Sections) (W : List ℕ) (top first : ℕ) where
   pub fields-none : CopiedFields s S W top first 0 W
-  fields-none = record { names = λ i h. absurd (not-suc-le-zero h); below = record { at = λ i h. refl } }
+  fields-none = record {
+    names = λ i h. absurd (not-suc-le-zero h);
+    below = record { at = λ i h. refl };
+    beyond = record { at = λ i h. refl };
+  }
 
   pub fields-more : (i v count : ℕ) (K : List ℕ) → top + count ≤ length W → length K ≡ length W → i < count → v ≡ fieldAt (tablesOf s S) (first + i) .name → CopiedFields s S W top first i K
       → CopiedFields s S W top first (i + 1) (set K (top + i) v)
@@ -36,6 +43,7 @@ module _ (s : List ℕ) (S : Sections) (W : List ℕ) (top first : ℕ) where
         (λ j l. getD-set-other K (top + i) (top + j) v 0 (λ n. omega arith) ∙ C .names j l)
         (getD-set-same K (top + i) v 0 (omega arith) ∙ e);
     below = below-stored top (top + i) v W K (omega arith) (C .below);
+    beyond = beyond-stored top i v W K (C .beyond);
   }
 
   pub fields-all : (i count : ℕ) (K : List ℕ) → i ≤ count → count ≤ i → CopiedFields s S W top first i K → CopiedFields s S W top first count K
@@ -54,6 +62,7 @@ pub record Rest (T : Tables) (K : List ℕ) (top at i count : ℕ) (is : Inits) 
 pub record Copying (T : Tables) (W : List ℕ) (top node count : ℕ) (K : List ℕ) (at i : ℕ) : Type 0 where
   pub rest : (is : Inits) → InitsStand T node is → countInits is ≡ count → Rest T K top at i count is
   pub below : Below top W K
+  pub beyond : Beyond (top + i) W K
 
 pub copying-none : (T : Tables) (W : List ℕ) (top node count : ℕ) → Copying T W top node count W node 0
 copying-none T W top node count = record {
@@ -64,6 +73,7 @@ copying-none T W top node count = record {
     names = λ k b n. subst (λ j. NamesAt k j is) (start top) n;
   };
   below = record { at = λ i h. refl };
+  beyond = record { at = λ i h. refl };
 }
   where
     start : (n : ℕ) → n + 0 ≡ n
@@ -128,10 +138,12 @@ module _ (s : List ℕ) (S : Sections) (W : List ℕ) (top node count : ℕ) (K 
   copying-more v next I C l h e P = record {
     rest = λ is d n. rest-more s S K top at i count is h v next (omega (arith, I .room)) e P (C .rest is d n);
     below = below-stored top (top + i) v W K (omega arith) (C .below);
+    beyond = beyond-stored top i v W K (C .beyond);
   }
 
-  pub copying-done : Copying (tablesOf s S) W top node count K at i → count ≤ i → Copied s S W top node count K
-  copying-done C h = record {
+  pub copying-done : Copying (tablesOf s S) W top node count K at i → i ≤ count → count ≤ i → Copied s S W top node count K
+  copying-done C l h = record {
     names = λ is d n. rest-done (tablesOf s S) K top at i count is h (C .rest is d n);
     below = C .below;
+    beyond = record { at = λ j m. C .beyond .at j (omega arith) };
   }

@@ -44,6 +44,7 @@ module _ (s : List ℕ) (S : Sections) (W : List ℕ) (top n r count : ℕ) (ec 
   count-differs m em f = record {
     tells = λ is d e. sym (fit-count (tablesOf s S) r is (λ q. f (ec ∙ e ∙ q ∙ sym em)));
     below = record { at = λ i h. refl };
+    beyond = record { at = λ i h. refl };
   }
 
   pub inits-there : Named s S W top n r → Initializers s S W top (n + 1) count
@@ -64,6 +65,7 @@ module _ (s : List ℕ) (S : Sections) (W : List ℕ) (top n r count : ℕ) (ec 
     names-told K L t C D e = record {
       tells = λ is d q. go is d (sym (ec ∙ q));
       below = record { at = λ i h. D .below .at i (omega arith) ∙ C .below .at i h };
+      beyond = record { at = λ i h. D .beyond .at i (omega arith) ∙ C .beyond .at i (omega arith) };
     }
       where
         go : (is : Inits) → InitsStand (tablesOf s S) (n + 1) is → countInits is ≡ count → t ≡ namesFit (structOf (tablesOf s S) r .fields) is

@@ -49,7 +49,11 @@ NamesAt l top (init x a is) = (getD l top 0 ≡ x) × NamesAt l (top + 1) is
 pub record Below (top : ℕ) (l l′ : List ℕ) : Type 0 where
   pub at : (i : ℕ) → i < top → getD l′ i 0 ≡ getD l i 0
 
--- `count` initializers stand at the node n, and `work` has room for their names from `top` on
+-- l′ is l from `end` on
+pub record Beyond (end : ℕ) (l l′ : List ℕ) : Type 0 where
+  pub at : (i : ℕ) → end ≤ i → getD l′ i 0 ≡ getD l i 0
+
+-- `count` initializers stand at the node n, and W has room for their names from `top` on
 pub record Initializers (F : List ℕ) (S : Sections) (W : List ℕ) (top n count : ℕ) : Type 0 where
   pub laid : Laid F S
   pub inits : Inits
@@ -57,17 +61,19 @@ pub record Initializers (F : List ℕ) (S : Sections) (W : List ℕ) (top n coun
   pub counted : countInits inits ≡ count
   pub room : top + count ≤ length W
 
--- their names are in `work`, and nothing below has changed
+-- their names stand in W′ from `top` on, and every number before and after them is that of W
 pub record Copied (F : List ℕ) (S : Sections) (W : List ℕ) (top n count : ℕ) (W′ : List ℕ) : Type 0 where
   pub names : (is : Inits) → InitsStand (tablesOf F S) n is → countInits is ≡ count → NamesAt W′ top is
   pub below : Below top W W′
+  pub beyond : Beyond (top + count) W W′
 
--- the names of `count` fields from `first` on are in `work`, and nothing below has changed
+-- the names of `count` fields, those from `first` on, stand in W′ from `top` on, and every number before and after them is that of W
 pub record CopiedFields (F : List ℕ) (S : Sections) (W : List ℕ) (top first count : ℕ) (W′ : List ℕ) : Type 0 where
   pub names : (i : ℕ) → i < count → getD W′ (top + i) 0 ≡ fieldAt (tablesOf F S) (first + i) .name
   pub below : Below top W W′
+  pub beyond : Beyond (top + count) W W′
 
--- a literal of the struct record stands at the node n, and `work` has room for its names twice
+-- a literal of the struct record s stands at the node n, and W has room for its names twice from `top` on
 pub record Named (F : List ℕ) (S : Sections) (W : List ℕ) (top n s : ℕ) : Type 0 where
   pub good-tables : GoodTables F S
   pub within : n < S .nodes
@@ -77,8 +83,10 @@ pub record Named (F : List ℕ) (S : Sections) (W : List ℕ) (top n s : ℕ) : 
   pub counted : nodeAt (tablesOf F S) n .children ≡ countInits inits
   pub room : top + countInits inits * 2 ≤ length W
 
--- what `names_fit` answers
+-- what `names_fit` answers: whether the literal at the node n names every field of the struct record s once; every number of W′ before
+-- and after the room for the names twice is that of W
 pub record Fitting (F : List ℕ) (S : Sections) (W : List ℕ) (top n s : ℕ) (W′ : List ℕ) (r : Bool) : Type 0 where
   pub tells : (is : Inits) → InitsStand (tablesOf F S) (n + 1) is → nodeAt (tablesOf F S) n .children ≡ countInits is
       → r ≡ namesFit (structOf (tablesOf F S) s .fields) is
   pub below : Below top W W′
+  pub beyond : Beyond (top + nodeAt (tablesOf F S) n .children * 2) W W′

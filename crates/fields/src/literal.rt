@@ -82,7 +82,7 @@ pub fn times(names: &[u16], from: usize, count: usize, name: u16) -> u16
     found
 }
 
-// Each of the `count` names after `count` others stands once among itself and its likes, and once among the others.
+// Of twice `count` names from `top` on, each of the second half stands once in that half, and once in the first.
 fn each_once(names: &[u16], top: usize, count: usize) -> bool
     requires { ⌜ (top + count * 2 ≤ length (now names)) × (count < 65536) ⌝ }
     ensures { λ r. ⌜ r ≡ onceEach (now (names .entry)) top count ⌝ }
@@ -101,7 +101,8 @@ fn each_once(names: &[u16], top: usize, count: usize) -> bool
     true
 }
 
-// The literal at `node`, of `count` initializers, names every field of the struct record once.
+// The literal at `node` names every field of the struct record `owner` once. Uses `work` from `top` on, twice as many numbers as there
+// are initializers.
 pub fn names_fit(
     file: &[u8],
     sections: Sections,

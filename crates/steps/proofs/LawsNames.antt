@@ -6,7 +6,7 @@ use mathlib.Core.List.{List}
 use Prim.Native.Nat.{ℕ, zero, suc, _+_, _≤_, _<_}
 use native.Mathlib.Nat.{zero-add, not-suc-le-zero, le-of-suc-le-suc}
 use native.Mathlib.Omega.{arith}
-use lib.ListN.{length, getD}
+use lib.ListN.{getD}
 use lib.Dec.{eqb}
 use borrow.Author.Tests.{eqb-true, eq-eqb, ne-eqb}
 use Rattle.oat.specs.Basics.{pick, allBelow, tabulate}
@@ -22,8 +22,8 @@ use Rattle.typing_rules.specs.Check.{isMiss, fieldsFormed}
 use Rattle.file_sections.specs.declared.Sections.{Sections}
 use Rattle.file_sections.specs.Layout.{tablesOf, GoodTables}
 use Rattle.file_sections.proofs.LawsRecords.{types-long, fields-long}
-use Rattle.type_index.specs.Index.{declared, Indexed}
-use Rattle.type_index.proofs.LawsIndex.{loop-fails, loop-goes, loop-done, none-tested}
+use Rattle.type_index.specs.Index.{declared, formedEntry, Entered, Indexed}
+use Rattle.type_index.proofs.LawsIndex.{loop-fails, loop-goes, loop-done, none-tested, entered}
 use Rattle.type_index.proofs.LawsSameTypes.{all-front, all-same}
 use Rattle.bindings.specs.declared.Found.{Found}
 use Rattle.bindings.specs.declared.Found.the-variants.{At, Nothing}
@@ -50,7 +50,7 @@ module _ (X : List ℕ) (T : Tables) (first : ℕ) where
   unfolding typesFormed
   all-fields-formed count j h k a = loop-done count _ j h k a
 
-  module _ (j x : ℕ) (t : Bool) (ex : x ≡ fieldAt T (first + j) .type) (et : t ≡ eqb (getD X (1024 + x) 0) 1) where
+  module _ (j x : ℕ) (t : Bool) (ex : x ≡ fieldAt T (first + j) .type) (et : t ≡ formedEntry X x) where
     pub field-unformed : (count : ℕ) → j < count → not t ≡ true → false ≡ typesFormed X T first count
     unfolding typesFormed
     field-unformed count h f = loop-fails count _ j t h f (et ∙ rw ex)
@@ -66,9 +66,9 @@ module _ {F : List ℕ} {S : Sections} (R : GoodTables F S) where
       let l = tables-formed (tablesOf F S) (R .tables) .field i (omega (arith, fields-long F S)) .lower in
       omega (arith, types-long F S)
 
-  pub field-marked : (X : List ℕ) (first count j x : ℕ) → 1536 ≤ length X → first + count ≤ S .fields → j < count
-      → x ≡ fieldAt (tablesOf F S) (first + j) .type → 1024 + x < length X
-  field-marked X first count j x l h k e = omega (arith, field-type-within (first + j) (omega arith), R .laid .types-most)
+  pub field-entered : (X : List ℕ) (first count j x : ℕ) → Indexed X (tablesOf F S) (S .types) → first + count ≤ S .fields → j < count
+      → x ≡ fieldAt (tablesOf F S) (first + j) .type → Entered X x
+  field-entered X first count j x I h k e = entered R I (omega (arith, field-type-within (first + j) (omega arith)))
 
 -- fields that are well-formed, one by one
 fields-formed : (C : Contexts.Context ℕ) (n : ℕ) (g : ℕ → Field) → allBelow n (λ j. isFormed (C .structs) (g j .type)) ≡ fieldsFormed C (tabulate n g)

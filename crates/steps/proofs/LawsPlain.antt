@@ -25,7 +25,8 @@ use Rattle.typing_rules.specs.Check.{isMissing, isMiss, fieldsFormed, runStep, 
 use Rattle.file_sections.specs.declared.Sections.{Sections}
 use Rattle.file_sections.specs.Layout.{Has, tablesOf}
 use Rattle.file_sections.proofs.LawsRecords.{types-long, structs-long, built-ins-long, nodes-long}
-use Rattle.type_index.specs.Index.{Indexed}
+use Rattle.type_index.specs.Index.{formedEntry, Entered, Indexed}
+use Rattle.type_index.proofs.LawsIndex.{entered}
 use Rattle.bindings.specs.Bindings.{namesOf, Bindable, Bound}
 use Rattle.bindings.proofs.LawsBindings.{scoped-linked, names-linked, names-declared}
 use Rattle.fields.specs.Literal.{timesIn, CopiedFields}
@@ -147,7 +148,7 @@ module _ {F : List ℕ} {S : Sections} {N : List ℕ} {c : Context} {i : ℕ} (r
 
 -- whether a type is well-formed, in the context of all structs
 formed-whole : (F : List ℕ) (S : Sections) (X W : List ℕ) (c : Context) (t : ℕ) (b : Bool) → Indexed X (tablesOf F S) (S .types) → Whole S c → t < S .types
-    → b ≡ eqb (getD X (1024 + t) 0) 1 → formed (tablesOf F S) (contextAt (tablesOf F S) W c) t ≡ b
+    → b ≡ formedEntry X t → formed (tablesOf F S) (contextAt (tablesOf F S) W c) t ≡ b
 formed-whole F S X W c t b I w h e =
     sym (e ∙ I .formed t h ∙ ap (λ k. isFormed (structsOf (tablesOf F S) k) (typeOf (tablesOf F S) t)) (structs-long F S ∙ sym (w .structs)))
 
@@ -159,12 +160,12 @@ module _ {F : List ℕ} {S : Sections} {X W K : List ℕ} {c : Context} {i : ℕ
       omega (arith, types-long F S)
 
   module _ (t : ℕ) (et : t ≡ builtInAt (tablesOf F S) i .type) where
-    pub built-in-marked : 1024 + t < length X
-    built-in-marked = omega (arith, built-in-within, ready .held .indexed .long, ready .held .good-tables .laid .types-most)
+    pub built-in-entered : Entered X t
+    built-in-entered = entered (ready .held .good-tables) (ready .held .indexed) (omega (arith, built-in-within))
 
-    module _ (b : Bool) (eb : b ≡ eqb (getD X (1024 + t) 0) 1) where
+    module _ (b : Bool) (eb : b ≡ formedEntry X t) where
       built-in-tested : formed (tablesOf F S) (contextAt (tablesOf F S) W c) (builtInAt (tablesOf F S) i .type) ≡ b
-      built-in-tested = formed-whole F S X W c _ b (ready .held .indexed) (ready .whole) built-in-within (eb ∙ ap (λ u. eqb (getD X (1024 + u) 0) 1) et)
+      built-in-tested = formed-whole F S X W c _ b (ready .held .indexed) (ready .whole) built-in-within (eb ∙ ap (formedEntry X) et)
 
       pub built-in-unformed : not b ≡ true → Rowless F S X c (builtIn i) W W K (Refused 9 (c .steps) i)
       unfolding runStep
@@ -225,8 +226,8 @@ module _ {F : List ℕ} {S : Sections} {X W K : List ℕ} {c : Context} {n : ℕ
     heading-within : t < S .types
     heading-within = subst (λ u. u < S .types) (sym (et ∙ ready .stands .0 .t-is)) (kind-within (ready .held .good-tables) 6 (ready .stands .1))
 
-    pub heading-marked : 1024 + t < length X
-    heading-marked = omega (arith, heading-within, ready .held .indexed .long, ready .held .good-tables .laid .types-most)
+    pub heading-entered : Entered X t
+    heading-entered = entered (ready .held .good-tables) (ready .held .indexed) heading-within
 
     pub heading-bindable : Bindable F S W K (c .names) n t
     heading-bindable = record {
@@ -237,7 +238,7 @@ module _ {F : List ℕ} {S : Sections} {X W K : List ℕ} {c : Context} {n : ℕ
       type-there = heading-within;
     }
 
-    module _ (b : Bool) (eb : b ≡ eqb (getD X (1024 + t) 0) 1) where
+    module _ (b : Bool) (eb : b ≡ formedEntry X t) where
       heading-tested : formed (tablesOf F S) (contextAt (tablesOf F S) W c) (nodeAt (tablesOf F S) n .t) ≡ b
       heading-tested = subst (λ u. formed (tablesOf F S) (contextAt (tablesOf F S) W c) u ≡ b) et (formed-whole F S X W c t b (ready .held .indexed) (ready .whole) heading-within eb)
 

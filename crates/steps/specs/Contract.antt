@@ -20,7 +20,7 @@ use Rattle.typing_rules.specs.Steps.{Step, structName, builtIn, heading, global
 use Rattle.typing_rules.specs.Check.{isMiss, runStep, rowsBegin, stepRows, parameterRows}
 use Rattle.file_sections.specs.declared.Sections.{Sections}
 use Rattle.file_sections.specs.Layout.{Laid, tablesOf, GoodTables}
-use Rattle.type_index.specs.Index.{Indexed}
+use Rattle.type_index.specs.Index.{formedEntry, Indexed}
 use Rattle.bindings.specs.Bindings.{entryOf, namesOf, scopeOf, Scoped, Same}
 use Rattle.answers.specs.declared.answer.Judgement.{Judgement}
 use Rattle.answers.specs.declared.answer.Judgement.the-variants.{Typed, GoesOn, Returns}
@@ -177,7 +177,7 @@ pub record ToldFields (F : List ℕ) (S : Sections) (X : List ℕ) (c : Context)
 
 -- the types of `count` fields from `first` on are well-formed, as the index has it
 unfoldable pub typesFormed : List ℕ → Tables → ℕ → ℕ → Bool
-typesFormed X T first count = allBelow count (λ j. eqb (getD X (1024 + fieldAt T (first + j) .type) 0) 1)
+typesFormed X T first count = allBelow count (λ j. formedEntry X (fieldAt T (first + j) .type))
 
 -- none of the first `count` numbers stands before itself
 unfoldable pub allNew : List ℕ → ℕ → Bool

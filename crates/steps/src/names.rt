@@ -9,6 +9,7 @@ ghost use mathlib.Core.Path.{_≡_};
 ghost use Prim.Native.Nat.{_+_, _≤_, _<_};
 ghost use lib.ListN.{length};
 ghost use Rattle.file_sections.specs.Layout.{tablesOf, GoodTables};
+ghost use Rattle.type_index.specs.Index.{Indexed};
 ghost use Rattle.bindings.specs.Bindings.{Some};
 ghost use Rattle.steps.specs.Contract.{Newness, typesFormed, allNew};
 
@@ -32,7 +33,7 @@ pub fn types_formed(
     first: usize,
     count: usize,
 ) -> bool
-    requires { ⌜ GoodTables (now file) sections × (1536 ≤ length (now index)) × (first + count ≤ sections .fields) ⌝ }
+    requires { ⌜ GoodTables (now file) sections × Indexed (now index) (tablesOf (now file) sections) (sections .types) × (first + count ≤ sections .fields) ⌝ }
     ensures { λ r. ⌜ r ≡ typesFormed (now (index .entry)) (tablesOf (now (file .entry)) sections) first count ⌝ }
 {
     let mut i = 0;

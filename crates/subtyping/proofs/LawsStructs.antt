@@ -6,7 +6,7 @@ use mathlib.Core.List.{List}
 use Prim.Native.Nat.{ℕ, zero, suc, _+_, _≤_, _<_}
 use native.Mathlib.Nat.{not-suc-le-zero, le-of-suc-le-suc}
 use native.Mathlib.Omega.{arith}
-use lib.ListN.{length, getD}
+use lib.ListN.{length}
 use lib.Dec.{eqb, ltb}
 use borrow.Author.Tests.{ltb-true, ltb-false, lt-ltb, le-ltb, eqb-true, eqb-false, eq-eqb, ne-eqb, not-true, not-false}
 use Rattle.oat.specs.Basics.{pick, allBelow, sumBelow, tabulate}
@@ -20,8 +20,8 @@ use Rattle.oat.proofs.LawsTables.{tables-formed}
 use Rattle.file_sections.specs.declared.Sections.{Sections}
 use Rattle.file_sections.specs.Layout.{tablesOf, GoodTables}
 use Rattle.file_sections.proofs.LawsRecords.{types-long, fields-long, structs-long}
-use Rattle.type_index.specs.Index.{declared, firstBelow, recordOf, structNamed, Indexed}
-use Rattle.type_index.proofs.LawsIndex.{lookup-is}
+use Rattle.type_index.specs.Index.{declared, recordOf, structNamed, lowestEntry, structEntry, Indexed}
+use Rattle.type_index.proofs.LawsIndex.{lookup-is, entries-same}
 use Rattle.subtyping.specs.Numbered.{sameField, sameFields}
 
 -- one field
@@ -122,11 +122,11 @@ module _ (s : List ℕ) (S : Sections) where
         omega (arith, types-long s S)
 
     module _ (index : List ℕ) (indexed : Indexed index T (S .types)) where
-      pub types-same : (i j m n x y : ℕ) (t : Bool) → t ≡ eqb (getD index x 0) (getD index y 0) → x ≡ fieldAt T i .type → y ≡ fieldAt T j .type → m ≡ fieldAt T i .name → n ≡ fieldAt T j .name → m ≡ n → i < S .fields → j < S .fields → t ≡ sameField T i j
+      pub types-same : (i j m n x y : ℕ) (t : Bool) → t ≡ eqb (lowestEntry index x) (lowestEntry index y) → x ≡ fieldAt T i .type → y ≡ fieldAt T j .type → m ≡ fieldAt T i .name → n ≡ fieldAt T j .name → m ≡ n → i < S .fields → j < S .fields → t ≡ sameField T i j
       unfolding sameField
       types-same i j m n x y t et ex ey em en e hi hj =
           et
-          ∙ indexed .same x y (field-type i x hi ex) (field-type j y hj ey)
+          ∙ entries-same indexed x y (field-type i x hi ex) (field-type j y hj ey)
           ∙ rw (ex, ey, eq-eqb (fieldAt T i .name) (fieldAt T j .name) (sym em ∙ e ∙ en))
 
   -- the fields of a struct are fields of the file
@@ -147,11 +147,11 @@ module _ (s : List ℕ) (S : Sections) where
 
   module _ (index : List ℕ) (indexed : Indexed index T (S .types)) where
     -- the index names the record
-    named-is : (a first : ℕ) → first ≡ getD index (512 + a) 0 → a < S .types → typeAt T a .kind ≡ 4 → recordOf T (typeAt T a .a) ≡ first
+    named-is : (a first : ℕ) → first ≡ structEntry index a → a < S .types → typeAt T a .kind ≡ 4 → recordOf T (typeAt T a .a) ≡ first
     unfolding structNamed
     named-is a first e l k = sym (e ∙ indexed .named a l ∙ rw (eq-eqb (kindAt T a) 4 k))
 
-    module _ (a b first second : ℕ) (ea : first ≡ getD index (512 + a) 0) (eb : second ≡ getD index (512 + b) 0) (la : a < S .types) (lb : b < S .types) (ka : typeAt T a .kind ≡ 4) (kb : typeAt T b .kind ≡ 4) where
+    module _ (a b first second : ℕ) (ea : first ≡ structEntry index a) (eb : second ≡ structEntry index b) (la : a < S .types) (lb : b < S .types) (ka : typeAt T a .kind ≡ 4) (kb : typeAt T b .kind ≡ 4) where
       decides : structBelow (declared T) (typeAt T a .a) (typeAt T b .a) ≡ pick (ltb first (S .structs)) (pick (ltb second (S .structs)) (beginsWith (structOf T first .fields) (structOf T second .fields)) false) false
       decides =
           struct-decides T (typeAt T a .a) (typeAt T b .a)

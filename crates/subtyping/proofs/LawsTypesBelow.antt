@@ -6,7 +6,7 @@ use Prim.Native.Nat.{ℕ, zero, suc, _+_, _-_, _≤_, _<_}
 use native.Mathlib.Numerals.{add-one, sub-one}
 use native.Mathlib.Nat.{add-zero}
 use native.Mathlib.Omega.{arith}
-use lib.ListN.{length, getD}
+use lib.ListN.{length}
 use lib.Dec.{eqb, ltb}
 use borrow.Author.Tests.{ltb-true, ltb-false, eqb-true, eqb-false, eq-eqb, ne-eqb, not-true, not-false}
 use Rattle.oat.specs.Basics.{pick}
@@ -20,7 +20,8 @@ use Rattle.oat.proofs.LawsBelow.{plain, params-many, below-base, below-struct, 
 use Rattle.file_sections.specs.declared.Sections.{Sections}
 use Rattle.file_sections.specs.Layout.{tablesOf, GoodTables}
 use Rattle.file_sections.proofs.LawsRecords.{types-long, list-long}
-use Rattle.type_index.specs.Index.{declared, Indexed}
+use Rattle.type_index.specs.Index.{declared, lowestEntry, Indexed}
+use Rattle.type_index.proofs.LawsIndex.{entries-same}
 use Rattle.subtyping.specs.Numbered.{belowAt, paramsBelow, Params}
 
 -- the kind of a type written out is its record's kind
@@ -183,12 +184,12 @@ module _ (s : List ℕ) (S : Sections) where
             ∙ ap₂ (below H) (sym (type-struct T a (sym ka ∙ e))) (sym (type-struct T b (sym kb ∙ e)))
 
         module _ (x y : ℕ) (r : Bool) (ex : x ≡ typeAt T a .a) (ey : y ≡ typeAt T b .a) where
-          pub array-is : (index : List ℕ) → k ≡ 5 → r ≡ eqb (getD index x 0) (getD index y 0) → Indexed index T (S .types) → r ≡ belowAt T a b
+          pub array-is : (index : List ℕ) → k ≡ 5 → r ≡ eqb (lowestEntry index x) (lowestEntry index y) → Indexed index T (S .types) → r ≡ belowAt T a b
           array-is index e er indexed =
               let fa = formed .array a (within a la) (sym ka ∙ e) .lower in
               let fb = formed .array b (within b lb) (sym kb ∙ e) .lower in
               er
-              ∙ indexed .same x y (omega arith) (omega arith)
+              ∙ entries-same indexed x y (omega arith) (omega arith)
               ∙ ap₂ (λ i j. sameTy (typeOf T i) (typeOf T j)) ex ey
               ∙ sym (below-array H (typeOf T (typeAt T a .a)) (typeOf T (typeAt T b .a)))
               ∙ ap₂ (below H) (sym (type-array T a (sym ka ∙ e) fa)) (sym (type-array T b (sym kb ∙ e) fb))

@@ -9,7 +9,7 @@ use file_sections::records::type_a;
 use file_sections::records::type_b;
 use file_sections::records::type_c;
 use file_sections::records::type_kind;
-use type_index::same::entry;
+use type_index::formed::struct_record;
 use type_index::same::same;
 ghost use mathlib.Core.Path.{_≡_};
 ghost use Prim.Native.Nat.{_+_, _<_, _≤_};
@@ -81,8 +81,8 @@ fn struct_below(file: &[u8], sections: Sections, index: &[u16], a: usize, b: usi
     requires { ⌜ GoodTables (now file) sections × Indexed (now index) (tablesOf (now file) sections) (sections .types) × (a < sections .types) × (b < sections .types) × (typeAt (tablesOf (now file) sections) a .kind ≡ 4) × (typeAt (tablesOf (now file) sections) b .kind ≡ 4) ⌝ }
     ensures { λ r. ⌜ r ≡ Decide.structBelow (declared (tablesOf (now (file .entry)) sections)) (typeAt (tablesOf (now (file .entry)) sections) a .a) (typeAt (tablesOf (now (file .entry)) sections) b .a) ⌝ }
 {
-    let first = entry(index, 512 + a);
-    let second = entry(index, 512 + b);
+    let first = struct_record(index, a);
+    let second = struct_record(index, b);
     if sections.structs <= first {
         return false;
     }

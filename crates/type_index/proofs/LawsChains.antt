@@ -23,8 +23,8 @@ use Rattle.oat.proofs.LawsSame.{same-sound}
 use Rattle.oat.proofs.LawsWritten.{type-struct, type-array, type-function, type-nullable}
 use Rattle.file_sections.specs.declared.Sections.{Sections}
 use Rattle.file_sections.specs.Layout.{tablesOf, GoodTables}
-use Rattle.type_index.specs.Index.{declared, firstBelow, structNamed, bucketOf, topOf, Chained, Cleared, Firsts, Indexed}
-use Rattle.type_index.proofs.LawsIndex.{firstOf, first-equal, first-most, first-passes, firsts-more, indexed-more}
+use Rattle.type_index.specs.Index.{declared, firstBelow, structNamed, lowestEntry, structEntry, formedEntry, bucketOf, topOf, Chained, Cleared, Indexed}
+use Rattle.type_index.proofs.LawsIndex.{firstOf, first-equal, first-most, first-passes, indexed-more}
 use Rattle.type_index.proofs.LawsSameTypes.{kind-is, kind-most, array-kept, function-kept, nullable-kept}
 
 -- the name that a type has, and the type of its operand a
@@ -102,9 +102,10 @@ module _ (s : List ℕ) (S : Sections) (i k : ℕ) (ek : k ≡ kindAt (tablesOf 
       pub operand-lower : a < i
       operand-lower = omega (arith, operand-of s S i R h (omega arith) (λ e. n (ek ∙ e)) .lower)
 
-      pub bucket-referred : (index : List ℕ) (e : ℕ) → Firsts index (tablesOf s S) i → e ≡ getD index a 0 → (e + k) % 64 ≡ bucketOf (tablesOf s S) i
-      bucket-referred index e F ee =
-          ap₂ (λ x y. (x + y) % 64) (ee ∙ F .first a operand-lower ∙ ap (firstOf (typeOf (tablesOf s S))) ea) ek
+      pub bucket-referred : (index : List ℕ) (e : ℕ) → Indexed index (tablesOf s S) i → e ≡ getD index a 0 → (e + k) % 64 ≡ bucketOf (tablesOf s S) i
+      unfolding lowestEntry
+      bucket-referred index e I ee =
+          ap₂ (λ x y. (x + y) % 64) (ee ∙ I .lowest a operand-lower ∙ ap (firstOf (typeOf (tablesOf s S))) ea) ek
           ∙ sym (bucket-other (tablesOf s S) i (omega arith) (λ x. n (ek ∙ x)))
 
       pub operand-in : (index : List ℕ) → Indexed index (tablesOf s S) i → a < length index
@@ -218,9 +219,10 @@ module _ (s : List ℕ) (S : Sections) (index : List ℕ) (i : ℕ) where
   }
 
   module _ (after : ℕ) (w : Walks (tablesOf s S) i after) (l : 0 < after) where
-    pub walk-found : (t : Bool) (e : ℕ) → t ≡ sameTy (typeOf (tablesOf s S) (after - 1)) (typeOf (tablesOf s S) i) → t ≡ true → e ≡ getD index (after - 1) 0 → Firsts index (tablesOf s S) i → e ≡ firstBelow i (λ k. sameTy (typeOf (tablesOf s S) k) (typeOf (tablesOf s S) i))
-    walk-found t e et f ee F =
-        ee ∙ F .first (after - 1) (omega (arith, w .most)) ∙ first-equal (typeOf (tablesOf s S)) (after - 1) i (same-sound _ _ (sym et ∙ f))
+    pub walk-found : (t : Bool) (e : ℕ) → t ≡ sameTy (typeOf (tablesOf s S) (after - 1)) (typeOf (tablesOf s S) i) → t ≡ true → e ≡ getD index (after - 1) 0 → Indexed index (tablesOf s S) i → e ≡ firstBelow i (λ k. sameTy (typeOf (tablesOf s S) k) (typeOf (tablesOf s S) i))
+    unfolding lowestEntry
+    walk-found t e et f ee I =
+        ee ∙ I .lowest (after - 1) (omega (arith, w .most)) ∙ first-equal (typeOf (tablesOf s S)) (after - 1) i (same-sound _ _ (sym et ∙ f))
 
     module _ (n : ℕ) (C : Chained index (tablesOf s S) i) (en : n ≡ getD index (1536 + (after - 1)) 0) where
       walk-link : n ≡ topOf (tablesOf s S) (bucketOf (tablesOf s S) i) (after - 1)
@@ -319,14 +321,11 @@ module _ (index : List ℕ) (i b v w : ℕ) where
   linked-below j h =
       getD-set-other (set index (1536 + i) v) (2048 + b) j w 0 (λ x. omega arith) ∙ getD-set-other index (1536 + i) j v 0 (λ x. omega arith)
 
-  firsts-linked : (T : Tables) (n : ℕ) → n ≤ 512 → Firsts index T n → Firsts (set (set index (1536 + i) v) (2048 + b) w) T n
-  firsts-linked T n h F = record { first = λ k l. linked-below k (omega arith) ∙ F .first k l }
-
   indexed-linked : (T : Tables) (n : ℕ) → n ≤ 512 → Indexed index T n → Indexed (set (set index (1536 + i) v) (2048 + b) w) T n
+  unfolding lowestEntry structEntry formedEntry
   indexed-linked T n h I = record {
     long = simp length-set (I .long);
-    lowest = λ k l. rw (linked-below k (omega arith)) (I .lowest k l);
-    same = λ j k l m. rw (linked-below j (omega arith), linked-below k (omega arith)) (I .same j k l m);
+    lowest = λ k l. linked-below k (omega arith) ∙ I .lowest k l;
     named = λ k l. linked-below (512 + k) (omega arith) ∙ I .named k l;
     formed = λ k l. ap (λ x. eqb x 1) (linked-below (1024 + k) (omega arith)) ∙ I .formed k l;
   }
@@ -338,14 +337,9 @@ module _ (s : List ℕ) (S : Sections) (index index′ : List ℕ) (i b e r m : 
       let low : i < 512 = omega (arith, R .laid .types-most) in
       subst (λ x. Chained x (tablesOf s S) (i + 1)) (sym is) (chained-more (tablesOf s S) _ i b (chained-stored (tablesOf s S) index i e r m C low) eb l low)
 
-  module _ (F : Firsts index (tablesOf s S) i) (ee : e ≡ firstBelow i (λ j. sameTy (typeOf (tablesOf s S) j) (typeOf (tablesOf s S) i))) (I : Indexed index (tablesOf s S) i) where
-    pub one-firsts : Firsts index′ (tablesOf s S) (i + 1)
-    one-firsts =
-        subst (λ x. Firsts x (tablesOf s S) (i + 1)) (sym is) (firsts-linked _ i b _ (i + 1) (tablesOf s S) (i + 1) (omega (arith, R .laid .types-most)) (firsts-more s S index i e r m R h F ee I))
-
-    pub one-indexed : (f : Bool) → r ≡ structNamed (tablesOf s S) i → f ≡ isFormed (declared (tablesOf s S)) (typeOf (tablesOf s S) i) → m ≡ pick f 1 0 → Indexed index′ (tablesOf s S) (i + 1)
-    one-indexed f er ef em =
-        subst (λ x. Indexed x (tablesOf s S) (i + 1)) (sym is) (indexed-linked _ i b _ (i + 1) (tablesOf s S) (i + 1) (omega (arith, R .laid .types-most)) (indexed-more s S index i e r m R h F ee I f er ef em))
+  pub one-indexed : (f : Bool) → Indexed index (tablesOf s S) i → e ≡ firstBelow i (λ j. sameTy (typeOf (tablesOf s S) j) (typeOf (tablesOf s S) i)) → r ≡ structNamed (tablesOf s S) i → f ≡ isFormed (declared (tablesOf s S)) (typeOf (tablesOf s S) i) → m ≡ pick f 1 0 → Indexed index′ (tablesOf s S) (i + 1)
+  one-indexed f I ee er ef em =
+      subst (λ x. Indexed x (tablesOf s S) (i + 1)) (sym is) (indexed-linked _ i b _ (i + 1) (tablesOf s S) (i + 1) (omega (arith, R .laid .types-most)) (indexed-more s S index i e r m R h I f ee er ef em))
 
 -- no type yet
 pub cleared-none : (index : List ℕ) → Cleared index 0

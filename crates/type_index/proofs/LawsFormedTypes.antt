@@ -6,7 +6,6 @@ use mathlib.Core.Logic.{_⊎_, ⊎-elim}
 use Prim.Native.Nat.{ℕ, zero, suc, _+_, _≤_, _<_}
 use native.Mathlib.Nat.{add-zero}
 use native.Mathlib.Omega.{arith}
-use lib.ListN.{getD}
 use lib.Dec.{eqb, ltb}
 use borrow.Author.Tests.{not-true, not-false}
 use Rattle.oat.specs.Basics.{pick, allBelow}
@@ -20,7 +19,7 @@ use Rattle.oat.proofs.LawsWritten.{type-struct, type-array, type-function, type
 use Rattle.file_sections.specs.declared.Sections.{Sections}
 use Rattle.file_sections.specs.Layout.{tablesOf, GoodTables}
 use Rattle.file_sections.proofs.LawsRecords.{structs-long}
-use Rattle.type_index.specs.Index.{declared, recordOf, structNamed, paramsFormed, Indexed, Listed}
+use Rattle.type_index.specs.Index.{declared, recordOf, structNamed, formedEntry, paramsFormed, Indexed}
 use Rattle.type_index.proofs.LawsIndex.{loop-fails, loop-goes, loop-done, none-tested, lookup-is, names-struct}
 use Rattle.type_index.proofs.LawsSameTypes.{all-front, all-same, plain, kind-is, array-kept, function-kept, nullable-kept}
 
@@ -34,7 +33,7 @@ module _ (index : List ℕ) (T : Tables) (first : ℕ) where
   unfolding paramsFormed
   all-formed count j h k a = loop-done count _ j h k a
 
-  module _ (j x : ℕ) (t : Bool) (ex : x ≡ entryAt T (first + j)) (et : t ≡ eqb (getD index (1024 + x) 0) 1) where
+  module _ (j x : ℕ) (t : Bool) (ex : x ≡ entryAt T (first + j)) (et : t ≡ formedEntry index x) where
     pub param-unformed : (count : ℕ) → j < count → not t ≡ true → false ≡ paramsFormed index T first count
     unfolding paramsFormed
     param-unformed count h f = loop-fails count _ j t h f (et ∙ rw ex)
@@ -106,21 +105,21 @@ module _ (s : List ℕ) (S : Sections) (i : ℕ) where
       rw (type-struct (tablesOf s S) i (omega arith), lookup-is (tablesOf s S) (typeAt (tablesOf s S) i .a), structs-long s S, ← is) (sym (found-by _ _ refl))
 
   module _ (index : List ℕ) (R : GoodTables s S) (h : i < S .types) (I : Indexed index (tablesOf s S) i) where
-    formed-at : (x : ℕ) (r : Bool) → x < i → r ≡ eqb (getD index (1024 + x) 0) 1 → r ≡ isFormed (declared (tablesOf s S)) (typeOf (tablesOf s S) x)
+    formed-at : (x : ℕ) (r : Bool) → x < i → r ≡ formedEntry index x → r ≡ isFormed (declared (tablesOf s S)) (typeOf (tablesOf s S) x)
     formed-at x r l e = e ∙ I .formed x l
 
     -- a lower type that isn't void
-    value-at : (x : ℕ) (r : Bool) → LowerValue (tablesOf s S) i x → r ≡ eqb (getD index (1024 + x) 0) 1 → r ≡ forms (declared (tablesOf s S)) (typeOf (tablesOf s S) x) .typ
+    value-at : (x : ℕ) (r : Bool) → LowerValue (tablesOf s S) i x → r ≡ formedEntry index x → r ≡ forms (declared (tablesOf s S)) (typeOf (tablesOf s S) x) .typ
     value-at x r v e =
         formed-at x r (v .lower) e
         ∙ sym (value-same (declared (tablesOf s S)) (typeOf (tablesOf s S) x) (λ z. v .value (sym (kind-is s S R x (omega (arith, v .lower))) ∙ z)))
 
-    pub formed-referred : (k x : ℕ) (r : Bool) → k ≡ kindAt (tablesOf s S) i → (k ≡ 5) ⊎ (k ≡ 7) → x ≡ typeAt (tablesOf s S) i .a → r ≡ eqb (getD index (1024 + x) 0) 1 → r ≡ isFormed (declared (tablesOf s S)) (typeOf (tablesOf s S) i)
+    pub formed-referred : (k x : ℕ) (r : Bool) → k ≡ kindAt (tablesOf s S) i → (k ≡ 5) ⊎ (k ≡ 7) → x ≡ typeAt (tablesOf s S) i .a → r ≡ formedEntry index x → r ≡ isFormed (declared (tablesOf s S)) (typeOf (tablesOf s S) i)
     unfolding forms isFormed
     formed-referred k x r ek d ex er = ⊎-elim of-array of-nullable d
       where
-        stands : r ≡ eqb (getD index (1024 + typeAt (tablesOf s S) i .a) 0) 1
-        stands = er ∙ ap (λ u. eqb (getD index (1024 + u) 0) 1) ex
+        stands : r ≡ formedEntry index (typeAt (tablesOf s S) i .a)
+        stands = er ∙ ap (formedEntry index) ex
 
         of-array : k ≡ 5 → r ≡ isFormed (declared (tablesOf s S)) (typeOf (tablesOf s S) i)
         of-array f =
@@ -156,12 +155,8 @@ module _ (s : List ℕ) (S : Sections) (i : ℕ) where
       pub unformed-params : not u ≡ true → false ≡ isFormed (declared (tablesOf s S)) (typeOf (tablesOf s S) i)
       unformed-params n = sym (function-is ∙ and-left _ _ (sym params-are ∙ not-true u n))
 
-      pub formed-function : (x : ℕ) (r : Bool) → not u ≡ false → x ≡ typeAt (tablesOf s S) i .a → r ≡ eqb (getD index (1024 + x) 0) 1 → r ≡ isFormed (declared (tablesOf s S)) (typeOf (tablesOf s S) i)
+      pub formed-function : (x : ℕ) (r : Bool) → not u ≡ false → x ≡ typeAt (tablesOf s S) i .a → r ≡ formedEntry index x → r ≡ isFormed (declared (tablesOf s S)) (typeOf (tablesOf s S) i)
       formed-function x r n ex er =
-          formed-at _ r (function-kept s S R i h k .returns) (er ∙ ap (λ z. eqb (getD index (1024 + z) 0) 1) ex)
+          formed-at _ r (function-kept s S R i h k .returns) (er ∙ ap (formedEntry index) ex)
           ∙ ap (λ z. z && isFormed (declared (tablesOf s S)) (typeOf (tablesOf s S) (typeAt (tablesOf s S) i .a))) (sym (not-false u n) ∙ params-are)
           ∙ sym function-is
-
--- the mark of a parameter lies in the index
-pub listed-marked : (s : List ℕ) (S : Sections) (first count j x n : ℕ) → Listed s S first count → j < count → x ≡ entryAt (tablesOf s S) (first + j) → 1536 ≤ n → 1024 + x < n
-listed-marked s S first count j x n L h e l = omega (arith, L .below j h)

@@ -1,6 +1,6 @@
 -- Laws of the index: the first number that passes a test, the struct that a name means, equal types under their lowest number, and
 -- an index with one type more. Assumes nothing.
-use mathlib.Core.Path.{_≡_, refl, ap, sym, _∙_}
+use mathlib.Core.Path.{_≡_, refl, ap, ap₂, sym, _∙_}
 use mathlib.Core.Bool.{Bool, true, false, not, false≢true}
 use mathlib.Core.List.{List}
 use mathlib.Core.Logic.{⊎-elim}
@@ -23,7 +23,7 @@ use Rattle.oat.proofs.LawsSame.{both-true, same-is, same-sound}
 use Rattle.file_sections.specs.declared.Sections.{Sections}
 use Rattle.file_sections.specs.Layout.{tablesOf, GoodTables}
 use Rattle.file_sections.proofs.LawsRecords.{structs-long}
-use Rattle.type_index.specs.Index.{declared, firstBelow, recordOf, structNamed, Indexed, Firsts}
+use Rattle.type_index.specs.Index.{declared, firstBelow, recordOf, structNamed, lowestEntry, structEntry, formedEntry, Entered, Indexed}
 
 -- a loop that tests the numbers below n, one after another
 module _ (n : ℕ) (p : ℕ → Bool) (i : ℕ) where
@@ -161,6 +161,28 @@ module _ (t : ℕ → Ty) where
       (sameTy (t i) (t j))
       (λ e. same-is (t i) (t j) .1 (sym (first-type i) ∙ ap t (eqb-true (firstOf i) (firstOf j) e) ∙ first-type j), λ s. eq-eqb (firstOf i) (firstOf j) (first-equal i j (same-sound (t i) (t j) s)))
 
+-- entries read at their places
+module _ (index : List ℕ) where
+  pub lowest-read : (a b x y : ℕ) → x ≡ getD index a 0 → y ≡ getD index b 0 → eqb x y ≡ eqb (lowestEntry index a) (lowestEntry index b)
+  unfolding lowestEntry
+  lowest-read a b x y ex ey = ap₂ eqb ex ey
+
+  pub struct-read : (i x : ℕ) → x ≡ getD index (512 + i) 0 → x ≡ structEntry index i
+  unfolding structEntry
+  struct-read i x e = e
+
+  pub formed-read : (i x : ℕ) → x ≡ getD index (1024 + i) 0 → eqb x 1 ≡ formedEntry index i
+  unfolding formedEntry
+  formed-read i x e = ap (λ y. eqb y 1) e
+
+-- the index of a file has places for the entries of its types
+pub entered : {s : List ℕ} {S : Sections} {index : List ℕ} {n i : ℕ} → GoodTables s S → Indexed index (tablesOf s S) n → i < S .types → Entered index i
+entered R I h = record { low = omega (arith, R .laid .types-most); long = I .long }
+
+-- indexed types are equal where their lowest numbers are
+pub entries-same : {index : List ℕ} {T : Tables} {n : ℕ} → Indexed index T n → (i j : ℕ) → i < n → j < n → eqb (lowestEntry index i) (lowestEntry index j) ≡ sameTy (typeOf T i) (typeOf T j)
+entries-same {T = T} I i j l m = ap₂ eqb (I .lowest i l) (I .lowest j m) ∙ firsts-same (typeOf T) i j
+
 -- the struct that a type names
 module _ (s : List ℕ) (S : Sections) (i k : ℕ) (ek : k ≡ kindAt (tablesOf s S) i) where
   pub names-struct : (a r : ℕ) → k ≡ 4 → a ≡ typeAt (tablesOf s S) i .a → r ≡ recordOf (tablesOf s S) a → r ≡ structNamed (tablesOf s S) i
@@ -209,24 +231,19 @@ marked true = refl
 marked false = refl
 
 -- one type more
-module _ (s : List ℕ) (S : Sections) (index : List ℕ) (i e r m : ℕ) (R : GoodTables s S) (h : i < S .types) (F : Firsts index (tablesOf s S) i) (ee : e ≡ firstBelow i (λ j. sameTy (typeOf (tablesOf s S) j) (typeOf (tablesOf s S) i))) (I : Indexed index (tablesOf s S) i) where
+module _ (s : List ℕ) (S : Sections) (index : List ℕ) (i e r m : ℕ) (R : GoodTables s S) (h : i < S .types) (I : Indexed index (tablesOf s S) i) where
   below-512 : i < 512
   below-512 = omega (arith, R .laid .types-most)
 
-  pub firsts-more : Firsts (set (set (set index i e) (512 + i) r) (1024 + i) m) (tablesOf s S) (i + 1)
-  firsts-more = record {
-    first = below-more
+  pub indexed-more : (f : Bool) → e ≡ firstBelow i (λ j. sameTy (typeOf (tablesOf s S) j) (typeOf (tablesOf s S) i)) → r ≡ structNamed (tablesOf s S) i → f ≡ isFormed (declared (tablesOf s S)) (typeOf (tablesOf s S) i) → m ≡ pick f 1 0 → Indexed (set (set (set index i e) (512 + i) r) (1024 + i) m) (tablesOf s S) (i + 1)
+  unfolding lowestEntry structEntry formedEntry
+  indexed-more f ee er ef em = record {
+    long = simp length-set (I .long);
+    lowest = below-more
         (λ k. getD (set (set (set index i e) (512 + i) r) (1024 + i) m) k 0 ≡ firstOf (typeOf (tablesOf s S)) k)
         i
-        (λ k l. kept-first index i e r m (I .long) below-512 k l ∙ F .first k l)
+        (λ k l. kept-first index i e r m (I .long) below-512 k l ∙ I .lowest k l)
         (own-first index i e r m (I .long) below-512 ∙ ee);
-  }
-
-  pub indexed-more : (f : Bool) → r ≡ structNamed (tablesOf s S) i → f ≡ isFormed (declared (tablesOf s S)) (typeOf (tablesOf s S) i) → m ≡ pick f 1 0 → Indexed (set (set (set index i e) (512 + i) r) (1024 + i) m) (tablesOf s S) (i + 1)
-  indexed-more f er ef em = record {
-    long = simp length-set (I .long);
-    lowest = λ k l. rw (firsts-more .first k l) (first-most _ k);
-    same = λ j k l n. rw (firsts-more .first j l, firsts-more .first k n) (firsts-same (typeOf (tablesOf s S)) j k);
     named = below-more
         (λ k. getD (set (set (set index i e) (512 + i) r) (1024 + i) m) (512 + k) 0 ≡ structNamed (tablesOf s S) k)
         i
@@ -244,13 +261,9 @@ pub indexed-none : (index : List ℕ) (T : Tables) → 1536 ≤ length index →
 indexed-none index T h = record {
   long = h;
   lowest = λ i l. absurd (not-suc-le-zero l);
-  same = λ i j l k. absurd (not-suc-le-zero l);
   named = λ i l. absurd (not-suc-le-zero l);
   formed = λ i l. absurd (not-suc-le-zero l);
 }
-
-pub firsts-none : (index : List ℕ) (T : Tables) → Firsts index T 0
-firsts-none index T = record { first = λ i l. absurd (not-suc-le-zero l) }
 
 -- every type
 pub indexed-all : (index : List ℕ) (T : Tables) (i n : ℕ) → i ≤ n → n ≤ i → Indexed index T i → Indexed index T n

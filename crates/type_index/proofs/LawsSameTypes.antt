@@ -7,7 +7,7 @@ use mathlib.Core.Logic.{_⊎_, inl, inr, ⊎-elim}
 use Prim.Native.Nat.{ℕ, zero, suc, _+_, _≤_, _<_}
 use native.Mathlib.Nat.{add-zero}
 use native.Mathlib.Omega.{arith}
-use lib.ListN.{length, getD}
+use lib.ListN.{length}
 use lib.Dec.{eqb, ltb}
 use borrow.Author.Tests.{ltb-true, ltb-false, ne-eqb, not-true, not-false}
 use Rattle.oat.specs.Basics.{pick, allBelow}
@@ -22,8 +22,8 @@ use Rattle.oat.proofs.LawsWritten.{type-struct, type-array, type-function, type
 use Rattle.file_sections.specs.declared.Sections.{Sections}
 use Rattle.file_sections.specs.Layout.{tablesOf, GoodTables}
 use Rattle.file_sections.proofs.LawsRecords.{types-long, list-long}
-use Rattle.type_index.specs.Index.{sameParams, Indexed, Listed, Operand, Parameters}
-use Rattle.type_index.proofs.LawsIndex.{loop-fails, loop-goes, loop-done, none-tested}
+use Rattle.type_index.specs.Index.{lowestEntry, sameParams, Entered, Indexed, Listed, Operand, Parameters}
+use Rattle.type_index.proofs.LawsIndex.{loop-fails, loop-goes, loop-done, none-tested, entries-same}
 
 -- all from the first on, and tests that agree
 pub all-front : (n : ℕ) (p : ℕ → Bool) → allBelow (suc n) p ≡ (p 0 && allBelow n (λ j. p (suc j)))
@@ -134,7 +134,7 @@ module _ (s : List ℕ) (S : Sections) (a b : ℕ) where
         rw (type-struct (tablesOf s S) a (omega arith), type-struct (tablesOf s S) b (omega arith)) (ap₂ eqb ex ey)
 
     module _ (index : List ℕ) (R : GoodTables s S) (l : a < b) (h : b < S .types) (I : Indexed index (tablesOf s S) b) where
-      pub same-referred : (r : Bool) → (j ≡ 5) ⊎ (j ≡ 7) → r ≡ eqb (getD index (typeAt (tablesOf s S) a .a) 0) (getD index (typeAt (tablesOf s S) b .a) 0) → r ≡ sameTy (typeOf (tablesOf s S) a) (typeOf (tablesOf s S) b)
+      pub same-referred : (r : Bool) → (j ≡ 5) ⊎ (j ≡ 7) → r ≡ eqb (lowestEntry index (typeAt (tablesOf s S) a .a)) (lowestEntry index (typeAt (tablesOf s S) b .a)) → r ≡ sameTy (typeOf (tablesOf s S) a) (typeOf (tablesOf s S) b)
       unfolding sameTy
       same-referred r d er = ⊎-elim of-array of-nullable d
         where
@@ -142,17 +142,13 @@ module _ (s : List ℕ) (S : Sections) (a b : ℕ) where
           of-array f =
               let p = array-kept s S R a (omega arith) (omega arith) .lower in
               let q = array-kept s S R b h (omega arith) .lower in
-              rw (type-array (tablesOf s S) a (omega arith) p, type-array (tablesOf s S) b (omega arith) q) (er ∙ I .same _ _ (omega arith) q)
+              rw (type-array (tablesOf s S) a (omega arith) p, type-array (tablesOf s S) b (omega arith) q) (er ∙ entries-same I _ _ (omega arith) q)
 
           of-nullable : j ≡ 7 → r ≡ sameTy (typeOf (tablesOf s S) a) (typeOf (tablesOf s S) b)
           of-nullable f =
               let p = nullable-kept s S R a (omega arith) (omega arith) .lower in
               let q = nullable-kept s S R b h (omega arith) .lower in
-              rw (type-nullable (tablesOf s S) a (omega arith) p, type-nullable (tablesOf s S) b (omega arith) q) (er ∙ I .same _ _ (omega arith) q)
-
--- entries of the index at equal numbers
-pub operands-from : (index : List ℕ) (p q m n : ℕ) (u : Bool) → m ≡ p → n ≡ q → u ≡ eqb (getD index m 0) (getD index n 0) → u ≡ eqb (getD index p 0) (getD index q 0)
-operands-from index p q m n u em en e = e ∙ rw (em, en)
+              rw (type-nullable (tablesOf s S) a (omega arith) p, type-nullable (tablesOf s S) b (omega arith) q) (er ∙ entries-same I _ _ (omega arith) q)
 
 -- a loop over parameters
 module _ (index : List ℕ) (T : Tables) (p q : ℕ) where
@@ -167,7 +163,7 @@ module _ (index : List ℕ) (T : Tables) (p q : ℕ) where
   unfolding sameParams
   params-done count j h k a = loop-done count _ j h k a
 
-  module _ (j x y : ℕ) (t : Bool) (ex : x ≡ entryAt T (p + j)) (ey : y ≡ entryAt T (q + j)) (et : t ≡ eqb (getD index x 0) (getD index y 0)) where
+  module _ (j x y : ℕ) (t : Bool) (ex : x ≡ entryAt T (p + j)) (ey : y ≡ entryAt T (q + j)) (et : t ≡ eqb (lowestEntry index x) (lowestEntry index y)) where
     pub param-differs : (count : ℕ) → j < count → not t ≡ true → false ≡ sameParams index T p q count
     unfolding sameParams
     param-differs count h f = loop-fails count _ j t h f (et ∙ rw (ex, ey))
@@ -176,14 +172,14 @@ module _ (index : List ℕ) (T : Tables) (p q : ℕ) where
     unfolding sameParams
     params-more a f = loop-goes 0 _ j t a f (et ∙ rw (ex, ey))
 
--- the entry of a parameter lies in the index
-pub listed-in : (s : List ℕ) (S : Sections) (first count j x n : ℕ) → Listed s S first count → j < count → x ≡ entryAt (tablesOf s S) (first + j) → 1536 ≤ n → x < n
-listed-in s S first count j x n L h e l = omega (arith, L .below j h)
+-- the index has places for the entries of a parameter
+pub listed-in : (s : List ℕ) (S : Sections) (index : List ℕ) (first count j x : ℕ) → Listed s S first count → j < count → x ≡ entryAt (tablesOf s S) (first + j) → 1536 ≤ length index → Entered index x
+listed-in s S index first count j x L h e l = record { low = omega (arith, L .below j h); long = l }
 
 -- parameters are equal where their entries in the index are
 params-same : (index : List ℕ) (T : Tables) (i p q count : ℕ) → Indexed index T i → ((j : ℕ) → j < count → entryAt T (p + j) < i) → ((j : ℕ) → j < count → entryAt T (q + j) < i) → sameParams index T p q count ≡ sameTys (writtenParams (typeOf T) T p count) (writtenParams (typeOf T) T q count)
 unfolding sameParams
-params-same index T i p q count I f g = all-same count _ _ (λ j h. I .same _ _ (f j h) (g j h)) ∙ sym (sames-written T count p q)
+params-same index T i p q count I f g = all-same count _ _ (λ j h. entries-same I _ _ (f j h) (g j h)) ∙ sym (sames-written T count p q)
 
 -- what a type refers to is lower
 module _ (s : List ℕ) (S : Sections) (i : ℕ) (R : GoodTables s S) (h : i < S .types) where
@@ -223,27 +219,34 @@ module _ (s : List ℕ) (S : Sections) (i first count : ℕ) where
   pub params-listed : first ≡ typeAt (tablesOf s S) i .b → count ≡ typeAt (tablesOf s S) i .c → GoodTables s S → i < S .types → kindAt (tablesOf s S) i ≡ 6 → Listed s S first count
   params-listed eb ec R h k = parameters-listed eb (parameters-in s S i count R h k ec)
 
--- the entries of what a type refers to lie in the index
-module _ (s : List ℕ) (S : Sections) (i n : ℕ) (R : GoodTables s S) (h : i < S .types) (long : 1536 ≤ n) where
-  referred-in : (k : ℕ) → k ≡ kindAt (tablesOf s S) i → (k ≡ 5) ⊎ (k ≡ 7) → Operand s S i n
-  referred-in k ek d = record { there = h; below = omega (arith, referred-lower s S i R h k _ ek d refl, R .laid .types-most) }
+-- the index has places for the entries of what a type refers to
+module _ (s : List ℕ) (S : Sections) (index : List ℕ) (i : ℕ) (R : GoodTables s S) (h : i < S .types) (long : 1536 ≤ length index) where
+  module _ (x : ℕ) (ex : x ≡ typeAt (tablesOf s S) i .a) where
+    pub referred-entered : (k : ℕ) → k ≡ kindAt (tablesOf s S) i → (k ≡ 5) ⊎ (k ≡ 7) → Entered index x
+    referred-entered k ek d = record { low = omega (arith, referred-lower s S i R h k x ek d ex, R .laid .types-most); long = long }
 
-  pub referred-as : (j k : ℕ) → k ≡ kindAt (tablesOf s S) i → j ≡ k → (j ≡ 5) ⊎ (j ≡ 7) → Operand s S i n
+    pub returns-entered : kindAt (tablesOf s S) i ≡ 6 → Entered index x
+    returns-entered k = record { low = omega (arith, returns-lower s S i R h x k ex, R .laid .types-most); long = long }
+
+  referred-in : (k : ℕ) → k ≡ kindAt (tablesOf s S) i → (k ≡ 5) ⊎ (k ≡ 7) → Operand s S index i
+  referred-in k ek d = record { there = h; entered = referred-entered _ refl k ek d }
+
+  pub referred-as : (j k : ℕ) → k ≡ kindAt (tablesOf s S) i → j ≡ k → (j ≡ 5) ⊎ (j ≡ 7) → Operand s S index i
   referred-as j k ek e = referred-in j (e ∙ ek)
 
-  pub returns-in : kindAt (tablesOf s S) i ≡ 6 → Operand s S i n
-  returns-in k = record { there = h; below = omega (arith, returns-lower s S i R h _ k refl, R .laid .types-most) }
-
-  module _ (x : ℕ) (ex : x ≡ typeAt (tablesOf s S) i .a) where
-    pub referred-marked : (k : ℕ) → k ≡ kindAt (tablesOf s S) i → (k ≡ 5) ⊎ (k ≡ 7) → 1024 + x < n
-    referred-marked k ek d = omega (arith, referred-lower s S i R h k x ek d ex, R .laid .types-most)
-
-    pub returns-marked : kindAt (tablesOf s S) i ≡ 6 → 1024 + x < n
-    returns-marked k = omega (arith, returns-lower s S i R h x k ex, R .laid .types-most)
+  pub returns-in : kindAt (tablesOf s S) i ≡ 6 → Operand s S index i
+  returns-in k = record { there = h; entered = returns-entered _ refl k }
 
 -- a lower one of two types
-pub low-referred-in : (s : List ℕ) (S : Sections) (a b n k : ℕ) → GoodTables s S → b < S .types → 1536 ≤ n → k ≡ kindAt (tablesOf s S) a → (k ≡ 5) ⊎ (k ≡ 7) → a < b → Operand s S a n
-low-referred-in s S a b n k R h long ek d l = referred-in s S a n R (omega arith) long k ek d
+pub low-referred-in : (s : List ℕ) (S : Sections) (index : List ℕ) (a b k : ℕ) → GoodTables s S → b < S .types → 1536 ≤ length index → k ≡ kindAt (tablesOf s S) a → (k ≡ 5) ⊎ (k ≡ 7) → a < b → Operand s S index a
+low-referred-in s S index a b k R h long ek d l = referred-in s S index a R (omega arith) long k ek d
+
+-- equal operands, as the index has it
+pub operands-from : (index : List ℕ) (p q m n : ℕ) (u : Bool) → m ≡ p → n ≡ q → u ≡ eqb (lowestEntry index m) (lowestEntry index n) → u ≡ eqb (lowestEntry index p) (lowestEntry index q)
+operands-from index p q m n u em en e = e ∙ rw (em, en)
+
+pub operand-entered : (s : List ℕ) (S : Sections) (index : List ℕ) (i x : ℕ) → x ≡ typeAt (tablesOf s S) i .a → Operand s S index i → Entered index x
+operand-entered s S index i x e O = rw e (O .entered)
 
 -- two function types
 module _ (s : List ℕ) (S : Sections) (a b : ℕ) (R : GoodTables s S) (l : a < b) (h : b < S .types) (ka : kindAt (tablesOf s S) a ≡ 6) (kb : kindAt (tablesOf s S) b ≡ 6) where
@@ -274,9 +277,9 @@ module _ (s : List ℕ) (S : Sections) (a b : ℕ) (R : GoodTables s S) (l : a <
     pub params-apart : not u ≡ true → false ≡ sameTy (typeOf (tablesOf s S) a) (typeOf (tablesOf s S) b)
     params-apart f = sym (same-function ∙ and-left _ _ (sym params-is ∙ not-true u f))
 
-    pub function-rest : (r : Bool) → not u ≡ false → r ≡ eqb (getD index (typeAt (tablesOf s S) a .a) 0) (getD index (typeAt (tablesOf s S) b .a) 0) → r ≡ sameTy (typeOf (tablesOf s S) a) (typeOf (tablesOf s S) b)
+    pub function-rest : (r : Bool) → not u ≡ false → r ≡ eqb (lowestEntry index (typeAt (tablesOf s S) a .a)) (lowestEntry index (typeAt (tablesOf s S) b .a)) → r ≡ sameTy (typeOf (tablesOf s S) a) (typeOf (tablesOf s S) b)
     function-rest r f er =
         er
-        ∙ I .same _ _ (omega (arith, function-kept s S R a (omega arith) ka .returns)) (function-kept s S R b h kb .returns)
+        ∙ entries-same I _ _ (omega (arith, function-kept s S R a (omega arith) ka .returns)) (function-kept s S R b h kb .returns)
         ∙ ap (λ z. z && sameTy (typeOf (tablesOf s S) (typeAt (tablesOf s S) a .a)) (typeOf (tablesOf s S) (typeAt (tablesOf s S) b .a))) (sym (not-false u f) ∙ params-is)
         ∙ sym same-function

@@ -33,17 +33,28 @@ recordOf T x = firstBelow (length (T .structs)) (λ i. eqb (structAt T i .name) 
 unfoldable pub structNamed : Tables → ℕ → ℕ
 structNamed T i = pick (eqb (kindAt T i) 4) (recordOf T (typeAt T i .a)) (length (T .structs))
 
+-- what the index has for the type i: the lowest number of an equal type, the first record of the struct that the type names, and
+-- whether the type is well-formed
+unfoldable pub lowestEntry : List ℕ → ℕ → ℕ
+lowestEntry index i = getD index i 0
+
+unfoldable pub structEntry : List ℕ → ℕ → ℕ
+structEntry index i = getD index (512 + i) 0
+
+unfoldable pub formedEntry : List ℕ → ℕ → Bool
+formedEntry index i = eqb (getD index (1024 + i) 0) 1
+
+-- the index has places for these entries
+pub record Entered (index : List ℕ) (i : ℕ) : Type 0 where
+  pub low : i < 512
+  pub long : 1536 ≤ length index
+
 -- the first n types are indexed
 pub record Indexed (index : List ℕ) (T : Tables) (n : ℕ) : Type 0 where
   pub long : 1536 ≤ length index
-  pub lowest : (i : ℕ) → i < n → getD index i 0 ≤ i
-  pub same : (i j : ℕ) → i < n → j < n → eqb (getD index i 0) (getD index j 0) ≡ sameTy (typeOf T i) (typeOf T j)
-  pub named : (i : ℕ) → i < n → getD index (512 + i) 0 ≡ structNamed T i
-  pub formed : (i : ℕ) → i < n → eqb (getD index (1024 + i) 0) 1 ≡ isFormed (declared T) (typeOf T i)
-
--- every entry of the first n types is the first equal type
-pub record Firsts (index : List ℕ) (T : Tables) (n : ℕ) : Type 0 where
-  pub first : (i : ℕ) → i < n → getD index i 0 ≡ firstBelow i (λ j. sameTy (typeOf T j) (typeOf T i))
+  pub lowest : (i : ℕ) → i < n → lowestEntry index i ≡ firstBelow i (λ j. sameTy (typeOf T j) (typeOf T i))
+  pub named : (i : ℕ) → i < n → structEntry index i ≡ structNamed T i
+  pub formed : (i : ℕ) → i < n → formedEntry index i ≡ isFormed (declared T) (typeOf T i)
 
 -- the chain of the type i, below 64: a base type's by its kind, a struct's by its name, any other type's by its kind and the first type
 -- equal to its operand a
@@ -74,21 +85,21 @@ pub record Listed (s : List ℕ) (S : Sections) (first count : ℕ) : Type 0 whe
   pub room : first + count ≤ S .list
   pub below : (j : ℕ) → j < count → entryAt (tablesOf s S) (first + j) < 512
 
--- the file has a type i, whose operand a is below n
-pub record Operand (s : List ℕ) (S : Sections) (i n : ℕ) : Type 0 where
+-- the file has a type i, and the index has places for the entries of its operand a
+pub record Operand (s : List ℕ) (S : Sections) (index : List ℕ) (i : ℕ) : Type 0 where
   pub there : i < S .types
-  pub below : typeAt (tablesOf s S) i .a < n
+  pub entered : Entered index (typeAt (tablesOf s S) i .a)
 
 -- the file has a type i, and the `count` parameters that it names
 pub record Parameters (s : List ℕ) (S : Sections) (i count : ℕ) : Type 0 where
   pub there : i < S .types
   pub listed : Listed s S (typeAt (tablesOf s S) i .b) count
 
--- `count` parameters from the entries p and q of the type list on have equal entries in the index
+-- `count` parameters from the entries p and q of the type list on are equal, one by one, as the index has it
 unfoldable pub sameParams : List ℕ → Tables → ℕ → ℕ → ℕ → Bool
 sameParams index T p q count =
-    allBelow count (λ j. eqb (getD index (entryAt T (p + j)) 0) (getD index (entryAt T (q + j)) 0))
+    allBelow count (λ j. eqb (lowestEntry index (entryAt T (p + j))) (lowestEntry index (entryAt T (q + j))))
 
 -- `count` parameters from the entry `first` of the type list on are well-formed, as the index has it
 unfoldable pub paramsFormed : List ℕ → Tables → ℕ → ℕ → Bool
-paramsFormed index T first count = allBelow count (λ j. eqb (getD index (1024 + entryAt T (first + j)) 0) 1)
+paramsFormed index T first count = allBelow count (λ j. formedEntry index (entryAt T (first + j)))

@@ -1,7 +1,7 @@
 // Well-formed types. The entry 512 + i of the index is the first record of the struct that the type i names, or the number of
 // structs; the entry 1024 + i is 1 where the type i is well-formed, else 0.
+use crate::entries::entry;
 use crate::records::record_of;
-use crate::same::entry;
 use file_sections::Sections;
 use file_sections::records::list_entry;
 use file_sections::records::type_a;
@@ -9,14 +9,13 @@ use file_sections::records::type_b;
 use file_sections::records::type_c;
 use file_sections::records::type_kind;
 ghost use mathlib.Core.Path.{_≡_};
-ghost use Prim.Native.Nat.{_+_, _<_, _≤_};
-ghost use lib.Dec.{eqb};
-ghost use lib.ListN.{length, getD};
+ghost use Prim.Native.Nat.{_<_, _≤_};
+ghost use lib.ListN.{length};
 ghost use Rattle.oat.specs.TypeRules.{kindAt};
 ghost use Rattle.oat.specs.Types.{typeOf};
 ghost use Rattle.oat.specs.Decide.{isFormed};
 ghost use Rattle.file_sections.specs.Layout.{Laid, Has, tablesOf, GoodTables};
-ghost use Rattle.type_index.specs.Index.{declared, structNamed, paramsFormed, Indexed, Listed};
+ghost use Rattle.type_index.specs.Index.{declared, structNamed, structEntry, formedEntry, paramsFormed, Entered, Indexed, Listed};
 ghost use Rattle.type_index.specs.Records.{Recorded};
 
 // The first record of the struct that the type i names, or the number of structs.
@@ -30,10 +29,18 @@ pub fn struct_of(file: &[u8], sections: Sections, records: &[u16], i: usize) -> 
     sections.structs
 }
 
-// The type i is well-formed, as a return type.
+// What the index has for the struct that the type i names: where i is indexed, its first record, or the number of structs.
+pub fn struct_record(index: &[u16], i: usize) -> usize
+    requires { ⌜ Entered (now index) i ⌝ }
+    ensures { λ r. ⌜ r ≡ structEntry (now (index .entry)) i ⌝ }
+{
+    entry(index, 512 + i)
+}
+
+// The index has i for well-formed: where i is indexed, this type is well-formed, as a return type.
 pub fn is_formed(index: &[u16], i: usize) -> bool
-    requires { ⌜ 1024 + i < length (now index) ⌝ }
-    ensures { λ r. ⌜ r ≡ eqb (getD (now (index .entry)) (1024 + i) 0) 1 ⌝ }
+    requires { ⌜ Entered (now index) i ⌝ }
+    ensures { λ r. ⌜ r ≡ formedEntry (now (index .entry)) i ⌝ }
 {
     entry(index, 1024 + i) == 1
 }

@@ -12,7 +12,7 @@ ghost use Prim.Native.Nat.{_+_, _<_, _≤_};
 ghost use lib.ListN.{length, getD, set};
 ghost use Rattle.oat.specs.Basics.{pick};
 ghost use Rattle.file_sections.specs.Layout.{tablesOf, GoodTables};
-ghost use Rattle.type_index.specs.Index.{Chained, Cleared, Firsts, Indexed};
+ghost use Rattle.type_index.specs.Index.{Chained, Cleared, Indexed};
 ghost use Rattle.type_index.specs.Records.{Recorded};
 
 // 1 where the test passes, else 0.
@@ -38,9 +38,8 @@ fn link(index: &mut [u16], i: usize, bucket: usize)
 fn index_one(file: &[u8], sections: Sections, records: &[u16], index: &mut [u16], i: usize)
     requires { ⌜ Recorded (now records) (tablesOf (now file) sections) (sections .structs) ⌝ }
     requires { ⌜ GoodTables (now file) sections × (i < sections .types) × Indexed (now index) (tablesOf (now file) sections) i ⌝ }
-    requires { ⌜ Firsts (now index) (tablesOf (now file) sections) i × Chained (now index) (tablesOf (now file) sections) i ⌝ }
+    requires { ⌜ Chained (now index) (tablesOf (now file) sections) i ⌝ }
     ensures { λ _. ⌜ Indexed (now (index .exit)) (tablesOf (now (file .entry)) sections) (i + 1) ⌝ }
-    ensures { λ _. ⌜ Firsts (now (index .exit)) (tablesOf (now (file .entry)) sections) (i + 1) ⌝ }
     ensures { λ _. ⌜ Chained (now (index .exit)) (tablesOf (now (file .entry)) sections) (i + 1) ⌝ }
 {
     let chain = bucket(file, sections, &*index, i);

@@ -1,7 +1,7 @@
 // The struct records by name: chains. The first 64 numbers of `records` are the heads of chains, one for the names of each remainder by
 // 64; the number 64 + k leads from a record to the next of its chain. Records count from the last one here, so that a chain leads
 // from lower to higher records: k stands for the record `structs - 1 - k`. All one higher, 0 for none.
-use crate::same::entry;
+use crate::entries::entry;
 use file_sections::Sections;
 use file_sections::records::struct_name;
 ghost use mathlib.Core.Path.{_≡_};

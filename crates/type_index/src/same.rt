@@ -1,5 +1,6 @@
 // Equal types under their lowest number. The entry i of the index is the lowest number of a type equal to the type i. It is found by a
 // walk along a chain, from the head at 2048 + bucket over the links at 1536 + j, since equal types have equal buckets.
+use crate::entries::entry;
 use file_sections::Sections;
 use file_sections::records::list_entry;
 use file_sections::records::type_a;
@@ -7,34 +8,20 @@ use file_sections::records::type_b;
 use file_sections::records::type_c;
 use file_sections::records::type_kind;
 ghost use mathlib.Core.Path.{_≡_};
-ghost use Prim.Native.Nat.{_+_, _<_, _≤_};
+ghost use Prim.Native.Nat.{_<_, _≤_};
 ghost use lib.Dec.{eqb};
-ghost use lib.ListN.{length, getD};
+ghost use lib.ListN.{length};
 ghost use Rattle.oat.specs.Tables.{typeAt};
 ghost use Rattle.oat.specs.TypeRules.{kindAt};
 ghost use Rattle.oat.specs.Types.{typeOf};
 ghost use Rattle.oat.specs.Decide.{sameTy};
 ghost use Rattle.file_sections.specs.Layout.{Laid, tablesOf, GoodTables};
-ghost use Rattle.type_index.specs.Index.{firstBelow, sameParams, bucketOf, Chained, Firsts, Indexed, Listed, Operand, Parameters};
+ghost use Rattle.type_index.specs.Index.{firstBelow, lowestEntry, sameParams, bucketOf, Chained, Entered, Indexed, Listed, Operand, Parameters};
 
-// The entry i of the index.
-pub fn entry(index: &[u16], i: usize) -> usize
-    requires { ⌜ i < length (now index) ⌝ }
-    ensures { λ r. ⌜ (r ≡ getD (now (index .entry)) i 0) × (r < 65536) ⌝ }
-{
-    wide(index[i])
-}
-
-fn wide(x: u16) -> usize
-    ensures { λ r. ⌜ (r ≡ x) × (r < 65536) ⌝ }
-{
-    x as usize
-}
-
-// The types a and b are equal as written out.
+// The index has the same lowest number for a and b: where both are indexed, these types are equal as written out.
 pub fn same(index: &[u16], a: usize, b: usize) -> bool
-    requires { ⌜ (a < length (now index)) × (b < length (now index)) ⌝ }
-    ensures { λ r. ⌜ r ≡ eqb (getD (now (index .entry)) a 0) (getD (now (index .entry)) b 0) ⌝ }
+    requires { ⌜ Entered (now index) a × Entered (now index) b ⌝ }
+    ensures { λ r. ⌜ r ≡ eqb (lowestEntry (now (index .entry)) a) (lowestEntry (now (index .entry)) b) ⌝ }
 {
     entry(index, a) == entry(index, b)
 }
@@ -84,8 +71,8 @@ fn same_parameters(
 
 // The types that two types have for their operand a are equal: elements, references or return types.
 fn same_operands(file: &[u8], sections: Sections, index: &[u16], a: usize, b: usize) -> bool
-    requires { ⌜ Laid (now file) sections × Operand (now file) sections a (length (now index)) × Operand (now file) sections b (length (now index)) ⌝ }
-    ensures { λ r. ⌜ r ≡ eqb (getD (now (index .entry)) (typeAt (tablesOf (now (file .entry)) sections) a .a) 0) (getD (now (index .entry)) (typeAt (tablesOf (now (file .entry)) sections) b .a) 0) ⌝ }
+    requires { ⌜ Laid (now file) sections × Operand (now file) sections (now index) a × Operand (now file) sections (now index) b ⌝ }
+    ensures { λ r. ⌜ r ≡ eqb (lowestEntry (now (index .entry)) (typeAt (tablesOf (now (file .entry)) sections) a .a)) (lowestEntry (now (index .entry)) (typeAt (tablesOf (now (file .entry)) sections) b .a)) ⌝ }
 {
     same(index, type_a(file, sections, a), type_a(file, sections, b))
 }
@@ -126,7 +113,6 @@ fn same_lower(file: &[u8], sections: Sections, index: &[u16], a: usize, b: usize
 // The bucket of the type i, where lower types are indexed: equal types have equal buckets.
 pub fn bucket(file: &[u8], sections: Sections, index: &[u16], i: usize) -> usize
     requires { ⌜ GoodTables (now file) sections × (i < sections .types) × Indexed (now index) (tablesOf (now file) sections) i ⌝ }
-    requires { ⌜ Firsts (now index) (tablesOf (now file) sections) i ⌝ }
     ensures { λ r. ⌜ (r ≡ bucketOf (tablesOf (now (file .entry)) sections) i) × (r < 64) ⌝ }
 {
     let kind = type_kind(file, sections, i);
@@ -144,7 +130,7 @@ pub fn bucket(file: &[u8], sections: Sections, index: &[u16], i: usize) -> usize
 // The lowest number of a type equal to the type i, where lower types are indexed and chained, and i belongs to the bucket.
 pub fn lowest(file: &[u8], sections: Sections, index: &[u16], i: usize, bucket: usize) -> usize
     requires { ⌜ GoodTables (now file) sections × (i < sections .types) × Indexed (now index) (tablesOf (now file) sections) i ⌝ }
-    requires { ⌜ Firsts (now index) (tablesOf (now file) sections) i × Chained (now index) (tablesOf (now file) sections) i ⌝ }
+    requires { ⌜ Chained (now index) (tablesOf (now file) sections) i ⌝ }
     requires { ⌜ (bucket ≡ bucketOf (tablesOf (now file) sections) i) × (bucket < 64) ⌝ }
     ensures { λ r. ⌜ r ≡ firstBelow i (λ j. sameTy (typeOf (tablesOf (now (file .entry)) sections) j) (typeOf (tablesOf (now (file .entry)) sections) i)) ⌝ }
 {

@@ -5,7 +5,7 @@ use Prim.Native.Nat.{_-_, _≤_}
 use borrow.Author.Needs.{needs}
 use Rattle.file_sections.specs.Layout.{tablesOf}
 use Rattle.steps.specs.Contract.{typesFormed}
-use Rattle.steps.proofs.LawsNames.{no-field-formed, all-fields-formed, field-unformed, more-fields-formed, field-marked}
+use Rattle.steps.proofs.LawsNames.{no-field-formed, all-fields-formed, field-unformed, more-fields-formed, field-entered}
 use Rattle.steps.proofs.names.types_formed.Statement.{statement}
 use Rattle.steps.proofs.names.types_formed.Tie as tie
 
@@ -24,7 +24,7 @@ types-formed-spec =
     (λ c. (search needs, search (no-field-formed, needs)))
     (λ c. search needs)
     (λ c κs. search needs)
-    (λ c κs. search (field-marked, needs))
+    (λ c κs. search (field-entered, needs))
     (λ c. search (field-unformed, needs))
     (λ c. search needs)
     (λ c. search needs)

@@ -7,6 +7,7 @@ use native.Mathlib.Omega.{arith}
 use borrow.Author.Needs.{needs}
 use borrow.Fn.Kinds.{In}
 use borrow.Fn.PlainCycle.{Measures, is, falls, and}
+use Rattle.type_index.proofs.LawsIndex.{entered}
 use Rattle.subtyping.proofs.LawsTypesBelow.{array-lower, nullable-lower, returns-lower, params-of, params-too, kinds-apart, below-4, from-7, string-held, other-held, base-below, struct-is, array-is, nullable-is, counts-differ, params-fail, returns-are, no-params, first-lower, other-params, first-fails, others-decide}
 use Rattle.subtyping.proofs.below.below.Reads as below
 use Rattle.subtyping.proofs.below.below.Kinds as below-kinds
@@ -165,7 +166,7 @@ pub +below+function-below+kind-below+params-below-spec : {M : Type 1} → statem
     let A = c .before .before .before .before .before in
     let x : c .before .type-a .result < A .args .a = search (array-lower, needs) in
     let y : c .type-a2 .result < A .args .b = search (array-lower, needs) in
-    search needs)
+    (search (entered, needs), search (entered, needs)))
     (λ c κs. (omega arith, search needs))
     (λ c κs. search needs)
     (λ c κs. search needs)

@@ -1,6 +1,6 @@
 -- `formed::formed_lower` meets its contract. Assumes nothing.
 use borrow.Author.Needs.{needs}
-use Rattle.type_index.proofs.LawsSameTypes.{referred-marked}
+use Rattle.type_index.proofs.LawsSameTypes.{referred-entered}
 use Rattle.type_index.proofs.LawsFormedTypes.{formed-struct, formed-referred, formed-plain}
 use Rattle.type_index.proofs.formed.formed_lower.Statement.{statement}
 use Rattle.type_index.proofs.formed.formed_lower.Tie as tie
@@ -11,7 +11,7 @@ formed-lower-spec =
     (tie.spec
     (λ c κs. search needs)
     (λ c κs. search needs)
-    (λ c κs. search (referred-marked, needs))
+    (λ c κs. search (referred-entered, needs))
     (λ c κs. search needs)
     (λ c. search (formed-struct, needs))
     (λ c. search (formed-referred, needs))

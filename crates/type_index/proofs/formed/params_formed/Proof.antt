@@ -5,7 +5,8 @@ use Prim.Native.Nat.{_-_, _≤_}
 use borrow.Author.Needs.{needs}
 use Rattle.file_sections.specs.Layout.{tablesOf}
 use Rattle.type_index.specs.Index.{paramsFormed}
-use Rattle.type_index.proofs.LawsFormedTypes.{none-formed, param-unformed, more-formed, all-formed, listed-marked}
+use Rattle.type_index.proofs.LawsSameTypes.{listed-in}
+use Rattle.type_index.proofs.LawsFormedTypes.{none-formed, param-unformed, more-formed, all-formed}
 use Rattle.type_index.proofs.formed.params_formed.Statement.{statement}
 use Rattle.type_index.proofs.formed.params_formed.Tie as tie
 
@@ -24,7 +25,7 @@ params-formed-spec =
     (λ c. (search needs, search (none-formed, needs)))
     (λ c. search needs)
     (λ c κs. search needs)
-    (λ c κs. search (listed-marked, needs))
+    (λ c κs. search (listed-in, needs))
     (λ c. search (param-unformed, needs))
     (λ c. search needs)
     (λ c. search needs)

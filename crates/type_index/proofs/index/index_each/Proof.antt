@@ -4,14 +4,14 @@ use Prim.Native.Nat.{_-_, _≤_}
 use lib.ListN.{length}
 use borrow.Author.Needs.{needs}
 use Rattle.file_sections.specs.Layout.{tablesOf}
-use Rattle.type_index.specs.Index.{Chained, Firsts, Indexed}
-use Rattle.type_index.proofs.LawsIndex.{indexed-none, firsts-none, indexed-all}
+use Rattle.type_index.specs.Index.{Chained, Indexed}
+use Rattle.type_index.proofs.LawsIndex.{indexed-none, indexed-all}
 use Rattle.type_index.proofs.LawsChains.{chained-none}
 use Rattle.type_index.proofs.index.index_each.Statement.{statement}
 use Rattle.type_index.proofs.index.index_each.Tie as tie
 
 abbrev Inv-loop : tie.InvT-loop
-Inv-loop file sections records index₀ i₀ index i = (i ≤ sections .types) × Indexed index (tablesOf file sections) i × Firsts index (tablesOf file sections) i × Chained index (tablesOf file sections) i × (length index ≡ length index₀)
+Inv-loop file sections records index₀ i₀ index i = (i ≤ sections .types) × Indexed index (tablesOf file sections) i × Chained index (tablesOf file sections) i × (length index ≡ length index₀)
 
 abbrev μ-loop : tie.MeasureT-loop
 μ-loop file sections records index₀ i₀ index i = sections .types - i
@@ -23,7 +23,7 @@ index-each-spec =
     Inv-loop
     μ-loop
     (λ c κs. search needs)
-    (λ c. (search needs, indexed-none _ _ (search needs), search (firsts-none, needs), chained-none _ _ (search needs) (search needs), search needs))
+    (λ c. (search needs, indexed-none _ _ (search needs), chained-none _ _ (search needs) (search needs), search needs))
     (λ c κs. search needs)
     (λ c. search needs)
     (λ c. search needs)

@@ -4,7 +4,7 @@ use native.Mathlib.Omega.{arith}
 use lib.ListN.{length-set}
 use borrow.Author.Needs.{needs}
 use Rattle.type_index.proofs.LawsIndex.{first-fits, named-fits}
-use Rattle.type_index.proofs.LawsChains.{one-indexed, one-firsts, one-chained}
+use Rattle.type_index.proofs.LawsChains.{one-indexed, one-chained}
 use Rattle.type_index.proofs.index.index_one.Statement.{statement}
 use Rattle.type_index.proofs.index.index_one.Tie as tie
 
@@ -29,4 +29,4 @@ index-one-spec =
     (λ c. simp length-set (omega arith))
     (λ c κs. (simp length-set (omega arith), search needs, search needs))
     (λ c. c .before .before .link .kept .0 ∙ simp length-set refl)
-    (λ c. (search (one-indexed, needs), (search (one-firsts, needs), search (one-chained, needs)))))
+    (λ c. (search (one-indexed, needs), search (one-chained, needs))))

@@ -24,7 +24,7 @@ lowest-spec =
     (λ c. search needs)
     (λ c κs. search needs)
     (λ c κs. search needs)
-    (λ c. walk-found _ _ _ _ _ (c .before .before .before .before .loop .inv) (c .before .before .before .loop-test .taken) _ _ (c .before .before .same-lower .ensures) (c .before .if1 .taken) (c .entry2 .ensures .0) (c .before .before .before .before .before .before .before .before .pre .1 .0 .0))
+    (λ c. walk-found _ _ _ _ _ (c .before .before .before .before .loop .inv) (c .before .before .before .loop-test .taken) _ _ (c .before .before .same-lower .ensures) (c .before .if1 .taken) (c .entry2 .ensures .0) (c .before .before .before .before .before .before .before .before .pre .0 .2))
     (λ c. search needs)
     (λ c κs. search needs)
     (λ c. search (walk-falls, needs))

@@ -15,7 +15,7 @@ use Rattle.type_index.proofs.formed.is_formed.Reads as is-formed-reads
 use Rattle.expressions.proofs.cycle.+array+binary+call+element+equality+expression+field+filled+filling+inits+length_of+list+operator+structure+unary+zeroed.Proof.Measures.{array-at, list-below}
 use Rattle.expressions.proofs.LawsMeets.{unlisted}
 use Rattle.expressions.proofs.LawsChild.{has-node}
-use Rattle.expressions.proofs.LawsLists.{array-type, array-entry, array-list, array-unformed, array-no, array-row, array-ok}
+use Rattle.expressions.proofs.LawsLists.{array-type, array-entered, array-list, array-unformed, array-no, array-row, array-ok}
 
 abbrev claims : ℕ → array-lts.Claims
 claims t = (node-t-reads.Asked, node-t-reads.Learnt, type-a-reads.Asked, type-a-reads.Learnt, is-formed-reads.Asked, is-formed-reads.Learnt, refused-reads.Asked, refused-reads.Learnt, node-children-reads.Asked, node-children-reads.Learnt, list-below t, list.Post, typed-reads.Asked, typed-reads.Learnt)
@@ -27,7 +27,7 @@ type-a-requires : (t : ℕ) → array-lts.Need-type-a-requires (claims t) (array
 type-a-requires t c κs = array-type (c .before .before .before .before .before .before .pre .1 .0) (c .before .before .before .before .before .before .pre .1 .1) (c .node-t .ensures .0)
 
 is-formed-requires : (t : ℕ) → array-lts.Need-is-formed-requires (claims t) (array-at t) array.Post
-is-formed-requires t c κs = array-entry (c .before .before .before .before .before .before .before .pre .1 .0) (c .before .before .before .before .before .before .before .pre .1 .1) (c .before .node-t .ensures .0) (c .type-a .ensures .0)
+is-formed-requires t c κs = array-entered (c .before .before .before .before .before .before .before .pre .1 .0) (c .before .before .before .before .before .before .before .pre .1 .1) (c .before .node-t .ensures .0) (c .type-a .ensures .0)
 
 returns : (t : ℕ) → array-lts.Need-returns (claims t) (array-at t) array.Post
 returns t c = array-unformed (c .before .before .before .before .before .before .before .before .before .before .pre .1 .0) (c .before .before .before .before .before .before .before .before .before .before .pre .1 .1) (c .before .before .before .before .node-t .ensures .0) (c .before .before .before .type-a .ensures .0) (c .before .before .is-formed .ensures) (c .before .if1 .taken) (c .refused .ensures)

@@ -11,15 +11,15 @@ use Rattle.answers.proofs.answer.typed.Reads as typed-reads
 use Rattle.fields.proofs.lookup.field_of.Reads as field-of-reads
 use Rattle.file_sections.proofs.records.node_x.Reads as node-x-reads
 use Rattle.file_sections.proofs.records.type_kind.Reads as type-kind-reads
-use Rattle.type_index.proofs.same.entry.Reads as entry-reads
+use Rattle.type_index.proofs.formed.struct_record.Reads as struct-record-reads
 use Rattle.expressions.proofs.cycle.+array+binary+call+element+equality+expression+field+filled+filling+inits+length_of+list+operator+structure+unary+zeroed.Proof.Measures.{field-at, expression-below}
 use Rattle.expressions.proofs.LawsMeets.{untyped}
-use Rattle.expressions.proofs.LawsChild.{has-node, named-entry, child-within, child-type, child-fine}
+use Rattle.expressions.proofs.LawsChild.{has-node, type-entered, child-within, child-type, child-fine}
 use Rattle.expressions.proofs.LawsSorts.{field-first, field-no, field-sort, field-unknown, field-within, field-ok}
 use Rattle.expressions.proofs.LawsLists.{row-fits}
 
 abbrev claims : ℕ → field-lts.Claims
-claims t = (expression-below t, expression.Post, type-kind-reads.Asked, type-kind-reads.Learnt, refused-reads.Asked, refused-reads.Learnt, entry-reads.Asked, entry-reads.Learnt, node-x-reads.Asked, node-x-reads.Learnt, field-of-reads.Asked, field-of-reads.Learnt, typed-reads.Asked, typed-reads.Learnt)
+claims t = (expression-below t, expression.Post, type-kind-reads.Asked, type-kind-reads.Learnt, refused-reads.Asked, refused-reads.Learnt, struct-record-reads.Asked, struct-record-reads.Learnt, node-x-reads.Asked, node-x-reads.Learnt, field-of-reads.Asked, field-of-reads.Learnt, typed-reads.Asked, typed-reads.Learnt)
 
 add-expression : (t : ℕ) → field-lts.Need-add-expression (claims t) (field-at t) field.Post
 add-expression t c = omega (arith, (c .before .before .before .before .before .before .before .before .pre .1 .0) .within, (c .before .before .before .before .before .before .before .before .pre .1 .0) .fine .good-tables .laid .nodes-most)
@@ -36,11 +36,8 @@ type-kind-requires t c κs = child-type (field-first (c .before .before .before 
 returns-2 : (t : ℕ) → field-lts.Need-returns-2 (claims t) (field-at t) field.Post
 returns-2 t c = field-sort (c .before .before .before .before .before .before .before .before .before .before .before .before .before .before .before .before .before .before .before .before .before .pre .1 .0) (c .before .before .before .before .before .before .before .before .before .before .before .before .before .before .before .before .before .before .before .before .before .pre .1 .1) (c .before .before .before .before .before .before .before .before .before .before .before .before .expression .ensures) (c .before .before .before .before .judgement .given .1) (c .before .before .type-kind .ensures .0) (c .before .if1 .taken) (c .refused .ensures)
 
-add-entry : (t : ℕ) → field-lts.Need-add-entry (claims t) (field-at t) field.Post
-add-entry t c = omega (arith, child-within (field-first (c .before .before .before .before .before .before .before .before .before .before .before .before .before .before .before .before .before .before .before .before .pre .1 .0) (c .before .before .before .before .before .before .before .before .before .before .before .before .before .before .before .before .before .before .before .before .pre .1 .1)) (c .before .before .before .before .before .before .before .before .before .before .before .expression .ensures) (c .before .before .before .judgement .given .1), (c .before .before .before .before .before .before .before .before .before .before .before .before .before .before .before .before .before .before .before .before .pre .1 .0) .fine .good-tables .laid .types-most)
-
-entry-requires : (t : ℕ) → field-lts.Need-entry-requires (claims t) (field-at t) field.Post
-entry-requires t c κs = named-entry ((c .before .before .before .before .before .before .before .before .before .before .before .before .before .before .before .before .before .before .before .before .pre .1 .0) .fine) (child-within (field-first (c .before .before .before .before .before .before .before .before .before .before .before .before .before .before .before .before .before .before .before .before .pre .1 .0) (c .before .before .before .before .before .before .before .before .before .before .before .before .before .before .before .before .before .before .before .before .pre .1 .1)) (c .before .before .before .before .before .before .before .before .before .before .before .expression .ensures) (c .before .before .before .judgement .given .1))
+struct-record-requires : (t : ℕ) → field-lts.Need-struct-record-requires (claims t) (field-at t) field.Post
+struct-record-requires t c κs = type-entered ((c .before .before .before .before .before .before .before .before .before .before .before .before .before .before .before .before .before .before .before .before .pre .1 .0) .fine) (child-within (field-first (c .before .before .before .before .before .before .before .before .before .before .before .before .before .before .before .before .before .before .before .before .pre .1 .0) (c .before .before .before .before .before .before .before .before .before .before .before .before .before .before .before .before .before .before .before .before .pre .1 .1)) (c .before .before .before .before .before .before .before .before .before .before .before .expression .ensures) (c .before .before .before .judgement .given .1))
 
 node-x-requires : (t : ℕ) → field-lts.Need-node-x-requires (claims t) (field-at t) field.Post
 node-x-requires t c κs = has-node ((c .before .before .before .before .before .before .before .before .before .before .before .before .before .before .before .before .before .before .before .before .before .pre .1 .0) .fine .good-tables) ((c .before .before .before .before .before .before .before .before .before .before .before .before .before .before .before .before .before .before .before .before .before .pre .1 .0) .within)
@@ -49,10 +46,10 @@ field-of-requires : (t : ℕ) → field-lts.Need-field-of-requires (claims t) (f
 field-of-requires t c κs = (c .before .before .before .before .before .before .before .before .before .before .before .before .before .before .before .before .before .before .before .before .before .before .pre .1 .0) .fine .good-tables
 
 returns-3 : (t : ℕ) → field-lts.Need-returns-3 (claims t) (field-at t) field.Post
-returns-3 t c = field-unknown (c .before .before .before .before .before .before .before .before .before .before .before .before .before .before .before .before .before .before .before .before .before .before .before .before .before .before .pre .1 .0) (c .before .before .before .before .before .before .before .before .before .before .before .before .before .before .before .before .before .before .before .before .before .before .before .before .before .before .pre .1 .1) (c .before .before .before .before .before .before .before .before .before .before .before .before .before .before .before .before .before .expression .ensures) (c .before .before .before .before .before .before .before .before .before .judgement .given .1) (c .before .before .before .before .before .before .before .type-kind .ensures .0) (c .before .before .before .before .before .before .if1 .left) (c .before .before .before .before .before .entry .ensures .0) (c .before .before .before .before .node-x .ensures .0) _ (c .before .before .before .field-of .ensures) (c .before .enum-told .given .1) (c .refused2 .ensures)
+returns-3 t c = field-unknown (c .before .before .before .before .before .before .before .before .before .before .before .before .before .before .before .before .before .before .before .before .before .before .before .before .before .before .pre .1 .0) (c .before .before .before .before .before .before .before .before .before .before .before .before .before .before .before .before .before .before .before .before .before .before .before .before .before .before .pre .1 .1) (c .before .before .before .before .before .before .before .before .before .before .before .before .before .before .before .before .before .expression .ensures) (c .before .before .before .before .before .before .before .before .before .judgement .given .1) (c .before .before .before .before .before .before .before .type-kind .ensures .0) (c .before .before .before .before .before .before .if1 .left) (c .before .before .before .before .before .struct-record .ensures) (c .before .before .before .before .node-x .ensures .0) _ (c .before .before .before .field-of .ensures) (c .before .enum-told .given .1) (c .refused2 .ensures)
 
 typed-requires : (t : ℕ) → field-lts.Need-typed-requires (claims t) (field-at t) field.Post
-typed-requires t c κs = row-fits (child-fine (field-first (c .before .before .before .before .before .before .before .before .before .before .before .before .before .before .before .before .before .before .before .before .before .before .before .before .before .before .before .pre .1 .0) (c .before .before .before .before .before .before .before .before .before .before .before .before .before .before .before .before .before .before .before .before .before .before .before .before .before .before .before .pre .1 .1)) (c .before .before .before .before .before .before .before .before .before .before .before .before .before .before .before .before .before .before .expression .ensures) (c .before .before .before .before .before .before .before .before .before .before .judgement .given .1)) ((c .before .before .before .before .before .before .before .before .before .before .before .before .before .before .before .before .before .before .before .before .before .before .before .before .before .before .before .pre .1 .0) .within) (field-within (c .before .before .before .before .before .before .before .before .before .before .before .before .before .before .before .before .before .before .before .before .before .before .before .before .before .before .before .pre .1 .0) (c .before .before .before .before .before .before .before .before .before .before .before .before .before .before .before .before .before .before .before .before .before .before .before .before .before .before .before .pre .1 .1) (c .before .before .before .before .before .before .before .before .before .before .before .before .before .before .before .before .before .before .expression .ensures) (c .before .before .before .before .before .before .before .before .before .before .judgement .given .1) (c .before .before .before .before .before .before .before .before .type-kind .ensures .0) (c .before .before .before .before .before .before .before .if1 .left) (c .before .before .before .before .before .before .entry .ensures .0) (c .before .before .before .before .before .node-x .ensures .0) _ (c .before .before .before .before .field-of .ensures) (c .before .before .found .given .1))
+typed-requires t c κs = row-fits (child-fine (field-first (c .before .before .before .before .before .before .before .before .before .before .before .before .before .before .before .before .before .before .before .before .before .before .before .before .before .before .before .pre .1 .0) (c .before .before .before .before .before .before .before .before .before .before .before .before .before .before .before .before .before .before .before .before .before .before .before .before .before .before .before .pre .1 .1)) (c .before .before .before .before .before .before .before .before .before .before .before .before .before .before .before .before .before .before .expression .ensures) (c .before .before .before .before .before .before .before .before .before .before .judgement .given .1)) ((c .before .before .before .before .before .before .before .before .before .before .before .before .before .before .before .before .before .before .before .before .before .before .before .before .before .before .before .pre .1 .0) .within) (field-within (c .before .before .before .before .before .before .before .before .before .before .before .before .before .before .before .before .before .before .before .before .before .before .before .before .before .before .before .pre .1 .0) (c .before .before .before .before .before .before .before .before .before .before .before .before .before .before .before .before .before .before .before .before .before .before .before .before .before .before .before .pre .1 .1) (c .before .before .before .before .before .before .before .before .before .before .before .before .before .before .before .before .before .before .expression .ensures) (c .before .before .before .before .before .before .before .before .before .before .judgement .given .1) (c .before .before .before .before .before .before .before .before .type-kind .ensures .0) (c .before .before .before .before .before .before .before .if1 .left) (c .before .before .before .before .before .before .struct-record .ensures) (c .before .before .before .before .before .node-x .ensures .0) _ (c .before .before .before .before .field-of .ensures) (c .before .before .found .given .1))
 
 same-length-10 : (t : ℕ) → field-lts.Need-same-length-10 (claims t) (field-at t) field.Post
 same-length-10 t c = omega (arith, c .before .before .before .before .before .before .before .before .before .before .before .before .before .before .before .before .before .before .before .before .before .expression, c .before .before .typed)
@@ -64,7 +61,7 @@ same-length-12 : (t : ℕ) → field-lts.Need-same-length-12 (claims t) (field-a
 same-length-12 t c = omega (arith, c .before .before .before .before .before .before .before .before .before .before .before .before .before .before .before .before .before .before .before .before .before .expression, c .before .before .typed)
 
 returns-4 : (t : ℕ) → field-lts.Need-returns-4 (claims t) (field-at t) field.Post
-returns-4 t c = field-ok (c .before .before .before .before .before .before .before .before .before .before .before .before .before .before .before .before .before .before .before .before .before .before .before .before .before .before .before .before .before .before .pre .1 .0) (c .before .before .before .before .before .before .before .before .before .before .before .before .before .before .before .before .before .before .before .before .before .before .before .before .before .before .before .before .before .before .pre .1 .1) (c .before .before .before .before .before .before .before .before .before .before .before .before .before .before .before .before .before .before .before .before .before .expression .ensures) (c .before .before .before .before .before .before .before .before .before .before .before .before .before .judgement .given .1) (c .before .before .before .before .before .before .before .before .before .before .before .type-kind .ensures .0) (c .before .before .before .before .before .before .before .before .before .before .if1 .left) (c .before .before .before .before .before .before .before .before .before .entry .ensures .0) (c .before .before .before .before .before .before .before .before .node-x .ensures .0) _ (c .before .before .before .before .before .before .before .field-of .ensures) (c .before .before .before .before .before .found .given .1) (c .before .before .typed .ensures .0) (c .before .before .typed .ensures .1)
+returns-4 t c = field-ok (c .before .before .before .before .before .before .before .before .before .before .before .before .before .before .before .before .before .before .before .before .before .before .before .before .before .before .before .before .before .before .pre .1 .0) (c .before .before .before .before .before .before .before .before .before .before .before .before .before .before .before .before .before .before .before .before .before .before .before .before .before .before .before .before .before .before .pre .1 .1) (c .before .before .before .before .before .before .before .before .before .before .before .before .before .before .before .before .before .before .before .before .before .expression .ensures) (c .before .before .before .before .before .before .before .before .before .before .before .before .before .judgement .given .1) (c .before .before .before .before .before .before .before .before .before .before .before .type-kind .ensures .0) (c .before .before .before .before .before .before .before .before .before .before .if1 .left) (c .before .before .before .before .before .before .before .before .before .struct-record .ensures) (c .before .before .before .before .before .before .before .before .node-x .ensures .0) _ (c .before .before .before .before .before .before .before .field-of .ensures) (c .before .before .before .before .before .found .given .1) (c .before .before .typed .ensures .0) (c .before .before .typed .ensures .1)
 
 pub closed : {M : Type 1} (t : ℕ) → field-lts.Closed (claims t) (field-at t) field.Post M
-closed t = field-lts.spec (claims t) (field-at t) field.Post (add-expression t) (expression-requires t) (λ c. search needs) (λ c. search needs) (λ c. search needs) (λ c. search needs) (returns t) (type-kind-requires t) (λ c κs. search needs) (λ c. search needs) (λ c. search needs) (λ c. search needs) (returns-2 t) (add-entry t) (entry-requires t) (node-x-requires t) (field-of-requires t) (λ c. search needs) (λ c. search needs) (λ c κs. search needs) (λ c. search needs) (λ c. search needs) (λ c. search needs) (returns-3 t) (typed-requires t) (same-length-10 t) (same-length-11 t) (same-length-12 t) (returns-4 t)
+closed t = field-lts.spec (claims t) (field-at t) field.Post (add-expression t) (expression-requires t) (λ c. search needs) (λ c. search needs) (λ c. search needs) (λ c. search needs) (returns t) (type-kind-requires t) (λ c κs. search needs) (λ c. search needs) (λ c. search needs) (λ c. search needs) (returns-2 t) (struct-record-requires t) (node-x-requires t) (field-of-requires t) (λ c. search needs) (λ c. search needs) (λ c κs. search needs) (λ c. search needs) (λ c. search needs) (λ c. search needs) (returns-3 t) (typed-requires t) (same-length-10 t) (same-length-11 t) (same-length-12 t) (returns-4 t)

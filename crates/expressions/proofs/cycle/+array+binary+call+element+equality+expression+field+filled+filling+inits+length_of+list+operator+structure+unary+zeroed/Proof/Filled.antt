@@ -19,7 +19,7 @@ use Rattle.expressions.proofs.cycle.+array+binary+call+element+equality
 use Rattle.expressions.proofs.LawsMeets.{untyped}
 use Rattle.expressions.proofs.LawsChild.{has-node, child-type}
 use Rattle.expressions.proofs.LawsLists.{row-fits}
-use Rattle.expressions.proofs.LawsFilled.{filling-fine, filled-first, filled-some, filled-filling, filled-within, filled-array, filled-index, filled-unformed, filled-no, filled-sort, filled-taken, filled-no-2, filled-ok}
+use Rattle.expressions.proofs.LawsFilled.{filling-fine, filled-first, filled-some, filled-filling, filled-within, filled-array, filled-entered, filled-unformed, filled-no, filled-sort, filled-taken, filled-no-2, filled-ok}
 
 abbrev claims : ℕ → filled-lts.Claims
 claims t = (node-t-reads.Asked, node-t-reads.Learnt, type-a-reads.Asked, type-a-reads.Learnt, is-formed-reads.Asked, is-formed-reads.Learnt, refused-reads.Asked, refused-reads.Learnt, expression-below t, expression.Post, type-kind-reads.Asked, type-kind-reads.Learnt, node-x-reads.Asked, node-x-reads.Learnt, is-fresh-reads.Asked, is-fresh-reads.Learnt, filling-below t, filling.Post, typed-reads.Asked, typed-reads.Learnt)
@@ -31,7 +31,7 @@ type-a-requires : (t : ℕ) → filled-lts.Need-type-a-requires (claims t) (fill
 type-a-requires t c κs = filled-array (c .before .before .before .before .before .before .pre .1 .0) (c .before .before .before .before .before .before .pre .1 .1) (c .node-t .ensures .0)
 
 is-formed-requires : (t : ℕ) → filled-lts.Need-is-formed-requires (claims t) (filled-at t) filled.Post
-is-formed-requires t c κs = filled-index (c .before .before .before .before .before .before .before .pre .1 .0) (c .before .before .before .before .before .before .before .pre .1 .1) (c .before .node-t .ensures .0) (c .type-a .ensures .0)
+is-formed-requires t c κs = filled-entered (c .before .before .before .before .before .before .before .pre .1 .0) (c .before .before .before .before .before .before .before .pre .1 .1) (c .before .node-t .ensures .0) (c .type-a .ensures .0)
 
 returns : (t : ℕ) → filled-lts.Need-returns (claims t) (filled-at t) filled.Post
 returns t c = filled-unformed (c .before .before .before .before .before .before .before .before .before .before .pre .1 .0) (c .before .before .before .before .before .before .before .before .before .before .pre .1 .1) (c .before .before .before .before .node-t .ensures .0) (c .before .before .before .type-a .ensures .0) (c .before .before .is-formed .ensures) (c .before .if1 .taken) (c .refused .ensures)

@@ -11,26 +11,23 @@ use Rattle.answers.proofs.answer.typed.Reads as typed-reads
 use Rattle.fields.proofs.literal.names_fit.Reads as names-fit-reads
 use Rattle.file_sections.proofs.records.node_children.Reads as node-children-reads
 use Rattle.file_sections.proofs.records.node_t.Reads as node-t-reads
-use Rattle.type_index.proofs.same.entry.Reads as entry-reads
+use Rattle.type_index.proofs.formed.struct_record.Reads as struct-record-reads
 use Rattle.expressions.proofs.cycle.+array+binary+call+element+equality+expression+field+filled+filling+inits+length_of+list+operator+structure+unary+zeroed.Proof.Measures.{structure-at, inits-below}
 use Rattle.expressions.proofs.LawsMeets.{unlisted}
-use Rattle.expressions.proofs.LawsChild.{has-node, named-entry}
+use Rattle.expressions.proofs.LawsChild.{has-node, type-entered}
 use Rattle.expressions.proofs.LawsLists.{struct-within, struct-low, struct-missing, struct-named, struct-names, struct-inits, struct-no, struct-row, struct-ok}
 
 abbrev claims : ℕ → structure-lts.Claims
-claims t = (node-t-reads.Asked, node-t-reads.Learnt, entry-reads.Asked, entry-reads.Learnt, refused-reads.Asked, refused-reads.Learnt, names-fit-reads.Asked, names-fit-reads.Learnt, node-children-reads.Asked, node-children-reads.Learnt, inits-below t, inits.Post, typed-reads.Asked, typed-reads.Learnt)
+claims t = (node-t-reads.Asked, node-t-reads.Learnt, struct-record-reads.Asked, struct-record-reads.Learnt, refused-reads.Asked, refused-reads.Learnt, names-fit-reads.Asked, names-fit-reads.Learnt, node-children-reads.Asked, node-children-reads.Learnt, inits-below t, inits.Post, typed-reads.Asked, typed-reads.Learnt)
 
 node-t-requires : (t : ℕ) → structure-lts.Need-node-t-requires (claims t) (structure-at t) structure.Post
 node-t-requires t c κs = has-node ((c .before .before .before .before .before .pre .1 .0) .fine .good-tables) ((c .before .before .before .before .before .pre .1 .0) .within)
 
-add-entry : (t : ℕ) → structure-lts.Need-add-entry (claims t) (structure-at t) structure.Post
-add-entry t c = omega (arith, struct-within (c .before .before .before .before .before .before .pre .1 .0) (c .before .before .before .before .before .before .pre .1 .1) (c .node-t .ensures .0), (c .before .before .before .before .before .before .pre .1 .0) .fine .good-tables .laid .types-most)
-
-entry-requires : (t : ℕ) → structure-lts.Need-entry-requires (claims t) (structure-at t) structure.Post
-entry-requires t c κs = named-entry ((c .before .before .before .before .before .before .pre .1 .0) .fine) (struct-within (c .before .before .before .before .before .before .pre .1 .0) (c .before .before .before .before .before .before .pre .1 .1) (c .node-t .ensures .0))
+struct-record-requires : (t : ℕ) → structure-lts.Need-struct-record-requires (claims t) (structure-at t) structure.Post
+struct-record-requires t c κs = type-entered ((c .before .before .before .before .before .before .pre .1 .0) .fine) (struct-within (c .before .before .before .before .before .before .pre .1 .0) (c .before .before .before .before .before .before .pre .1 .1) (c .node-t .ensures .0))
 
 returns : (t : ℕ) → structure-lts.Need-returns (claims t) (structure-at t) structure.Post
-returns t c = struct-missing (c .before .before .before .before .before .before .before .before .before .before .pre .1 .0) (c .before .before .before .before .before .before .before .before .before .before .pre .1 .1) (c .before .before .before .before .node-t .ensures .0) (c .before .before .before .entry .ensures .0) (c .before .if1 .taken) (c .refused .ensures)
+returns t c = struct-missing (c .before .before .before .before .before .before .before .before .before .before .pre .1 .0) (c .before .before .before .before .before .before .before .before .before .before .pre .1 .1) (c .before .before .before .before .node-t .ensures .0) (c .before .before .before .struct-record .ensures) (c .before .if1 .taken) (c .refused .ensures)
 
 sub-names-fit : (t : ℕ) → structure-lts.Need-sub-names-fit (claims t) (structure-at t) structure.Post
 sub-names-fit t c = struct-low (c .before .before .before .before .before .before .before .before .before .before .before .pre .1 .0) (c .before .before .before .before .before .before .before .before .before .before .before .pre .1 .1) (c .before .before .before .before .before .node-t .ensures .0)
@@ -39,10 +36,10 @@ mul-names-fit : (t : ℕ) → structure-lts.Need-mul-names-fit (claims t) (struc
 mul-names-fit t c = omega (arith, (c .before .before .before .before .before .before .before .before .before .before .before .pre .1 .0) .fine .scoped .high, (c .before .before .before .before .before .before .before .before .before .before .before .pre .1 .0) .fine .good-tables .laid .nodes-most, (c .before .before .before .before .before .before .before .before .before .before .before .pre .1 .0) .fine .good-tables .laid .built-ins-most)
 
 names-fit-requires : (t : ℕ) → structure-lts.Need-names-fit-requires (claims t) (structure-at t) structure.Post
-names-fit-requires t c κs = struct-named (c .before .before .before .before .before .before .before .before .before .before .before .pre .1 .0) (c .before .before .before .before .before .before .before .before .before .before .before .pre .1 .1) (c .before .before .before .before .before .node-t .ensures .0) (c .before .before .before .before .entry .ensures .0) (c .before .before .if1 .left)
+names-fit-requires t c κs = struct-named (c .before .before .before .before .before .before .before .before .before .before .before .pre .1 .0) (c .before .before .before .before .before .before .before .before .before .before .before .pre .1 .1) (c .before .before .before .before .before .node-t .ensures .0) (c .before .before .before .before .struct-record .ensures) (c .before .before .if1 .left)
 
 returns-2 : (t : ℕ) → structure-lts.Need-returns-2 (claims t) (structure-at t) structure.Post
-returns-2 t c = struct-names (c .before .before .before .before .before .before .before .before .before .before .before .before .before .before .before .before .pre .1 .0) (c .before .before .before .before .before .before .before .before .before .before .before .before .before .before .before .before .pre .1 .1) (c .before .before .before .before .before .before .before .before .before .before .node-t .ensures .0) (c .before .before .before .before .before .before .before .before .before .entry .ensures .0) (c .before .before .before .before .before .before .before .if1 .left) (c .before .before .before .before .names-fit .ensures) (c .before .if2 .taken) (c .refused2 .ensures)
+returns-2 t c = struct-names (c .before .before .before .before .before .before .before .before .before .before .before .before .before .before .before .before .pre .1 .0) (c .before .before .before .before .before .before .before .before .before .before .before .before .before .before .before .before .pre .1 .1) (c .before .before .before .before .before .before .before .before .before .before .node-t .ensures .0) (c .before .before .before .before .before .before .before .before .before .struct-record .ensures) (c .before .before .before .before .before .before .before .if1 .left) (c .before .before .before .before .names-fit .ensures) (c .before .if2 .taken) (c .refused2 .ensures)
 
 add-inits : (t : ℕ) → structure-lts.Need-add-inits (claims t) (structure-at t) structure.Post
 add-inits t c = omega (arith, (c .before .before .before .before .before .before .before .before .before .before .before .before .before .before .before .before .before .before .pre .1 .0) .within, (c .before .before .before .before .before .before .before .before .before .before .before .before .before .before .before .before .before .before .pre .1 .0) .fine .good-tables .laid .nodes-most)
@@ -51,7 +48,7 @@ node-children-requires : (t : ℕ) → structure-lts.Need-node-children-requires
 node-children-requires t c κs = has-node ((c .before .before .before .before .before .before .before .before .before .before .before .before .before .before .before .before .before .before .pre .1 .0) .fine .good-tables) ((c .before .before .before .before .before .before .before .before .before .before .before .before .before .before .before .before .before .before .pre .1 .0) .within)
 
 inits-requires : (t : ℕ) → structure-lts.Need-inits-requires (claims t) (structure-at t) structure.Post
-inits-requires t c κs = (omega (arith, c .before .before .before .before .before .before .before .before .before .before .before .before .before .before .before .before .before .before .before .pre .0, (c .before .before .before .before .before .before .before .before .before .before .before .before .before .before .before .before .before .before .before .pre .1 .0) .within), struct-inits (c .before .before .before .before .before .before .before .before .before .before .before .before .before .before .before .before .before .before .before .pre .1 .0) (c .before .before .before .before .before .before .before .before .before .before .before .before .before .before .before .before .before .before .before .pre .1 .1) (c .before .before .before .before .before .before .before .before .before .before .before .before .before .node-t .ensures .0) (c .before .before .before .before .before .before .before .before .before .before .before .before .entry .ensures .0) (c .before .before .before .before .before .before .before .before .before .before .if1 .left) (c .before .before .before .before .before .before .before .names-fit .ensures) (c .before .before .before .before .before .before .before .names-fit .kept .1 .1 .0) (c .node-children .ensures .0))
+inits-requires t c κs = (omega (arith, c .before .before .before .before .before .before .before .before .before .before .before .before .before .before .before .before .before .before .before .pre .0, (c .before .before .before .before .before .before .before .before .before .before .before .before .before .before .before .before .before .before .before .pre .1 .0) .within), struct-inits (c .before .before .before .before .before .before .before .before .before .before .before .before .before .before .before .before .before .before .before .pre .1 .0) (c .before .before .before .before .before .before .before .before .before .before .before .before .before .before .before .before .before .before .before .pre .1 .1) (c .before .before .before .before .before .before .before .before .before .before .before .before .before .node-t .ensures .0) (c .before .before .before .before .before .before .before .before .before .before .before .before .struct-record .ensures) (c .before .before .before .before .before .before .before .before .before .before .if1 .left) (c .before .before .before .before .before .before .before .names-fit .ensures) (c .before .before .before .before .before .before .before .names-fit .kept .1 .1 .0) (c .node-children .ensures .0))
 
 same-length-2 : (t : ℕ) → structure-lts.Need-same-length-2 (claims t) (structure-at t) structure.Post
 same-length-2 t c = omega (arith, c .before .before .before .before .before .before .before .inits, c .before .before .before .before .before .before .before .before .before .before .before .before .before .before .before .names-fit)
@@ -63,10 +60,10 @@ same-length-4 : (t : ℕ) → structure-lts.Need-same-length-4 (claims t) (struc
 same-length-4 t c = omega (arith, c .before .before .before .before .before .before .before .inits, c .before .before .before .before .before .before .before .before .before .before .before .before .before .before .before .names-fit)
 
 returns-3 : (t : ℕ) → structure-lts.Need-returns-3 (claims t) (structure-at t) structure.Post
-returns-3 t c = struct-no (c .before .before .before .before .before .before .before .before .before .before .before .before .before .before .before .before .before .before .before .before .before .before .before .before .before .before .before .pre .1 .0) (c .before .before .before .before .before .before .before .before .before .before .before .before .before .before .before .before .before .before .before .before .before .before .before .before .before .before .before .pre .1 .1) (c .before .before .before .before .before .before .before .before .before .before .before .before .before .before .before .before .before .before .before .before .before .node-t .ensures .0) (c .before .before .before .before .before .before .before .before .before .before .before .before .before .before .before .before .before .before .before .before .entry .ensures .0) (c .before .before .before .before .before .before .before .before .before .before .before .before .before .before .before .before .before .before .if1 .left) (c .before .before .before .before .before .before .before .before .before .before .before .before .before .before .before .names-fit .ensures) (c .before .before .before .before .before .before .before .before .before .before .before .before .if2 .left) (c .before .before .before .before .before .before .before .before .node-children .ensures .0) (c .before .before .before .before .before .before .before .inits .ensures) (unlisted _ (c .match .keys2))
+returns-3 t c = struct-no (c .before .before .before .before .before .before .before .before .before .before .before .before .before .before .before .before .before .before .before .before .before .before .before .before .before .before .before .pre .1 .0) (c .before .before .before .before .before .before .before .before .before .before .before .before .before .before .before .before .before .before .before .before .before .before .before .before .before .before .before .pre .1 .1) (c .before .before .before .before .before .before .before .before .before .before .before .before .before .before .before .before .before .before .before .before .before .node-t .ensures .0) (c .before .before .before .before .before .before .before .before .before .before .before .before .before .before .before .before .before .before .before .before .struct-record .ensures) (c .before .before .before .before .before .before .before .before .before .before .before .before .before .before .before .before .before .before .if1 .left) (c .before .before .before .before .before .before .before .before .before .before .before .before .before .before .before .names-fit .ensures) (c .before .before .before .before .before .before .before .before .before .before .before .before .if2 .left) (c .before .before .before .before .before .before .before .before .node-children .ensures .0) (c .before .before .before .before .before .before .before .inits .ensures) (unlisted _ (c .match .keys2))
 
 typed-requires : (t : ℕ) → structure-lts.Need-typed-requires (claims t) (structure-at t) structure.Post
-typed-requires t c κs = struct-row (c .before .before .before .before .before .before .before .before .before .before .before .before .before .before .before .before .before .before .before .before .before .before .before .before .before .before .before .before .before .pre .1 .0) (c .before .before .before .before .before .before .before .before .before .before .before .before .before .before .before .before .before .before .before .before .before .before .before .before .before .before .before .before .before .pre .1 .1) (c .before .before .before .before .before .before .before .before .before .before .before .before .before .before .before .before .before .before .before .before .before .before .before .node-t .ensures .0) (c .before .before .before .before .before .before .before .before .before .before .before .before .before .before .before .before .before .before .before .before .before .before .entry .ensures .0) (c .before .before .before .before .before .before .before .before .before .before .before .before .before .before .before .before .before .before .before .before .if1 .left) (c .before .before .before .before .before .before .before .before .before .before .before .before .before .before .before .before .before .names-fit .ensures) (c .before .before .before .before .before .before .before .before .before .before .before .before .before .before .if2 .left) (c .before .before .before .before .before .before .before .before .before .before .node-children .ensures .0) (c .before .before .before .before .before .before .before .before .before .inits .ensures) (c .before .before .before .before .before .before .before .before .before .before .before .before .before .before .before .before .before .names-fit .kept .1 .1 .0) (c .before .enum-told .given .1)
+typed-requires t c κs = struct-row (c .before .before .before .before .before .before .before .before .before .before .before .before .before .before .before .before .before .before .before .before .before .before .before .before .before .before .before .before .before .pre .1 .0) (c .before .before .before .before .before .before .before .before .before .before .before .before .before .before .before .before .before .before .before .before .before .before .before .before .before .before .before .before .before .pre .1 .1) (c .before .before .before .before .before .before .before .before .before .before .before .before .before .before .before .before .before .before .before .before .before .before .before .node-t .ensures .0) (c .before .before .before .before .before .before .before .before .before .before .before .before .before .before .before .before .before .before .before .before .before .before .struct-record .ensures) (c .before .before .before .before .before .before .before .before .before .before .before .before .before .before .before .before .before .before .before .before .if1 .left) (c .before .before .before .before .before .before .before .before .before .before .before .before .before .before .before .before .before .names-fit .ensures) (c .before .before .before .before .before .before .before .before .before .before .before .before .before .before .if2 .left) (c .before .before .before .before .before .before .before .before .before .before .node-children .ensures .0) (c .before .before .before .before .before .before .before .before .before .inits .ensures) (c .before .before .before .before .before .before .before .before .before .before .before .before .before .before .before .before .before .names-fit .kept .1 .1 .0) (c .before .enum-told .given .1)
 
 same-length-5 : (t : ℕ) → structure-lts.Need-same-length-5 (claims t) (structure-at t) structure.Post
 same-length-5 t c = omega (arith, c .before .before .before .before .before .before .before .before .before .before .before .before .inits, c .before .before .typed, c .before .before .before .before .before .before .before .before .before .before .before .before .before .before .before .before .before .before .before .before .names-fit)
@@ -78,7 +75,7 @@ same-length-7 : (t : ℕ) → structure-lts.Need-same-length-7 (claims t) (struc
 same-length-7 t c = omega (arith, c .before .before .before .before .before .before .before .before .before .before .before .before .inits, c .before .before .typed, c .before .before .before .before .before .before .before .before .before .before .before .before .before .before .before .before .before .before .before .before .names-fit)
 
 returns-4 : (t : ℕ) → structure-lts.Need-returns-4 (claims t) (structure-at t) structure.Post
-returns-4 t c = struct-ok (c .before .before .before .before .before .before .before .before .before .before .before .before .before .before .before .before .before .before .before .before .before .before .before .before .before .before .before .before .before .before .before .before .pre .1 .0) (c .before .before .before .before .before .before .before .before .before .before .before .before .before .before .before .before .before .before .before .before .before .before .before .before .before .before .before .before .before .before .before .before .pre .1 .1) (c .before .before .before .before .before .before .before .before .before .before .before .before .before .before .before .before .before .before .before .before .before .before .before .before .before .before .node-t .ensures .0) (c .before .before .before .before .before .before .before .before .before .before .before .before .before .before .before .before .before .before .before .before .before .before .before .before .before .entry .ensures .0) (c .before .before .before .before .before .before .before .before .before .before .before .before .before .before .before .before .before .before .before .before .before .before .before .if1 .left) (c .before .before .before .before .before .before .before .before .before .before .before .before .before .before .before .before .before .before .before .before .names-fit .ensures) (c .before .before .before .before .before .before .before .before .before .before .before .before .before .before .before .before .before .if2 .left) (c .before .before .before .before .before .before .before .before .before .before .before .before .before .node-children .ensures .0) (c .before .before .before .before .before .before .before .before .before .before .before .before .inits .ensures) (c .before .before .before .before .enum-told .given .1) (c .before .before .typed .ensures .0) (c .before .before .typed .ensures .1)
+returns-4 t c = struct-ok (c .before .before .before .before .before .before .before .before .before .before .before .before .before .before .before .before .before .before .before .before .before .before .before .before .before .before .before .before .before .before .before .before .pre .1 .0) (c .before .before .before .before .before .before .before .before .before .before .before .before .before .before .before .before .before .before .before .before .before .before .before .before .before .before .before .before .before .before .before .before .pre .1 .1) (c .before .before .before .before .before .before .before .before .before .before .before .before .before .before .before .before .before .before .before .before .before .before .before .before .before .before .node-t .ensures .0) (c .before .before .before .before .before .before .before .before .before .before .before .before .before .before .before .before .before .before .before .before .before .before .before .before .before .struct-record .ensures) (c .before .before .before .before .before .before .before .before .before .before .before .before .before .before .before .before .before .before .before .before .before .before .before .if1 .left) (c .before .before .before .before .before .before .before .before .before .before .before .before .before .before .before .before .before .before .before .before .names-fit .ensures) (c .before .before .before .before .before .before .before .before .before .before .before .before .before .before .before .before .before .if2 .left) (c .before .before .before .before .before .before .before .before .before .before .before .before .before .node-children .ensures .0) (c .before .before .before .before .before .before .before .before .before .before .before .before .inits .ensures) (c .before .before .before .before .enum-told .given .1) (c .before .before .typed .ensures .0) (c .before .before .typed .ensures .1)
 
 pub closed : {M : Type 1} (t : ℕ) → structure-lts.Closed (claims t) (structure-at t) structure.Post M
-closed t = structure-lts.spec (claims t) (structure-at t) structure.Post (node-t-requires t) (add-entry t) (entry-requires t) (λ c κs. search needs) (returns t) (sub-names-fit t) (mul-names-fit t) (names-fit-requires t) (λ c κs. search needs) (λ c. search needs) (returns-2 t) (add-inits t) (node-children-requires t) (inits-requires t) (λ c. search needs) (same-length-2 t) (same-length-3 t) (same-length-4 t) (returns-3 t) (typed-requires t) (same-length-5 t) (same-length-6 t) (same-length-7 t) (returns-4 t)
+closed t = structure-lts.spec (claims t) (structure-at t) structure.Post (node-t-requires t) (struct-record-requires t) (λ c κs. search needs) (returns t) (sub-names-fit t) (mul-names-fit t) (names-fit-requires t) (λ c κs. search needs) (λ c. search needs) (returns-2 t) (add-inits t) (node-children-requires t) (inits-requires t) (λ c. search needs) (same-length-2 t) (same-length-3 t) (same-length-4 t) (returns-3 t) (typed-requires t) (same-length-5 t) (same-length-6 t) (same-length-7 t) (returns-4 t)

@@ -15,7 +15,7 @@ use Rattle.file_sections.proofs.records.type_kind.Reads as type-kind-reads
 use Rattle.type_index.proofs.formed.is_formed.Reads as is-formed-reads
 use Rattle.expressions.proofs.cycle.+array+binary+call+element+equality+expression+field+filled+filling+inits+length_of+list+operator+structure+unary+zeroed.Proof.Measures.{zeroed-at, expression-below}
 use Rattle.expressions.proofs.LawsMeets.{untyped}
-use Rattle.expressions.proofs.LawsChild.{has-node, has-type, formed-entry, child-type, child-fine}
+use Rattle.expressions.proofs.LawsChild.{has-node, has-type, type-entered, child-type, child-fine}
 use Rattle.expressions.proofs.LawsSorts.{default-array, default-within, default-unformed, default-first, default-no, default-sort, default-none, default-ok}
 use Rattle.expressions.proofs.LawsLists.{row-fits}
 
@@ -29,7 +29,7 @@ type-a-requires : (t : ℕ) → zeroed-lts.Need-type-a-requires (claims t) (zero
 type-a-requires t c κs = has-type ((c .before .before .before .before .before .before .pre .1 .0) .fine .good-tables) (default-array (c .before .before .before .before .before .before .pre .1 .0) (c .before .before .before .before .before .before .pre .1 .1) (c .node-t .ensures .0))
 
 is-formed-requires : (t : ℕ) → zeroed-lts.Need-is-formed-requires (claims t) (zeroed-at t) zeroed.Post
-is-formed-requires t c κs = formed-entry ((c .before .before .before .before .before .before .before .pre .1 .0) .fine) ((default-within (c .before .before .before .before .before .before .before .pre .1 .0) (c .before .before .before .before .before .before .before .pre .1 .1) (c .before .node-t .ensures .0) (c .type-a .ensures .0)) .1)
+is-formed-requires t c κs = type-entered ((c .before .before .before .before .before .before .before .pre .1 .0) .fine) ((default-within (c .before .before .before .before .before .before .before .pre .1 .0) (c .before .before .before .before .before .before .before .pre .1 .1) (c .before .node-t .ensures .0) (c .type-a .ensures .0)) .1)
 
 returns : (t : ℕ) → zeroed-lts.Need-returns (claims t) (zeroed-at t) zeroed.Post
 returns t c = default-unformed (c .before .before .before .before .before .before .before .before .before .before .pre .1 .0) (c .before .before .before .before .before .before .before .before .before .before .pre .1 .1) (c .before .before .before .before .node-t .ensures .0) (c .before .before .before .type-a .ensures .0) (c .before .before .is-formed .ensures) (c .before .if1 .taken) (c .refused .ensures)

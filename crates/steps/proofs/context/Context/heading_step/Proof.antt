@@ -1,6 +1,6 @@
 -- `Context::heading_step` meets its contract. Assumes nothing.
 use borrow.Author.Needs.{needs}
-use Rattle.steps.proofs.LawsPlain.{heading-node, heading-marked, heading-bindable, heading-unformed, heading-known, heading-new}
+use Rattle.steps.proofs.LawsPlain.{heading-node, heading-entered, heading-bindable, heading-unformed, heading-known, heading-new}
 use Rattle.steps.proofs.context.Context.heading_step.Statement.{statement}
 use Rattle.steps.proofs.context.Context.heading_step.Tie as tie
 
@@ -9,7 +9,7 @@ heading-step-spec =
     tie.close
     (tie.spec
     (λ c κs. search (heading-node, needs))
-    (λ c κs. search (heading-marked, needs))
+    (λ c κs. search (heading-entered, needs))
     (λ c. search (heading-unformed, needs))
     (λ c κs. search (heading-node, needs))
     (λ c κs. search needs)
