@@ -20,7 +20,7 @@ use Rattle.file_sections.specs.Layout.{Laid, Has, tablesOf}
 use Rattle.file_sections.proofs.LawsRecords.{built-ins-long}
 use Rattle.bindings.specs.declared.Found.{Found}
 use Rattle.bindings.specs.declared.Found.the-variants.{At, Nothing}
-use Rattle.bindings.specs.Bindings.{entryOf, binderOf, typeBound, nameBound, isGlobal, namesOf, scopeOf, latest, topOf, Chained, Position, Scoped, Some, Same, Finds, Freshness, Assignability, Bindable, Bound}
+use Rattle.bindings.specs.Bindings.{entryOf, binderOf, typeBound, nameBound, isGlobal, namesOf, scopeOf, latest, topOf, Chained, Position, Scoped, Some, SomeFrom, Same, Finds, Freshness, Assignability, Bindable, Bound}
 
 -- a position of a built-in
 module _ (F : List ℕ) (S : Sections) (W : List ℕ) (j : ℕ) (h : j < S .«built_ins») where
@@ -211,15 +211,10 @@ module _ (T : Tables) (W : List ℕ) (x : ℕ) where
       go n true r = refl
       go n false r = r
 
-  fresh-from : (base s : ℕ) → base ≤ s → isFresh x (scopeOf T W base s) ≡ freshFrom base (latest T W x s)
-  unfolding isFresh latest
-  fresh-from base s h = from-base
-      (λ n. isFresh x (scopeOf T W base n) ≡ freshFrom base (latest T W x n))
-      base
-      (rw (scope-none T W base) (sym (old base (omega arith))))
-      (λ n l r. rw (scope-more T W base n l) (go n (eqb (nameBound T W n) x) l r))
-      s
-      h
+  fresh-from : (base s : ℕ) → isFresh x (scopeOf T W base s) ≡ freshFrom base (latest T W x s)
+  unfolding isFresh scopeOf latest
+  fresh-from base zero = refl
+  fresh-from base (suc n) = go (ltb n base) refl (fresh-from base n)
     where
       old-step : (n : ℕ) (b : Bool) → n < base → freshFrom base (latest T W x n) ≡ true → freshFrom base (pick b (At n) (latest T W x n)) ≡ true
       old-step n true l r = lt-ltb n base l
@@ -229,9 +224,13 @@ module _ (T : Tables) (W : List ℕ) (x : ℕ) where
       old zero l = refl
       old (suc n) l = old-step n (eqb (nameBound T W n) x) (omega arith) (old n (omega arith))
 
-      go : (n : ℕ) (b : Bool) → base ≤ n → isFresh x (scopeOf T W base n) ≡ freshFrom base (latest T W x n) → pick b false (isFresh x (scopeOf T W base n)) ≡ freshFrom base (pick b (At n) (latest T W x n))
-      go n true l r = sym (le-ltb n base l)
-      go n false l r = r
+      own : (b : Bool) → base ≤ n → isFresh x (scopeOf T W base n) ≡ freshFrom base (latest T W x n) → pick b false (isFresh x (scopeOf T W base n)) ≡ freshFrom base (pick b (At n) (latest T W x n))
+      own true l r = sym (le-ltb n base l)
+      own false l r = r
+
+      go : (a : Bool) → ltb n base ≡ a → isFresh x (scopeOf T W base n) ≡ freshFrom base (latest T W x n) → isFresh x (pick a empty (binds (scopeOf T W base n) (nameBound T W n) (typeBound T W n) (binderOf T W n))) ≡ freshFrom base (latest T W x (suc n))
+      go true e r = sym (old (suc n) (omega (arith, ltb-true n base e)))
+      go false e r = own (eqb (nameBound T W n) x) (ltb-false n base e) r
 
   assign-names : (base n : ℕ) → n ≤ base → not (isFixed x (namesOf T W n)) ≡ assignFrom T W base (latest T W x n)
   unfolding isFixed namesOf latest
@@ -417,6 +416,22 @@ module _ {F : List ℕ} {S : Sections} {W K : List ℕ} {x : ℕ} where
   pub walk-ends : (after : ℕ) → Walks F S W K x after → after ≤ 0 → Finds F S W K x Nothing
   walk-ends after walk h = record { found = λ s c. reached-none (tablesOf F S) W x s after (walk .reached s c) h }
 
+-- buffers hold a scope of one height alone
+top-last : (T : Tables) (W : List ℕ) (n : ℕ) → topOf T W (nameBound T W n % 512) (suc n) ≡ suc n
+unfolding topOf
+top-last T W n = rw (eq-eqb (nameBound T W n % 512) (nameBound T W n % 512) refl)
+
+scoped-highest : {F : List ℕ} {S : Sections} {W K : List ℕ} {s : ℕ} (t : ℕ) → Scoped F S W K s → Scoped F S W K t → t ≤ s
+scoped-highest zero c d = omega arith
+scoped-highest {F} {S} {W} {K} {s} (suc n) c d =
+    let h = nameBound (tablesOf F S) W n % 512 in
+    let l : h < 512 = mod-lt (nameBound (tablesOf F S) W n) (omega arith) in
+    let e : suc n ≡ topOf (tablesOf F S) W h s = sym (top-last (tablesOf F S) W n) ∙ sym (d .chained .heads h l) ∙ c .chained .heads h l in
+    omega (arith, e, top-most (tablesOf F S) W h s)
+
+from-low : {F : List ℕ} {S : Sections} {W K : List ℕ} {base : ℕ} → SomeFrom F S W K base → (s : ℕ) → Scoped F S W K s → base ≤ s
+from-low o s c = omega (arith, o .low, scoped-highest (o .some .height) c (o .some .scoped))
+
 -- whether a name is fresh, and whether it can be assigned
 module _ {F : List ℕ} {S : Sections} {W K : List ℕ} {x : ℕ} (r : Found) (found : Finds F S W K x r) (j : ℕ) (e : r ≡ At j) (o : Some F S W K) where
   pub found-position : Position F S W j
@@ -426,35 +441,38 @@ module _ {F : List ℕ} {S : Sections} {W K : List ℕ} {x : ℕ} (r : Found) (f
   found-there b h eb = binder-there F S W j h found-position b eb
 
 module _ {F : List ℕ} {S : Sections} {W K : List ℕ} {x : ℕ} (base : ℕ) (r : Found) (found : Finds F S W K x r) where
+  fresh-is : (t : Bool) → freshFrom base r ≡ t → Freshness F S W K base x t
+  fresh-is t e = record {
+    tells = λ s c. sym (fresh-from (tablesOf F S) W x base s ∙ ap (freshFrom base) (sym (found .found s c)) ∙ e);
+  }
+
   pub fresh-none : r ≡ Nothing → Freshness F S W K base x true
-  fresh-none e = record {
-    tells = λ s c h. sym (fresh-from (tablesOf F S) W x base s h ∙ ap (freshFrom base) (sym (found .found s c) ∙ e));
-  }
+  fresh-none e = fresh-is true (ap (freshFrom base) e)
 
-  pub assign-none : r ≡ Nothing → Assignability F S W K base x true
-  assign-none e = record {
-    tells = λ s c h. sym (assign-from (tablesOf F S) W x base s h ∙ ap (assignFrom (tablesOf F S) W base) (sym (found .found s c) ∙ e));
-  }
+  pub fresh-at : (j : ℕ) → r ≡ At j → Freshness F S W K base x (ltb j base)
+  fresh-at j e = fresh-is (ltb j base) (ap (freshFrom base) e)
 
-  module _ (j : ℕ) (e : r ≡ At j) where
-    pub fresh-at : Freshness F S W K base x (ltb j base)
-    fresh-at = record {
-      tells = λ s c h. sym (fresh-from (tablesOf F S) W x base s h ∙ ap (freshFrom base) (sym (found .found s c) ∙ e));
+  module _ (o : SomeFrom F S W K base) where
+    assign-is : (t : Bool) → assignFrom (tablesOf F S) W base r ≡ t → Assignability F S W K base x t
+    assign-is t e = record {
+      tells = λ s c. sym (assign-from (tablesOf F S) W x base s (from-low o s c) ∙ ap (assignFrom (tablesOf F S) W base) (sym (found .found s c)) ∙ e);
     }
 
-    assign-at : (t : Bool) → pick (ltb j base) (isGlobal (tablesOf F S) W j) true ≡ t → Assignability F S W K base x t
-    assign-at t f = record {
-      tells = λ s c h. sym (assign-from (tablesOf F S) W x base s h ∙ ap (assignFrom (tablesOf F S) W base) (sym (found .found s c) ∙ e) ∙ f);
-    }
+    pub assign-none : r ≡ Nothing → Assignability F S W K base x true
+    assign-none e = assign-is true (ap (assignFrom (tablesOf F S) W base) e)
 
-    pub assign-local : base ≤ j → Assignability F S W K base x true
-    assign-local h = assign-at true (rw (le-ltb j base h))
+    module _ (j : ℕ) (e : r ≡ At j) where
+      assign-at : (t : Bool) → pick (ltb j base) (isGlobal (tablesOf F S) W j) true ≡ t → Assignability F S W K base x t
+      assign-at t f = assign-is t (ap (assignFrom (tablesOf F S) W base) e ∙ f)
 
-    pub assign-built-in : j < base → j < S .«built_ins» → Assignability F S W K base x false
-    assign-built-in h k = assign-at false (rw (lt-ltb j base h) (built-in-fixed F S W j k))
+      pub assign-local : base ≤ j → Assignability F S W K base x true
+      assign-local h = assign-at true (rw (le-ltb j base h))
 
-    pub assign-stack : (b n : ℕ) → j < base → S .«built_ins» ≤ j → b ≡ binderOf (tablesOf F S) W j → n ≡ nodeAt (tablesOf F S) b .kind → Assignability F S W K base x (eqb n 1)
-    assign-stack b n h k eb en = assign-at (eqb n 1) (rw (lt-ltb j base h) (stack-global F S W j k b eb ∙ ap (λ m. eqb m 1) (sym en)))
+      pub assign-built-in : j < base → j < S .«built_ins» → Assignability F S W K base x false
+      assign-built-in h k = assign-at false (rw (lt-ltb j base h) (built-in-fixed F S W j k))
+
+      pub assign-stack : (b n : ℕ) → j < base → S .«built_ins» ≤ j → b ≡ binderOf (tablesOf F S) W j → n ≡ nodeAt (tablesOf F S) b .kind → Assignability F S W K base x (eqb n 1)
+      assign-stack b n h k eb en = assign-at (eqb n 1) (rw (lt-ltb j base h) (stack-global F S W j k b eb ∙ ap (λ m. eqb m 1) (sym en)))
 
 -- the top of a chain with one position more
 top-own-is : (T : Tables) (W : List ℕ) (h n : ℕ) → nameBound T W n % 512 ≡ h → topOf T W h (n + 1) ≡ n + 1

@@ -79,6 +79,11 @@ pub record Some (F : List ℕ) (S : Sections) (W K : List ℕ) : Type 0 where
   pub height : ℕ
   pub scoped : Scoped F S W K height
 
+-- some scope whose locals stand from the position `base` on
+pub record SomeFrom (F : List ℕ) (S : Sections) (W K : List ℕ) (base : ℕ) : Type 0 where
+  pub some : Some F S W K
+  pub low : base ≤ some .height
+
 -- l′ is l below k
 pub record Same (k : ℕ) (l l′ : List ℕ) : Type 0 where
   pub at : (i : ℕ) → i < k → getD l′ i 0 ≡ getD l i 0
@@ -88,10 +93,10 @@ pub record Finds (F : List ℕ) (S : Sections) (W K : List ℕ) (x : ℕ) (r : F
   pub found : (s : ℕ) → Scoped F S W K s → r ≡ latest (tablesOf F S) W x s
 
 pub record Freshness (F : List ℕ) (S : Sections) (W K : List ℕ) (base x : ℕ) (r : Bool) : Type 0 where
-  pub tells : (s : ℕ) → Scoped F S W K s → base ≤ s → r ≡ isFresh x (scopeOf (tablesOf F S) W base s)
+  pub tells : (s : ℕ) → Scoped F S W K s → r ≡ isFresh x (scopeOf (tablesOf F S) W base s)
 
 pub record Assignability (F : List ℕ) (S : Sections) (W K : List ℕ) (base x : ℕ) (r : Bool) : Type 0 where
-  pub tells : (s : ℕ) → Scoped F S W K s → base ≤ s
+  pub tells : (s : ℕ) → Scoped F S W K s
       → r ≡ pick (isFresh x (scopeOf (tablesOf F S) W base s)) (not (isFixed x (namesOf (tablesOf F S) W base))) true
 
 -- there is room for a binding of the node, with the type t, at the height s

@@ -11,7 +11,7 @@ ghost use mathlib.Core.Path.{_≡_};
 ghost use Prim.Native.Nat.{_+_, _*_, _%_, _≤_, _<_};
 ghost use lib.ListN.{length, getD, set};
 ghost use Rattle.file_sections.specs.Layout.{tablesOf};
-ghost use Rattle.bindings.specs.Bindings.{binderOf, typeBound, nameBound, Position, Scoped, Some, Finds, Freshness, Assignability, Bindable, Bound};
+ghost use Rattle.bindings.specs.Bindings.{binderOf, typeBound, nameBound, Position, Scoped, Some, SomeFrom, Finds, Freshness, Assignability, Bindable, Bound};
 
 // The position that binds a name.
 pub enum Found {
@@ -124,7 +124,7 @@ pub fn is_assignable(
     base: usize,
     name: usize,
 ) -> bool
-    requires { ⌜ Some (now file) sections (now work) (now chains) ⌝ }
+    requires { ⌜ SomeFrom (now file) sections (now work) (now chains) base ⌝ }
     ensures { λ r. ⌜ Assignability (now (file .entry)) sections (now (work .entry)) (now (chains .entry)) base name r ⌝ }
 {
     let found = find(file, sections, work, chains, name);

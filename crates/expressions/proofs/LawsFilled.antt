@@ -274,7 +274,7 @@ module _ {F : List ℕ} {S : Sections} {X R W K : List ℕ} {base n s : ℕ} (g 
             module _ (k : k₁ ≡ 0) {x₂ : ℕ} {b₂ : Bool} (ex : x₂ ≡ nodeAt (tablesOf F S) n .x) (fresh : Freshness F S W₁ K₁ base x₂ b₂) where
               fresh-is : (x : ℕ) → nodeAt (tablesOf F S) n .x ≡ x → Same (entryOf (tablesOf F S) s) W W₁ → isFresh x (scopeOf (tablesOf F S) W base s) ≡ b₂
               fresh-is x e a =
-                  sym (fresh .tells s (first-fine m₁ y₁ .scoped) (g .fine .above)
+                  sym (fresh .tells s (first-fine m₁ y₁ .scoped)
                   ∙ ap (λ Γ. isFresh x₂ Γ) (scope-same (tablesOf F S) s a base)
                   ∙ ap (λ i. isFresh i (scopeOf (tablesOf F S) W base s)) (ex ∙ e))
 

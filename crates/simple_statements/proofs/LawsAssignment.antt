@@ -14,7 +14,7 @@ use Rattle.typing_rules.specs.Judge.{assignsTo, execute}
 use Rattle.file_sections.specs.declared.Sections.{Sections}
 use Rattle.file_sections.specs.Layout.{tablesOf}
 use Rattle.type_index.specs.Index.{declared}
-use Rattle.bindings.specs.Bindings.{scopeOf, Scoped, Some, Assignability}
+use Rattle.bindings.specs.Bindings.{scopeOf, Scoped, SomeFrom, Assignability}
 use Rattle.answers.specs.declared.answer.Judgement.the-variants.{Typed, Refused}
 use Rattle.answers.specs.declared.answer.Judged.{Judged}
 use Rattle.answers.specs.Answers.{withRow}
@@ -26,9 +26,9 @@ use Rattle.simple_statements.specs.Contract.{marked, ReadyStmt, AnswersS
 use Rattle.simple_statements.proofs.LawsLabels.{on-assign}
 use Rattle.simple_statements.proofs.LawsMarks.{rule-left}
 
--- some scope is held
-pub some-held : {F : List ℕ} {S : Sections} {X R W K : List ℕ} {base s : ℕ} → Fine F S X R W K base s → Some F S W K
-some-held {s = s} f = record { height = s; scoped = f .scoped }
+-- some scope is held, locals from `base` on
+pub some-held : {F : List ℕ} {S : Sections} {X R W K : List ℕ} {base s : ℕ} → Fine F S X R W K base s → SomeFrom F S W K base
+some-held {s = s} f = record { some = record { height = s; scoped = f .scoped }; low = f .above }
 
 -- the left side
 module _ {F : List ℕ} {S : Sections} {W K : List ℕ} {base n : ℕ} {kind : ℕ} (ek : kind ≡ nodeAt (tablesOf F S) n .kind) where
@@ -36,21 +36,21 @@ module _ {F : List ℕ} {S : Sections} {W K : List ℕ} {base n : ℕ} {kind : �
   unfolding assignsTo
   assigns-other f = record { tells = go }
     where
-      go : (s : ℕ) → Scoped F S W K s → base ≤ s → (g : Target) → Stands (tablesOf F S) n (targetExpr g)
+      go : (s : ℕ) → Scoped F S W K s → (g : Target) → Stands (tablesOf F S) n (targetExpr g)
           → true ≡ assignsTo (contextOf (tablesOf F S) W base) (scopeOf (tablesOf F S) W base s) g
-      go s h l (nameTarget x) t = absurd (f (ek ∙ t .kind-is))
-      go s h l (indexTarget a b) t = refl
-      go s h l (fieldTarget x a) t = refl
+      go s h (nameTarget x) t = absurd (f (ek ∙ t .kind-is))
+      go s h (indexTarget a b) t = refl
+      go s h (fieldTarget x a) t = refl
 
   pub assigns-name : {x : ℕ} {r : Bool} → kind ≡ 15 → x ≡ nodeAt (tablesOf F S) n .x → Assignability F S W K base x r → Assigns F S W K base n r
   unfolding assignsTo
   assigns-name {x} {r} e ex a = record { tells = go }
     where
-      go : (s : ℕ) → Scoped F S W K s → base ≤ s → (g : Target) → Stands (tablesOf F S) n (targetExpr g)
+      go : (s : ℕ) → Scoped F S W K s → (g : Target) → Stands (tablesOf F S) n (targetExpr g)
           → r ≡ assignsTo (contextOf (tablesOf F S) W base) (scopeOf (tablesOf F S) W base s) g
-      go s h l (nameTarget y) t = subst (λ z. Assignability F S W K base z r) (ex ∙ t .x-is) a .tells s h l
-      go s h l (indexTarget b c) t = absurd (let z = sym e ∙ ek ∙ t .0 .kind-is in omega arith)
-      go s h l (fieldTarget y b) t = absurd (let z = sym e ∙ ek ∙ t .0 .kind-is in omega arith)
+      go s h (nameTarget y) t = subst (λ z. Assignability F S W K base z r) (ex ∙ t .x-is) a .tells s h
+      go s h (indexTarget b c) t = absurd (let z = sym e ∙ ek ∙ t .0 .kind-is in omega arith)
+      go s h (fieldTarget y b) t = absurd (let z = sym e ∙ ek ∙ t .0 .kind-is in omega arith)
 
 module _ {F : List ℕ} {S : Sections} {X R W K : List ℕ} {base n s : ℕ} (g : ReadyStmt F S X R W K base n s) (kind : nodeAt (tablesOf F S) n .kind ≡ 30) where
   pub assignment-first : Ready F S X R W K base (n + 1) s
@@ -65,14 +65,14 @@ module _ {F : List ℕ} {S : Sections} {X R W K : List ℕ} {base n s : ℕ} (g 
         record {
           tells = λ rt. record {
             tells = on-assign (AnswersStmt F S X R W base rt n s R W K r)
-                (λ t a h. stops _ 15 n _ (sym (ev .tells s (g .fine .scoped) (g .fine .above) t (h .1)) ∙ not-true v f) e) kind;
+                (λ t a h. stops _ 15 n _ (sym (ev .tells s (g .fine .scoped) t (h .1)) ∙ not-true v f) e) kind;
           };
         }
 
     module _ (fv : not v ≡ false) {R₁ W₁ K₁ : List ℕ} {r₁ : Judged} (m₁ : Told F S X R W base (n + 1) s R₁ W₁ K₁ r₁) where
       allowed : (t : Target) → Stands (tablesOf F S) (n + 1) (targetExpr t)
           → assignsTo (contextOf (tablesOf F S) W base) (scopeOf (tablesOf F S) W base s) t ≡ true
-      allowed t h = sym (ev .tells s (g .fine .scoped) (g .fine .above) t h) ∙ not-false v fv
+      allowed t h = sym (ev .tells s (g .fine .scoped) t h) ∙ not-false v fv
 
       pub assignment-no : Untyped r₁ → ToldAny F S X R W base n s R₁ W₁ K₁ r₁
       unfolding execute

@@ -80,7 +80,7 @@ module _ {F : List ℕ} {S : Sections} {X R W K : List ℕ} {base n s : ℕ} (g 
       module _ {x₁ : ℕ} {b₁ : Bool} (ex : x₁ ≡ nodeAt (tablesOf F S) n .x) (fresh : Freshness F S W₁ K₁ base x₁ b₁) where
         fresh-is : (x : ℕ) → nodeAt (tablesOf F S) n .x ≡ x → Same (entryOf (tablesOf F S) s) W W₁ → isFresh x (scopeOf (tablesOf F S) W base s) ≡ b₁
         fresh-is x e a =
-            sym (fresh .tells s (variable-fine .scoped) (g .fine .above)
+            sym (fresh .tells s (variable-fine .scoped)
             ∙ ap (λ Γ. isFresh x₁ Γ) (scope-same (tablesOf F S) s a base)
             ∙ ap (λ i. isFresh i (scopeOf (tablesOf F S) W base s)) (ex ∙ e))
 

@@ -104,5 +104,5 @@ pub record ToldCondition (F : List ℕ) (S : Sections) (X R W : List ℕ) (base 
 
 -- the left side of the assignment at n is tested as the definition has it
 pub record Assigns (F : List ℕ) (S : Sections) (W K : List ℕ) (base n : ℕ) (r : Bool) : Type 0 where
-  pub tells : (s : ℕ) → Scoped F S W K s → base ≤ s → (g : Target) → Stands (tablesOf F S) n (targetExpr g)
+  pub tells : (s : ℕ) → Scoped F S W K s → (g : Target) → Stands (tablesOf F S) n (targetExpr g)
       → r ≡ assignsTo (contextOf (tablesOf F S) W base) (scopeOf (tablesOf F S) W base s) g

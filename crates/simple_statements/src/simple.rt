@@ -24,7 +24,7 @@ ghost use Prim.Native.Nat.{_+_, _*_, _≤_, _<_};
 ghost use lib.ListN.{length};
 ghost use Rattle.oat.specs.Tables.{nodeAt};
 ghost use Rattle.file_sections.specs.Layout.{Has, tablesOf};
-ghost use Rattle.bindings.specs.Bindings.{Some};
+ghost use Rattle.bindings.specs.Bindings.{SomeFrom};
 ghost use Rattle.simple_statements.specs.Contract.{ReadyStmt, ToldStmt, ToldAny, ReadyVars, ToldVars, ReadyCondition, ToldCondition, Assigns};
 
 // The left side at `node` is not the name of a function or of a built-in, or a local hides it.
@@ -36,7 +36,7 @@ fn assigns(
     base: usize,
     node: usize,
 ) -> bool
-    requires { ⌜ Some (now file) sections (now work) (now chains) × (node < sections .nodes) ⌝ }
+    requires { ⌜ SomeFrom (now file) sections (now work) (now chains) base × (node < sections .nodes) ⌝ }
     ensures { λ r. ⌜ Assigns (now (file .entry)) sections (now (work .entry)) (now (chains .entry)) base node r ⌝ }
 {
     if node_kind(file, sections, node) != 15 {

@@ -251,7 +251,7 @@ module _ {F : List ℕ} {S : Sections} {X R W K : List ℕ} {base n first count 
       module _ {x₁ : ℕ} {b₁ : Bool} (ex : x₁ ≡ nodeAt (tablesOf F S) (n + 1 + i) .x) (fresh : Freshness F S W₁ K₁ base x₁ b₁) where
         among : (x : ℕ) {ps : List ℕ} (p : Prefix F S X base n first i R W R₁ W₁ K₁ ps) → nodeAt (tablesOf F S) (n + 1 + i) .x ≡ x → b₁ ≡ not (isAmong x (p .those))
         among x p e =
-            fresh .tells (base + length (p .those)) (p .bound .fine .scoped) (omega arith)
+            fresh .tells (base + length (p .those)) (p .bound .fine .scoped)
             ∙ ap (λ Γ. isFresh x₁ Γ) (p .bound .scope)
             ∙ ap (λ y. isFresh y (parameters (λ a. a) (tablesOf F S) empty first (n + 1) (p .those))) (ex ∙ e)
             ∙ among-fresh (tablesOf F S) x first (n + 1) (p .those)

@@ -20,7 +20,7 @@ use Rattle.oat.proofs.LawsSame.{both-true}
 use Rattle.oat.proofs.LawsTables.{tables-formed}
 use Rattle.typing_rules.specs.Contexts.{findName}
 use Rattle.typing_rules.specs.Judge.{formed}
-use Rattle.typing_rules.specs.Steps.{builtIn, heading, distinctFields, addName, addStruct}
+use Rattle.typing_rules.specs.Steps.{builtIn, heading, structFields, distinctFields, addName, addStruct}
 use Rattle.typing_rules.specs.Check.{isMissing, isMiss, fieldsFormed, runStep, stepRows}
 use Rattle.file_sections.specs.declared.Sections.{Sections}
 use Rattle.file_sections.specs.Layout.{Has, tablesOf}
@@ -38,8 +38,8 @@ use Rattle.expressions.proofs.LawsChild.{kind-within}
 use Rattle.steps.specs.declared.context.Context.{Context}
 use Rattle.steps.specs.declared.context.Stepped.{Stepped}
 use Rattle.steps.specs.declared.context.Stepped.the-variants.{Next, Refused}
-use Rattle.steps.specs.Contract.{contextAt, withStruct, withName, withStep, handedUp, Held, Copied, Newness, Whole, Rowless, ReadyStruct, ToldStruct, ReadyBuiltIn, ReadyHeading, ToldHeading, ReadyFields, ToldFields, typesFormed, allNew}
-use Rattle.steps.proofs.LawsStepping.{stops, passes, rowless}
+use Rattle.steps.specs.Contract.{contextAt, withStruct, withName, withStep, handedUp, Held, answers-next, Answered, Copied, Newness, Whole, Rowless, ReadyStruct, ToldStruct, ReadyBuiltIn, ReadyHeading, ToldHeading, ReadyFields, typesFormed, allNew}
+use Rattle.steps.proofs.LawsStepping.{stops, passes, answer-stops, answer-passes, rowless}
 use Rattle.steps.proofs.LawsNames.{times-none-of, times-absent, types-formed-are, names-distinct}
 
 -- the refusal of a judgement
@@ -55,13 +55,6 @@ module _ (j : Judgement) (step : ℕ) where
 
   pub returns-up : j ≡ Returns → Refused 0 step 0 ≡ handedUp j step
   returns-up e = rw e
-
--- the context that an answer has
-refused-next : (p k q : ℕ) (d e : Context) → Refused p k q ≡ Next d → d ≡ e
-refused-next p k q d e f = absurd (let z : _≡_ {A = ℕ} 0 1 = cc in omega arith)
-
-next-is : (d k e : Context) → Next d ≡ Next k → d ≡ e → k ≡ e
-next-is d k e f g = let z : d ≡ k = cc in sym z ∙ g
 
 -- structs without a name
 missing-of : (x n : ℕ) (f : ℕ → Struct) → ((j : ℕ) → j < n → f j .name ≡ x → ⊥) → isMissing (lookup (tabulate n f) x) ≡ true
@@ -79,7 +72,7 @@ missing-apart x (suc n) f e (suc j) h = missing-apart x n (λ j. f (suc j)) (res
     rest true e = absurd (false≢true e)
     rest false e = e
 
-tabulate-more : {A : Type 0} (n : ℕ) (f : ℕ → A) → tabulate (suc n) f ≡ tabulate n f ++ (f n ∷ [])
+pub tabulate-more : {A : Type 0} (n : ℕ) (f : ℕ → A) → tabulate (suc n) f ≡ tabulate n f ++ (f n ∷ [])
 unfolding tabulate
 tabulate-more zero f = refl
 tabulate-more (suc n) f = ap (λ l. f 0 ∷ l) (tabulate-more n (λ i. f (suc i)))
@@ -113,9 +106,8 @@ module _ {F : List ℕ} {S : Sections} {N : List ℕ} {c : Context} {i : ℕ} (r
   pub struct-known : (n ≡ 0 → ⊥) → ToldStruct F S c i N (Refused 7 (c .steps) i)
   unfolding runStep
   struct-known f = record {
-    tells = λ X W K h. record { tells = λ R. stops _ 7 i _ (struct-tested ∙ ne-eqb n 0 f) refl };
+    answered = record { tells = λ W. answer-stops _ 7 i _ (struct-tested ∙ ne-eqb n 0 f) refl };
     copied = λ e. absurd (let z : _≡_ {A = ℕ} 0 1 = cc in omega arith);
-    next = λ d e. refused-next _ _ _ d _ e;
   }
 
   struct-added : (W : List ℕ) → contextAt (tablesOf F S) W (withStruct c) ≡ addStruct (contextAt (tablesOf F S) W c) (structOf (tablesOf F S) i)
@@ -136,14 +128,10 @@ module _ {F : List ℕ} {S : Sections} {N : List ℕ} {c : Context} {i : ℕ} (r
   }
 
   pub struct-new : (d : Context) → n ≡ 0 → d ≡ withStruct c → ToldStruct F S c i (set N i x) (Next d)
-  unfolding runStep stepRows
+  unfolding runStep
   struct-new d z e = record {
-    tells = λ X W K h. record {
-      tells = λ R. passes _ 7 i _ (struct-tested ∙ eq-eqb n 0 z)
-          (rowless R _ refl refl (ap Next e) (record { good-tables = h .good-tables; indexed = h .indexed; scoped = h .scoped }) (struct-added W));
-    };
+    answered = record { tells = λ W. answer-passes _ 7 i _ (struct-tested ∙ eq-eqb n 0 z) (answers-next _ (ap Next e) (struct-added W)) };
     copied = λ _. struct-copied;
-    next = λ k g. next-is d k _ g e;
   }
 
 -- whether a type is well-formed, in the context of all structs
@@ -301,12 +289,9 @@ module _ {F : List ℕ} {S : Sections} {X N : List ℕ} {c : Context} {i : ℕ} 
         (ap (λ k. structsOf (tablesOf F S) k) (ready .whole .structs ∙ sym (structs-long F S)))
         (record-fields F S (ready .good-tables) i (ready .there)))
 
-    pub fields-unformed : not b ≡ true → ToldFields F S X c i (Refused 9 (c .steps) i)
+    pub fields-unformed : not b ≡ true → Answered F S c (structFields i) (Refused 9 (c .steps) i)
     unfolding runStep
-    fields-unformed f = record {
-      tells = λ W K h. record { tells = λ R. stops _ 9 i _ (fields-tested W ∙ not-true b f) refl };
-      next = λ d e. refused-next _ _ _ d _ e;
-    }
+    fields-unformed f = record { tells = λ W. answer-stops _ 9 i _ (fields-tested W ∙ not-true b f) refl }
 
     module _ (f : not b ≡ false) {N′ : List ℕ} (copied : CopiedFields F S N 0 first count N′) (n : Bool) (en : n ≡ allNew N′ count) where
       fields-compared : distinctFields (structOf (tablesOf F S) i .fields) ≡ n
@@ -316,22 +301,15 @@ module _ {F : List ℕ} {S : Sections} {X N : List ℕ} {c : Context} {i : ℕ} 
           ∙ ap (allNew N′) ec
           ∙ names-distinct F S N′ i (λ j h. copied .names j (subst (λ k. j < k) (sym ec) h) ∙ ap (λ k. fieldAt (tablesOf F S) (k + j) .name) ef))
 
-      pub fields-again : not n ≡ true → ToldFields F S X c i (Refused 7 (c .steps) i)
+      pub fields-again : not n ≡ true → Answered F S c (structFields i) (Refused 7 (c .steps) i)
       unfolding runStep
       fields-again g = record {
-        tells = λ W K h. record {
-          tells = λ R. passes _ 9 i _ (fields-tested W ∙ not-false b f) (stops _ 7 i _ (fields-compared ∙ not-true n g) refl);
-        };
-        next = λ d e. refused-next _ _ _ d _ e;
+        tells = λ W. answer-passes _ 9 i _ (fields-tested W ∙ not-false b f) (answer-stops _ 7 i _ (fields-compared ∙ not-true n g) refl);
       }
 
-      pub fields-distinct : (d : Context) → not n ≡ false → d ≡ withStep c → ToldFields F S X c i (Next d)
-      unfolding runStep stepRows
+      pub fields-distinct : (d : Context) → not n ≡ false → d ≡ withStep c → Answered F S c (structFields i) (Next d)
+      unfolding runStep
       fields-distinct d g e = record {
-        tells = λ W K h. record {
-          tells = λ R. passes _ 9 i _ (fields-tested W ∙ not-false b f)
-              (passes _ 7 i _ (fields-compared ∙ not-false n g)
-              (rowless R _ refl refl (ap Next e) (record { good-tables = h .good-tables; indexed = h .indexed; scoped = h .scoped }) refl));
-        };
-        next = λ k h. next-is d k _ h e;
+        tells = λ W. answer-passes _ 9 i _ (fields-tested W ∙ not-false b f)
+            (answer-passes _ 7 i _ (fields-compared ∙ not-false n g) (answers-next _ (ap Next e) refl));
       }

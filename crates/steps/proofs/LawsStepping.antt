@@ -6,6 +6,7 @@ use mathlib.Core.List.{List, []}
 use Prim.Native.Nat.{ℕ, _<_}
 use native.Mathlib.Omega.{arith}
 use lib.ListN.{length}
+use Rattle.oat.specs.Tables.{Tables}
 use Rattle.oat.specs.Types.{structsOf}
 use Rattle.typing_rules.specs.Contexts as Contexts
 use Rattle.typing_rules.specs.Judge.{Out, ok, needs}
@@ -19,7 +20,7 @@ use Rattle.expressions.specs.Contract.{contextOf}
 use Rattle.steps.specs.declared.context.Context.{Context}
 use Rattle.steps.specs.declared.context.Stepped.{Stepped}
 use Rattle.steps.specs.declared.context.Stepped.the-variants.{Next, Refused}
-use Rattle.steps.specs.Contract.{contextAt, afterStep, spanOf, Held, Stepping, accepts, refuses, Whole}
+use Rattle.steps.specs.Contract.{contextAt, afterStep, spanOf, Held, Stepping, accepts, refuses, Answering, answers-refused, Whole}
 
 -- a premise that is tested
 module _ {F : List ℕ} {S : Sections} {X : List ℕ} {c : Context} {s : Step} {R R′ W′ K′ : List ℕ} {r : Stepped} where
@@ -28,6 +29,13 @@ module _ {F : List ℕ} {S : Sections} {X : List ℕ} {c : Context} {s : Step} {
 
   pub passes : (b : Bool) (p q : ℕ) (o : Out (Contexts.Context ℕ)) → b ≡ true → Stepping F S X c s R R′ W′ K′ r o → Stepping F S X c s R R′ W′ K′ r (needs b p q o)
   passes b p q o t m = rw t m
+
+module _ {T : Tables} {W : List ℕ} {c : Context} {s : Step} {r : Stepped} where
+  pub answer-stops : (b : Bool) (p q : ℕ) (o : Out (Contexts.Context ℕ)) → b ≡ false → r ≡ Refused p (c .steps) q → Answering T W c s r (needs b p q o)
+  answer-stops b p q o f e = rw f (answers-refused p q e)
+
+  pub answer-passes : (b : Bool) (p q : ℕ) (o : Out (Contexts.Context ℕ)) → b ≡ true → Answering T W c s r o → Answering T W c s r (needs b p q o)
+  answer-passes b p q o t m = rw t m
 
 -- an accepted step without rows
 pub rowless : {F : List ℕ} {S : Sections} {X : List ℕ} {c : Context} {s : Step} {W′ K′ : List ℕ} {r : Stepped} (R : List ℕ) (C : Contexts.Context ℕ)

@@ -3,7 +3,7 @@
 -- nothing.
 use mathlib.Core.Path.{_≡_}
 use mathlib.Core.Bool.{Bool, true}
-use mathlib.Core.List.{List}
+use mathlib.Core.List.{List, []}
 use Prim.Native.Nat.{ℕ, _+_, _*_, _≤_, _<_}
 use lib.ListN.{length, getD}
 use lib.Dec.{eqb}
@@ -90,6 +90,16 @@ pub data Stepping (F : List ℕ) (S : Sections) (X : List ℕ) (c : Context) (s 
 abbrev pub Steps : List ℕ → Sections → (X : List ℕ) → Context → Step → (R W R′ W′ K′ : List ℕ) → Stepped → Type 0
 Steps F S X c s R W R′ W′ K′ r = Stepping F S X c s R R′ W′ K′ r (runStep (tablesOf F S) (contextAt (tablesOf F S) W c) s)
 
+-- a step that binds no name and writes no rows, on a struct's name or on its fields: the answer r meets the outcome of the definition in the
+-- context of c and the stack W
+pub data Answering (T : Tables) (W : List ℕ) (c : Context) (s : Step) (r : Stepped) : Out (Contexts.Context ℕ) → Type 0 where
+  answers-next : (C : Contexts.Context ℕ) → r ≡ Next (afterStep s c) → contextAt T W (afterStep s c) ≡ C → Answering T W c s r (ok C [])
+  answers-refused : (p q : ℕ) → r ≡ Refused p (c .steps) q → Answering T W c s r (no p q)
+
+-- r answers the step as the definition has it, whatever the stack holds: it depends on the file alone
+pub record Answered (F : List ℕ) (S : Sections) (c : Context) (s : Step) (r : Stepped) : Type 0 where
+  pub tells : (W : List ℕ) → Answering (tablesOf F S) W c s r (runStep (tablesOf F S) (contextAt (tablesOf F S) W c) s)
+
 -- the refusal of a judgement, at a step; it is asked of refusals alone
 abbrev pub handedUp : Judgement → ℕ → Stepped
 handedUp (Typed t) step = Refused 0 step 0
@@ -123,9 +133,8 @@ pub record ReadyStruct (F : List ℕ) (S : Sections) (N : List ℕ) (c : Context
   pub few : c .steps < 65536
 
 pub record ToldStruct (F : List ℕ) (S : Sections) (c : Context) (i : ℕ) (N′ : List ℕ) (r : Stepped) : Type 0 where
-  pub tells : (X W K : List ℕ) → Held F S X W K c → Rowless F S X c (structName i) W W K r
+  pub answered : Answered F S c (structName i) r
   pub copied : r ≡ Next (withStruct c) → Copied F S N′ (i + 1)
-  pub next : (d : Context) → r ≡ Next d → d ≡ withStruct c
 
 -- built-ins
 pub record ReadyBuiltIn (F : List ℕ) (S : Sections) (X W K : List ℕ) (c : Context) (i : ℕ) : Type 0 where
@@ -170,10 +179,6 @@ pub record ReadyFields (F : List ℕ) (S : Sections) (X N : List ℕ) (c : Conte
   pub long : 1024 ≤ length N
   pub whole : Whole S c
   pub there : i < S .structs
-
-pub record ToldFields (F : List ℕ) (S : Sections) (X : List ℕ) (c : Context) (i : ℕ) (r : Stepped) : Type 0 where
-  pub tells : (W K : List ℕ) → Held F S X W K c → Rowless F S X c (structFields i) W W K r
-  pub next : (d : Context) → r ≡ Next d → d ≡ withStep c
 
 -- the types of `count` fields from `first` on are well-formed, as the index has it
 unfoldable pub typesFormed : List ℕ → Tables → ℕ → ℕ → Bool

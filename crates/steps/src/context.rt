@@ -26,8 +26,8 @@ use statements::cycle::block;
 use type_index::formed::is_formed;
 ghost use mathlib.Core.Path.{_≡_};
 ghost use Prim.Native.Nat.{_+_, _<_};
-ghost use Rattle.typing_rules.specs.Steps.{builtIn};
-ghost use Rattle.steps.specs.Contract.{withStruct, withName, withStep, handedUp, Rowless, ReadyStruct, ToldStruct, ReadyBuiltIn, ReadyHeading, ToldHeading, ReadyGlobal, ToldGlobal, ReadyFields, ToldFields, ReadyBody, ToldBody};
+ghost use Rattle.typing_rules.specs.Steps.{builtIn, structFields};
+ghost use Rattle.steps.specs.Contract.{withStruct, withName, withStep, handedUp, Answered, Rowless, ReadyStruct, ToldStruct, ReadyBuiltIn, ReadyHeading, ToldHeading, ReadyGlobal, ToldGlobal, ReadyFields, ReadyBody, ToldBody};
 
 // How many structs are declared, how many names of built-ins, functions and globals, and how many steps are done.
 pub struct Context {
@@ -215,7 +215,7 @@ impl Context {
         i: usize,
     ) -> Stepped
         requires { ⌜ ReadyFields (now file) sections (now index) (now names) self i ⌝ }
-        ensures { λ r. ⌜ ToldFields (now (file .entry)) sections (now (index .entry)) self i r ⌝ }
+        ensures { λ r. ⌜ Answered (now (file .entry)) sections self (structFields i) r ⌝ }
     {
         let first = struct_first(file, sections, i);
         let count = struct_count(file, sections, i);

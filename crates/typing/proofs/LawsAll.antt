@@ -16,10 +16,11 @@ use Rattle.steps.specs.declared.context.Context.{Context}
 use Rattle.steps.specs.declared.context.Stepped.{Stepped}
 use Rattle.steps.specs.declared.context.Stepped.the-variants.{Next}
 use Rattle.steps.specs.Contract.{Held}
-use Rattle.typing.specs.Runs.{start, afterSteps, Touched, touched-first, touched-later, Runs, ToldStructs, ReadyBuiltIns, ToldBuiltIns, ReadyStructs, ToldFieldsOf, Declares, ReadyDecls, ToldDecls, HeadingsTold, ReadyRun, firstSteps, ToldFirst, programOf, ToldRun}
+use Rattle.typing.specs.Runs.{start, afterSteps, Touched, touched-first, touched-later, Runs, AnsweredAll, ReadyBuiltIns, ToldBuiltIns, ReadyStructs, Declares, ReadyDecls, ToldDecls, HeadingsTold, ReadyRun, firstSteps, ToldFirst, programOf, ToldRun}
 use Rattle.typing.proofs.LawsRuns.{Stopped, after-append, touched-either, Apart, runs-then, runs-stop, runs-next}
 use Rattle.typing.proofs.LawsCounts.{More, after-counted, structs-alike, built-ins-alike, fields-alike, Bare, bare-none, bare-next, structs-bare, built-ins-bare, fields-bare, bare-untouched, headings-group, globals-group, bodies-group}
 use Rattle.typing.proofs.LawsGroups.{decls-some, group-alike, group-few, group-within}
+use Rattle.typing.proofs.LawsAnswers.{answers-run}
 use Rattle.typing.proofs.LawsLoops.{apart-bare}
 
 -- headings have no rows; globals and bodies have none in common
@@ -69,14 +70,17 @@ module _ {F : List ℕ} {S : Sections} {X N W K : List ℕ} (z : ReadyRun F S X 
   pub first-structs : Laid F S × (1024 ≤ length N)
   first-structs = (z .held .good-tables .laid, z .long)
 
-  pub first-structs-stop : {r : Stepped} → ToldStructs F S r → Stopped r → ToldFirst F S X W W K r
-  first-structs-stop told e = record { tells = λ R ds D. runs-stop (tabulate (S .«built_ins») builtIn ++ headings 0 ds) e (told .tells X R W K (z .held)) }
+  structs-run : {r : Stepped} → AnsweredAll F S start (tabulate (S .structs) structName) r → (R : List ℕ) → Runs F S X start (tabulate (S .structs) structName) R W R W K r
+  structs-run told R = answers-run (z .held) (structs-alike (S .structs)) told R
 
-  module _ {r₁ : Stepped} {c : Context} (told₁ : ToldStructs F S r₁) (e₁ : r₁ ≡ Next c) where
+  pub first-structs-stop : {r : Stepped} → AnsweredAll F S start (tabulate (S .structs) structName) r → Stopped r → ToldFirst F S X W W K r
+  first-structs-stop told e = record { tells = λ R ds D. runs-stop (tabulate (S .«built_ins») builtIn ++ headings 0 ds) e (structs-run told R) }
+
+  module _ {r₁ : Stepped} {c : Context} (told₁ : AnsweredAll F S start (tabulate (S .structs) structName) r₁) (e₁ : r₁ ≡ Next c) where
     structs-counted : More start c (S .structs) 0 (S .structs)
     structs-counted =
         let m = after-counted 1 0 (tabulate (S .structs) structName) start (structs-alike (S .structs)) in
-        let e = runs-next e₁ (told₁ .tells X [] W K (z .held)) .0 in
+        let e = runs-next e₁ (structs-run told₁ []) .0 in
         let n = tabulate-long (S .structs) structName in
         record {
           structs-are = ap (λ x. x .structs) e ∙ omega (arith, m .structs-are, n);
@@ -86,7 +90,7 @@ module _ {F : List ℕ} {S : Sections} {X N W K : List ℕ} (z : ReadyRun F S X 
 
     pub first-built-ins : ReadyBuiltIns F S X W K c
     first-built-ins = record {
-      held = runs-next e₁ (told₁ .tells X [] W K (z .held)) .1;
+      held = runs-next e₁ (structs-run told₁ []) .1;
       structs = omega (arith, structs-counted .structs-are);
       none = omega (arith, structs-counted .names-are);
       few = omega (arith, structs-counted .steps-are, z .held .good-tables .laid .structs-most);
@@ -94,7 +98,7 @@ module _ {F : List ℕ} {S : Sections} {X N W K : List ℕ} (z : ReadyRun F S X 
 
     module _ {r₂ : Stepped} {K₂ : List ℕ} (told₂ : ToldBuiltIns F S X W c K₂ r₂) where
       both : (R : List ℕ) → Runs F S X start (tabulate (S .structs) structName ++ tabulate (S .«built_ins») builtIn) R W R W K₂ r₂
-      both R = runs-then (apart-bare _ (built-ins-bare (S .«built_ins»))) e₁ (told₁ .tells X R W K (z .held)) (told₂ .tells R)
+      both R = runs-then (apart-bare _ (built-ins-bare (S .«built_ins»))) e₁ (structs-run told₁ R) (told₂ .tells R)
 
       pub first-built-ins-stop : Stopped r₂ → ToldFirst F S X W W K₂ r₂
       first-built-ins-stop e = record {
@@ -215,9 +219,12 @@ module _ {F : List ℕ} {S : Sections} {X N W K : List ℕ} (z : ReadyRun F S X 
         held-after : Held F S X W₂ K₂ d
         held-after = runs-next e₂ (told₂ .tells (z .declarations) (z .declares)) .1
 
-        module _ {r₃ : Stepped} (told₃ : ToldFieldsOf F S X d r₃) where
+        module _ {r₃ : Stepped} (told₃ : AnsweredAll F S d (tabulate (S .structs) structFields) r₃) where
+          fields-run : Runs F S X d (tabulate (S .structs) structFields) R₂ W₂ R₂ W₂ K₂ r₃
+          fields-run = answers-run held-after (fields-alike (S .structs)) told₃ R₂
+
           third : (ds : List Decl) → Declares F S ds → Runs F S X start (firstSteps S ds ++ globals 0 ds ++ tabulate (S .structs) structFields) R W R₂ W₂ K₂ r₃
-          third ds D = runs-then (apart-bare _ (fields-bare (S .structs))) e₂ (second ds D) (told₃ .tells R₂ W₂ K₂ held-after)
+          third ds D = runs-then (apart-bare _ (fields-bare (S .structs))) e₂ (second ds D) fields-run
 
           pub all-fields-stop : Stopped r₃ → ToldRun F S X R W R₂ W₂ K₂ r₃
           all-fields-stop e = record {
@@ -228,7 +235,7 @@ module _ {F : List ℕ} {S : Sections} {X N W K : List ℕ} (z : ReadyRun F S X 
             third-counted : More d b 0 0 (S .structs)
             third-counted =
                 let m = after-counted 0 0 (tabulate (S .structs) structFields) d (fields-alike (S .structs)) in
-                let e = runs-next e₃ (told₃ .tells R₂ W₂ K₂ held-after) .0 in
+                let e = runs-next e₃ fields-run .0 in
                 let n = tabulate-long (S .structs) structFields in
                 record {
                   structs-are = ap (λ x. x .structs) e ∙ omega (arith, m .structs-are);
@@ -244,7 +251,7 @@ module _ {F : List ℕ} {S : Sections} {X N W K : List ℕ} (z : ReadyRun F S X 
                 let f = first-counted ds D in
                 let s = second-counted ds D in
                 record {
-                  held = runs-next e₃ (told₃ .tells R₂ W₂ K₂ held-after) .1;
+                  held = runs-next e₃ fields-run .1;
                   structs = omega (arith, f .structs-are, s .structs-are, third-counted .structs-are);
                   low = omega (arith, f .names-are, s .names-are, third-counted .names-are);
                   declarations = ds;

@@ -10,6 +10,7 @@ use Rattle.typing_rules.specs.Steps.{Step, structName, builtIn, heading, global
 use Rattle.typing_rules.specs.Check.{rowsBegin}
 use Rattle.steps.specs.declared.context.Context.{Context}
 use Rattle.steps.specs.Contract.{afterStep, spanOf}
+use Rattle.steps.proofs.LawsPlain.{tabulate-more as tabulate-last}
 use Rattle.typing.specs.Runs.{afterSteps, Touched, touched-first, touched-later}
 
 -- how many structs and names a step adds
@@ -111,13 +112,8 @@ pub fields-bare : (n : ℕ) → Bare (tabulate n structFields)
 fields-bare n = tabulated-bare n structFields (λ i. refl)
 
 -- the first records, and one more; and any that follow
-tabulate-last : {A : Type 0} (n : ℕ) (f : ℕ → A) → tabulate n f ++ (f n ∷ []) ≡ tabulate (suc n) f
-unfolding tabulate
-tabulate-last zero f = refl
-tabulate-last (suc n) f = ap (λ l. f 0 ∷ l) (tabulate-last n (λ i. f (suc i)))
-
 pub tabulate-more : {A : Type 0} (n : ℕ) (f : ℕ → A) → tabulate n f ++ (f n ∷ []) ≡ tabulate (n + 1) f
-tabulate-more n f = tabulate-last n f ∙ ap (λ k. tabulate k f) (omega arith)
+tabulate-more n f = sym (tabulate-last n f) ∙ ap (λ k. tabulate k f) (omega arith)
 
 pub tabulate-rest : {A : Type 0} (n m : ℕ) (f : ℕ → A) → n ≤ m → (rest : List A) × (tabulate n f ++ rest ≡ tabulate m f)
 unfolding tabulate

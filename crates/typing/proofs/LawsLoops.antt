@@ -12,10 +12,11 @@ use Rattle.file_sections.specs.Layout.{Laid}
 use Rattle.steps.specs.declared.context.Context.{Context}
 use Rattle.steps.specs.declared.context.Stepped.{Stepped}
 use Rattle.steps.specs.declared.context.Stepped.the-variants.{Next}
-use Rattle.steps.specs.Contract.{withStruct, withStep, spanOf, Held, Steps, Rowless, Copied, ReadyStruct, ToldStruct, ReadyBuiltIn, ReadyFields, ToldFields}
-use Rattle.typing.specs.Runs.{start, Runs, ToldStructs, ReadyBuiltIns, ToldBuiltIns, ReadyStructs, ToldFieldsOf}
+use Rattle.steps.specs.Contract.{withStruct, withStep, spanOf, Answered, Steps, Rowless, Copied, ReadyStruct, ToldStruct, ReadyBuiltIn, ReadyFields}
+use Rattle.typing.specs.Runs.{start, Runs, AnsweredAll, ReadyBuiltIns, ToldBuiltIns, ReadyStructs}
 use Rattle.typing.proofs.LawsRuns.{Stopped, Apart, runs-none, runs-one, runs-then, runs-stop, runs-next}
 use Rattle.typing.proofs.LawsCounts.{after-counted, built-ins-alike, Bare, bare-none, bare-next, bare-untouched, tabulate-more, tabulate-rest}
+use Rattle.typing.proofs.LawsAnswers.{answered-next, all-none, answers-stop, answers-more}
 
 pub apart-bare : (ss : List Step) {ts : List Step} → Bare ts → Apart ss ts
 apart-bare ss b = record { never = λ i t u. bare-untouched b u }
@@ -44,22 +45,22 @@ no-records : {A : Type 0} (f : ℕ → A) → tabulate 0 f ≡ []
 unfolding tabulate
 no-records f = refl
 
+none-answered : {F : List ℕ} {S : Sections} {c : Context} (f : ℕ → Step) → AnsweredAll F S c (tabulate 0 f) (Next c)
+none-answered {F} {S} {c} f = subst (λ ss. AnsweredAll F S c ss (Next c)) (sym (no-records f)) all-none
+
 -- struct names
 pub record StructsDone (F : List ℕ) (S : Sections) (N : List ℕ) (i : ℕ) (c : Context) : Type 0 where
   pub copied : Copied F S N i
   pub counted : c ≡ record { structs = i; names = 0; steps = i }
-  pub runs : (X R W K : List ℕ) → Held F S X W K start → Runs F S X start (tabulate i structName) R W R W K (Next c)
+  pub answered : AnsweredAll F S start (tabulate i structName) (Next c)
 
 module _ {F : List ℕ} {S : Sections} where
-  structs-start : {N : List ℕ} → Laid F S → 1024 ≤ length N → StructsDone F S N 0 start
-  structs-start {N} l h = record {
+  pub structs-first : {N : List ℕ} {c : Context} → Laid F S × (1024 ≤ length N) → c ≡ start → StructsDone F S N 0 c
+  structs-first {N} (l, h) e = subst (StructsDone F S N 0) (sym e) (record {
     copied = record { laid = l; long = h; names = λ j z. absurd (omega arith) };
     counted = refl;
-    runs = λ X R W K held. subst (λ ss. Runs F S X start ss R W R W K (Next start)) (sym (no-records structName)) (runs-none refl held);
-  }
-
-  pub structs-first : {N : List ℕ} {c : Context} → Laid F S × (1024 ≤ length N) → c ≡ start → StructsDone F S N 0 c
-  structs-first {N} (l, h) e = subst (StructsDone F S N 0) (sym e) (structs-start l h)
+    answered = none-answered structName;
+  })
 
   module _ {N : List ℕ} {i : ℕ} {c : Context} (a : StructsDone F S N i c) where
     pub structs-ready : i < S .structs → ReadyStruct F S N c i
@@ -70,26 +71,21 @@ module _ {F : List ℕ} {S : Sections} where
       few = omega (arith, ap (λ x. x .steps) (a .counted), a .copied .laid .structs-most);
     }
 
-    held-there : {X W K : List ℕ} → Held F S X W K start → (R : List ℕ) → Held F S X W K c
-    held-there {X} {W} {K} h R = runs-next refl (a .runs X R W K h) .1
-
     module _ {N′ : List ℕ} {t : Stepped} (told : ToldStruct F S c i N′ t) where
-      pub structs-stop : i < S .structs → Stopped t → ToldStructs F S t
-      structs-stop l e = record {
-        tells = λ X R W K h. records-stop structName (λ j. refl) (S .structs) l e (a .runs X R W K h) (told .tells X W K (held-there h R) .tells R);
-      }
+      pub structs-stop : i < S .structs → Stopped t → AnsweredAll F S start (tabulate (S .structs) structName) t
+      structs-stop l e = answers-stop structName (λ j. refl) (a .answered) (told .answered) (S .structs) l e
 
       pub structs-next : {d : Context} → t ≡ Next d → StructsDone F S N′ (i + 1) d
-      structs-next {d} e = record {
-        copied = told .copied (e ∙ ap (λ x. Next x) (told .next d e));
-        counted = told .next d e ∙ ap withStruct (a .counted);
-        runs = λ X R W K h. records-next structName (λ j. refl) e (a .runs X R W K h) (told .tells X W K (held-there h R) .tells R);
-      }
+      structs-next {d} e =
+          let n = answered-next (told .answered) e in
+          record {
+            copied = told .copied (e ∙ ap (λ x. Next x) n);
+            counted = n ∙ ap withStruct (a .counted);
+            answered = answers-more structName (λ j. refl) (a .answered) (told .answered) e;
+          }
 
-  pub structs-done : {N : List ℕ} {i : ℕ} {c : Context} → StructsDone F S N i c → i ≤ S .structs → S .structs ≤ i → ToldStructs F S (Next c)
-  structs-done {N} {i} {c} a l h = record {
-    tells = λ X R W K z. subst (λ n. Runs F S X start (tabulate n structName) R W R W K (Next c)) (same-record i (S .structs) l h) (a .runs X R W K z);
-  }
+    pub structs-done : i ≤ S .structs → S .structs ≤ i → AnsweredAll F S start (tabulate (S .structs) structName) (Next c)
+    structs-done l h = subst (λ n. AnsweredAll F S start (tabulate n structName) (Next c)) (same-record i (S .structs) l h) (a .answered)
 
 -- built-ins
 pub record BuiltInsDone (F : List ℕ) (S : Sections) (X W : List ℕ) (c₀ : Context) (K : List ℕ) (i : ℕ) (c : Context) : Type 0 where
@@ -130,22 +126,22 @@ module _ {F : List ℕ} {S : Sections} {X W : List ℕ} {c₀ : Context} where
     }
 
 -- struct fields
-pub record FieldsDone (F : List ℕ) (S : Sections) (X : List ℕ) (c₀ : Context) (i : ℕ) (c : Context) : Type 0 where
+pub record FieldsDone (F : List ℕ) (S : Sections) (c₀ : Context) (i : ℕ) (c : Context) : Type 0 where
   pub counted : c ≡ record { structs = c₀ .structs; names = c₀ .names; steps = c₀ .steps + i }
-  pub runs : (R W K : List ℕ) → Held F S X W K c₀ → Runs F S X c₀ (tabulate i structFields) R W R W K (Next c)
+  pub answered : AnsweredAll F S c₀ (tabulate i structFields) (Next c)
 
-module _ {F : List ℕ} {S : Sections} {X : List ℕ} {c₀ : Context} where
-  pub fields-start : FieldsDone F S X c₀ 0 c₀
+module _ {F : List ℕ} {S : Sections} {c₀ : Context} where
+  pub fields-start : FieldsDone F S c₀ 0 c₀
   fields-start = record {
     counted = ap (λ k. record { structs = c₀ .structs; names = c₀ .names; steps = k }) (more-none (c₀ .steps));
-    runs = λ R W K h. subst (λ ss. Runs F S X c₀ ss R W R W K (Next c₀)) (sym (no-records structFields)) (runs-none refl h);
+    answered = none-answered structFields;
   }
     where
       more-none : (k : ℕ) → k ≡ k + 0
       more-none k = omega arith
 
-  module _ {i : ℕ} {c : Context} (a : FieldsDone F S X c₀ i c) where
-    pub fields-ready : {N N₀ : List ℕ} → ReadyStructs F S X N₀ c₀ → length N ≡ length N₀ → i < S .structs → ReadyFields F S X N c i
+  module _ {i : ℕ} {c : Context} (a : FieldsDone F S c₀ i c) where
+    pub fields-ready : {X N N₀ : List ℕ} → ReadyStructs F S X N₀ c₀ → length N ≡ length N₀ → i < S .structs → ReadyFields F S X N c i
     fields-ready z e h = record {
       good-tables = z .good-tables;
       indexed = z .indexed;
@@ -157,23 +153,18 @@ module _ {F : List ℕ} {S : Sections} {X : List ℕ} {c₀ : Context} where
       there = h;
     }
 
-    module _ {t : Stepped} (told : ToldFields F S X c i t) where
-      field-step : {R W K : List ℕ} → Held F S X W K c₀ → Steps F S X c (structFields i) R W R W K t
-      field-step {R} {W} {K} h = told .tells W K (runs-next refl (a .runs R W K h) .1) .tells R
+    module _ {t : Stepped} (told : Answered F S c (structFields i) t) where
+      pub fields-stop : i < S .structs → Stopped t → AnsweredAll F S c₀ (tabulate (S .structs) structFields) t
+      fields-stop l e = answers-stop structFields (λ j. refl) (a .answered) told (S .structs) l e
 
-      pub fields-stop : i < S .structs → Stopped t → ToldFieldsOf F S X c₀ t
-      fields-stop l e = record { tells = λ R W K h. records-stop structFields (λ j. refl) (S .structs) l e (a .runs R W K h) (field-step h) }
-
-      pub fields-next : {d : Context} → t ≡ Next d → FieldsDone F S X c₀ (i + 1) d
+      pub fields-next : {d : Context} → t ≡ Next d → FieldsDone F S c₀ (i + 1) d
       fields-next {d} e = record {
-        counted = told .next d e ∙ ap withStep (a .counted) ∙ ap (λ k. record { structs = c₀ .structs; names = c₀ .names; steps = k }) (one-more (c₀ .steps) i);
-        runs = λ R W K h. records-next structFields (λ j. refl) e (a .runs R W K h) (field-step h);
+        counted = answered-next told e ∙ ap withStep (a .counted) ∙ ap (λ k. record { structs = c₀ .structs; names = c₀ .names; steps = k }) (one-more (c₀ .steps) i);
+        answered = answers-more structFields (λ j. refl) (a .answered) told e;
       }
         where
           one-more : (k i : ℕ) → k + i + 1 ≡ k + (i + 1)
           one-more k i = omega arith
 
-    pub fields-done : i ≤ S .structs → S .structs ≤ i → ToldFieldsOf F S X c₀ (Next c)
-    fields-done l h = record {
-      tells = λ R W K z. subst (λ n. Runs F S X c₀ (tabulate n structFields) R W R W K (Next c)) (same-record i (S .structs) l h) (a .runs R W K z);
-    }
+    pub fields-done : i ≤ S .structs → S .structs ≤ i → AnsweredAll F S c₀ (tabulate (S .structs) structFields) (Next c)
+    fields-done l h = subst (λ n. AnsweredAll F S c₀ (tabulate n structFields) (Next c)) (same-record i (S .structs) l h) (a .answered)

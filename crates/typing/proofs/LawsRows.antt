@@ -1,37 +1,21 @@
 -- The rows of an accepted file: those of every declaration stand at its node, so all rows are the definition's. Assumes nothing.
 use mathlib.Core.Path.{_≡_, refl, ap, sym, subst, _∙_}
 use mathlib.Core.Bool.{Bool, true, false}
-use mathlib.Core.List.{List, [], _∷_, _++_}
-use Prim.Native.Nat.{ℕ, _+_, _-_, _*_, _<_}
+use mathlib.Core.List.{List, [], _∷_}
+use Prim.Native.Nat.{ℕ, _+_, _*_, _<_}
 use native.Mathlib.Omega.{arith}
-use lib.ListN.{length, getD, length-append, List·getD-append}
-use lib.Dec.{eqb, ltb}
-use lib.Seq.{ext-getD, getD-append-add}
-use borrow.Author.Tests.{eqb-true, ltb-true, ltb-false}
+use lib.ListN.{length, getD, length-append}
+use lib.Dec.{eqb}
+use lib.Seq.{ext-getD}
+use borrow.Author.Tests.{eqb-true}
 use Rattle.oat.specs.Basics.{pick}
 use Rattle.oat.specs.Syntax.{Decl, sizeDecl, sizeDecls}
 use Rattle.typing_rules.specs.Steps.{Step}
 use Rattle.typing_rules.specs.Check.{Segment, segmentAt, rowsFrom}
 use Rattle.typing_rules.proofs.RowsTheorem.{SegmentsLong, long-none, long-next}
 use Rattle.steps.specs.Contract.{ListAt}
+use Rattle.steps.proofs.LawsListAt.{list-none, list-append}
 use Rattle.typing.specs.Runs.{Written, written-none, written-next}
-
-list-none : (R : List ℕ) (m : ℕ) → ListAt R m []
-list-none R m = record { at = λ j h. absurd (omega arith) }
-
--- one list after another
-list-append : (R : List ℕ) (m : ℕ) (l k : List ℕ) → ListAt R m l → ListAt R (m + length l) k → ListAt R m (l ++ k)
-list-append R m l k a b = record { at = λ j h. go j h (ltb j (length l)) refl }
-  where
-    go : (j : ℕ) → j < length (l ++ k) → (t : Bool) → ltb j (length l) ≡ t → getD R (m + j) 0 ≡ getD (l ++ k) j 0
-    go j h true e = a .at j (ltb-true j (length l) e) ∙ sym (List·getD-append l k 0 j (ltb-true j (length l) e))
-    go j h false e =
-        let low = ltb-false j (length l) e in
-        let i : j ≡ length l + (j - length l) = omega arith in
-        ap (λ x. getD R x 0) (omega arith)
-        ∙ b .at (j - length l) (omega (arith, length-append l k))
-        ∙ sym (getD-append-add l k (j - length l) 0)
-        ∙ ap (λ x. getD (l ++ k) x 0) (sym i)
 
 -- the segment that is found at a node stands there
 segment-stands : {R : List ℕ} {ss : List Step} {gs : List Segment} (n : ℕ) → Written R ss gs → ListAt R (n * 2) (segmentAt n gs)

@@ -2,13 +2,14 @@
 use mathlib.Core.Path.{_≡_, refl, ap, ap₂, sym, subst, _∙_}
 use mathlib.Core.Bool.{Bool, true, false}
 use mathlib.Core.List.{List, [], _∷_, _++_, append-assoc}
-use Prim.Native.Nat.{ℕ, suc, _+_, _*_, _≤_, _<_}
+use Prim.Native.Nat.{ℕ, suc, _+_, _*_}
 use native.Mathlib.Omega.{arith}
 use types.Run.{OneOf}
 use denote.Enum.Declared.{tagOf}
-use lib.ListN.{length, getD}
+use lib.ListN.{getD}
 use lib.Dec.{ltb}
 use borrow.Author.Tests.{ltb-true, ltb-false}
+use Rattle.oat.specs.Tables.{Tables}
 use Rattle.typing_rules.specs.Contexts as Contexts
 use Rattle.typing_rules.specs.Labels.{Label}
 use Rattle.typing_rules.specs.Judge.{Out, ok, no}
@@ -21,8 +22,9 @@ use Rattle.steps.specs.declared.context.Context.{Context}
 use Rattle.steps.specs.declared.context.Stepped.{Stepped}
 use Rattle.steps.specs.declared.context.Stepped.the-variants.{Next, Refused}
 use Rattle.steps.proofs.context.Stepped.{the-type}
-use Rattle.steps.specs.Contract.{contextAt, afterStep, spanOf, Held, ListAt, Stepping, accepts, refuses, Steps}
-use Rattle.typing.specs.Runs.{afterSteps, withSegments, Touched, touched-first, touched-later, Written, written-none, written-next, Run, Runs, goes, stops}
+use Rattle.steps.specs.Contract.{contextAt, afterStep, spanOf, Held, Stepping, accepts, refuses, Steps}
+use Rattle.steps.proofs.LawsListAt.{list-kept}
+use Rattle.typing.specs.Runs.{afterSteps, withSegments, Touched, touched-first, touched-later, Written, written-none, written-next, GoOn, Break, Run, Runs, goes, stops}
 
 -- every step is counted
 pub step-counted : (s : Step) (c : Context) → afterStep s c .steps ≡ suc (c .steps)
@@ -67,17 +69,11 @@ written-append written-none w = w
 written-append (written-next a b c v) w = written-next a b c (written-append v w)
 
 -- rows that have not changed are still written
-pub list-kept : {R R′ : List ℕ} {m : ℕ} (l : List ℕ) → ((i : ℕ) → m ≤ i → i < m + length l → getD R′ i 0 ≡ getD R i 0) → ListAt R m l → ListAt R′ m l
-list-kept {R} {R′} {m} l f c = record { at = go }
-  where
-    go : (j : ℕ) → j < length l → getD R′ (m + j) 0 ≡ getD l j 0
-    go j h = f (m + j) (omega arith) (omega arith) ∙ c .at j h
-
 pub written-kept : {R R′ : List ℕ} {ss : List Step} {gs : List Segment} → ((i : ℕ) → Touched i ss → getD R′ i 0 ≡ getD R i 0) → Written R ss gs → Written R′ ss gs
 written-kept f written-none = written-none
 written-kept {R} {R′} f (written-next {s = s} {g = g} a b c w) =
     written-next a b
-    (list-kept (g .rows) (λ i l h. f i (touched-first l (omega (arith, b)))) c)
+    (list-kept R R′ (rowsBegin s * 2) (g .rows) (λ i l h. f i (touched-first l (omega (arith, b)))) c)
     (written-kept (λ i t. f i (touched-later t)) w)
 
 -- no number belongs to steps of both
@@ -94,15 +90,15 @@ stopped r h = record { never = λ c e. first (tagOf the-type (Next c)) (rw e at 
     first : (k : ℕ) → OneOf (1 ∷ []) k → (k ≡ 1 → ⊥) → ⊥
     first k h f = f h
 
-next-is : {r : Stepped} {c d : Context} → r ≡ Next c → r ≡ Next d → c ≡ d
+pub next-is : {r : Stepped} {c d : Context} → r ≡ Next c → r ≡ Next d → c ≡ d
 next-is e f = cc
 
-not-both : {r : Stepped} {c : Context} {p k q : ℕ} → r ≡ Next c → r ≡ Refused p k q → ⊥
+pub not-both : {r : Stepped} {c : Context} {p k q : ℕ} → r ≡ Next c → r ≡ Refused p k q → ⊥
 not-both e f = let z : _≡_ {A = ℕ} 0 1 = cc in omega arith
 
 -- one step
 module _ (F : List ℕ) (S : Sections) (W : List ℕ) (c : Context) (s : Step) where
-  one-on : (W′ : List ℕ) (C : Contexts.Context ℕ) (L : List (Label ℕ)) → runStep (tablesOf F S) (contextAt (tablesOf F S) W c) s ≡ ok C L
+  pub one-on : (W′ : List ℕ) (C : Contexts.Context ℕ) (L : List (Label ℕ)) → runStep (tablesOf F S) (contextAt (tablesOf F S) W c) s ≡ ok C L
       → contextAt (tablesOf F S) W′ (afterStep s c) ≡ C → (rest : List Step)
       → run (tablesOf F S) (contextAt (tablesOf F S) W c) (s ∷ rest) (c .steps)
       ≡ withSegment (record { node = rowsBegin s; rows = stepRows (tablesOf F S) s L }) (run (tablesOf F S) (contextAt (tablesOf F S) W′ (afterStep s c)) rest (afterStep s c .steps))
@@ -110,10 +106,29 @@ module _ (F : List ℕ) (S : Sections) (W : List ℕ) (c : Context) (s : Step) w
   one-on W′ C L e m rest =
       rw e (ap₂ (λ B k. withSegment (record { node = rowsBegin s; rows = stepRows (tablesOf F S) s L }) (run (tablesOf F S) B rest k)) (sym m) (sym (step-counted s c)))
 
-  one-stop : (p q : ℕ) → runStep (tablesOf F S) (contextAt (tablesOf F S) W c) s ≡ no p q → (rest : List Step)
+  pub one-stop : (p q : ℕ) → runStep (tablesOf F S) (contextAt (tablesOf F S) W c) s ≡ no p q → (rest : List Step)
       → run (tablesOf F S) (contextAt (tablesOf F S) W c) (s ∷ rest) (c .steps) ≡ refused p (c .steps) q
   unfolding run
   one-stop p q e rest = rw e refl
+
+-- one run after another, and a refused run, whatever follows
+module _ (T : Tables) (c : Context) (ss ts : List Step) (W : List ℕ) where
+  again : (rest : List Step) → run T (contextAt T W c) ((ss ++ ts) ++ rest) (c .steps) ≡ run T (contextAt T W c) (ss ++ (ts ++ rest)) (c .steps)
+  again rest = ap (λ us. run T (contextAt T W c) us (c .steps)) (append-assoc ss ts rest)
+
+  pub then-on : (W₁ W₂ : List ℕ) (gs hs : List Segment) → GoOn T c ss W W₁ gs → GoOn T (afterSteps ss c) ts W₁ W₂ hs → GoOn T c (ss ++ ts) W W₂ (gs ++ hs)
+  then-on W₁ W₂ gs hs m n rest =
+      again rest
+      ∙ m (ts ++ rest)
+      ∙ ap (withSegments gs) (n rest)
+      ∙ sym (segments-append gs hs _)
+      ∙ ap (λ e. withSegments (gs ++ hs) (run T (contextAt T W₂ e) rest (e .steps))) (sym (after-append ss ts c))
+
+  pub then-breaks : (W₁ : List ℕ) (gs : List Segment) (p k q : ℕ) → GoOn T c ss W W₁ gs → Break T (afterSteps ss c) ts W₁ p k q → Break T c (ss ++ ts) W p k q
+  then-breaks W₁ gs p k q m n rest = again rest ∙ m (ts ++ rest) ∙ ap (withSegments gs) (n rest) ∙ segments-refused gs p k q
+
+  pub breaks-still : (p k q : ℕ) → Break T c ss W p k q → Break T c (ss ++ ts) W p k q
+  breaks-still p k q n rest = again rest ∙ n (ts ++ rest)
 
 one-kept : (s : Step) {R R′ : List ℕ} → Kept (rowsBegin s * 2) ((rowsBegin s + spanOf s) * 2) R R′ → (i : ℕ) → (Touched i (s ∷ []) → ⊥) → getD R′ i 0 ≡ getD R i 0
 one-kept s {R} {R′} k i t = go (ltb i (rowsBegin s * 2)) (ltb i ((rowsBegin s + spanOf s) * 2)) refl refl
@@ -143,12 +158,7 @@ module _ {F : List ℕ} {S : Sections} {X : List ℕ} where
     then-goes : (gs hs : List Segment) → Apart ss ts → Run F S X c ss R W R₁ W₁ K₁ gs → Run F S X (afterSteps ss c) ts R₁ W₁ R₂ W₂ K₂ hs
         → Run F S X c (ss ++ ts) R W R₂ W₂ K₂ (gs ++ hs)
     then-goes gs hs a m n = record {
-      on = λ rest.
-          ap (λ us. run (tablesOf F S) (contextAt (tablesOf F S) W c) us (c .steps)) (append-assoc ss ts rest)
-          ∙ m .on (ts ++ rest)
-          ∙ ap (withSegments gs) (n .on rest)
-          ∙ sym (segments-append gs hs _)
-          ∙ ap (λ e. withSegments (gs ++ hs) (run (tablesOf F S) (contextAt (tablesOf F S) W₂ e) rest (e .steps))) (sym (after-append ss ts c));
+      on = then-on (tablesOf F S) c ss ts W W₁ W₂ gs hs (m .on) (n .on);
       held = subst (Held F S X W₂ K₂) (sym (after-append ss ts c)) (n .held);
       written = written-append (written-kept (λ i t. n .kept i (λ u. a .never i t u)) (m .written)) (n .written);
       kept = λ i t. n .kept i (λ u. t (touched-right ss u)) ∙ m .kept i (λ u. t (touched-left ts u));
@@ -160,19 +170,13 @@ module _ {F : List ℕ} {S : Sections} {X : List ℕ} where
       where
         next : Runs F S X (afterSteps ss c) ts R₁ W₁ R₂ W₂ K₂ r → Runs F S X c (ss ++ ts) R W R₂ W₂ K₂ r
         next (goes hs g n) = goes (gs ++ hs) (g ∙ ap (λ x. Next x) (sym (after-append ss ts c))) (then-goes gs hs a m n)
-        next (stops p k q g n) =
-            stops p k q g λ rest.
-            ap (λ us. run (tablesOf F S) (contextAt (tablesOf F S) W c) us (c .steps)) (append-assoc ss ts rest)
-            ∙ m .on (ts ++ rest)
-            ∙ ap (withSegments gs) (n rest)
-            ∙ segments-refused gs p k q
+        next (stops p k q g n) = stops p k q g (then-breaks (tablesOf F S) c ss ts W W₁ gs p k q (m .on) n)
 
   -- a refused run stays refused, whatever follows
   pub runs-stop : {c : Context} {ss : List Step} {R W R₁ W₁ K₁ R₂ W₂ K₂ : List ℕ} {r : Stepped} (ts : List Step) → Stopped r
       → Runs F S X c ss R W R₁ W₁ K₁ r → Runs F S X c (ss ++ ts) R W R₂ W₂ K₂ r
   runs-stop ts e (goes gs f m) = absurd (e .never _ f)
-  runs-stop {c} {ss} {W = W} ts e (stops p k q f n) =
-      stops p k q f λ rest. ap (λ us. run (tablesOf F S) (contextAt (tablesOf F S) W c) us (c .steps)) (append-assoc ss ts rest) ∙ n (ts ++ rest)
+  runs-stop {c} {ss} {W = W} ts e (stops p k q f n) = stops p k q f (breaks-still (tablesOf F S) c ss ts W p k q n)
 
   -- what an accepted run says
   pub runs-next : {c d : Context} {ss : List Step} {R W R₁ W₁ K₁ : List ℕ} {r : Stepped} → r ≡ Next d → Runs F S X c ss R W R₁ W₁ K₁ r

@@ -1,5 +1,6 @@
 pub mod LawsRuns
 pub mod LawsCounts
+pub mod LawsAnswers
 pub mod LawsGroups
 pub mod LawsHeadings
 pub mod LawsLoops

@@ -5,10 +5,11 @@ use mathlib.Core.List.{List, [], _∷_, _++_}
 use Prim.Native.Nat.{ℕ, _+_, _*_, _≤_, _<_}
 use lib.ListN.{length, getD}
 use Rattle.oat.specs.Basics.{tabulate}
+use Rattle.oat.specs.Tables.{Tables}
 use Rattle.oat.specs.Syntax.{Decl, sizeDecl, sizeDecls}
 use Rattle.oat.specs.Nodes.{DeclStands, DeclsStand}
 use Rattle.oat.specs.ProgramFile.{Program}
-use Rattle.typing_rules.specs.Steps.{Step, structName, builtIn, structFields, headings, stepsOf}
+use Rattle.typing_rules.specs.Steps.{Step, structName, builtIn, headings, stepsOf}
 use Rattle.typing_rules.specs.Check.{Segment, Ran, refused, withSegment, rowsBegin, run}
 use Rattle.file_sections.specs.declared.Sections.{Sections}
 use Rattle.file_sections.specs.Layout.{tablesOf, GoodTables}
@@ -43,12 +44,18 @@ pub data Written (R : List ℕ) : List Step → List Segment → Type 0 where
   written-next : {s : Step} {ss : List Step} {g : Segment} {gs : List Segment} → g .node ≡ rowsBegin s → length (g .rows) ≡ spanOf s * 2
       → ListAt R (rowsBegin s * 2) (g .rows) → Written R ss gs → Written R (s ∷ ss) (g ∷ gs)
 
--- the steps ss are accepted from c on, whatever follows: with the segments gs, which are written; no other row has changed, and the buffers
--- hold the context after them
+-- the steps ss are accepted from c on, whatever follows, with the segments gs; W is the stack before them, W′ after them
+abbrev pub GoOn : Tables → Context → List Step → (W W′ : List ℕ) → List Segment → Type 0
+GoOn T c ss W W′ gs =
+    (rest : List Step) → run T (contextAt T W c) (ss ++ rest) (c .steps) ≡ withSegments gs (run T (contextAt T W′ (afterSteps ss c)) rest (afterSteps ss c .steps))
+
+-- they are refused, whatever follows
+abbrev pub Break : Tables → Context → List Step → List ℕ → (p k q : ℕ) → Type 0
+Break T c ss W p k q = (rest : List Step) → run T (contextAt T W c) (ss ++ rest) (c .steps) ≡ refused p k q
+
+-- they are accepted, and the segments are written; no other row has changed, and the buffers hold the context after them
 pub record Run (F : List ℕ) (S : Sections) (X : List ℕ) (c : Context) (ss : List Step) (R W R′ W′ K′ : List ℕ) (gs : List Segment) : Type 0 where
-  pub on : (rest : List Step)
-      → run (tablesOf F S) (contextAt (tablesOf F S) W c) (ss ++ rest) (c .steps)
-      ≡ withSegments gs (run (tablesOf F S) (contextAt (tablesOf F S) W′ (afterSteps ss c)) rest (afterSteps ss c .steps))
+  pub on : GoOn (tablesOf F S) c ss W W′ gs
   pub held : Held F S X W′ K′ (afterSteps ss c)
   pub written : Written R′ ss gs
   pub kept : (i : ℕ) → (Touched i ss → ⊥) → getD R′ i 0 ≡ getD R i 0
@@ -56,12 +63,17 @@ pub record Run (F : List ℕ) (S : Sections) (X : List ℕ) (c : Context) (ss : 
 -- the answer r to the steps ss, from the context c on, is that of the definition
 pub data Runs (F : List ℕ) (S : Sections) (X : List ℕ) (c : Context) (ss : List Step) (R W R′ W′ K′ : List ℕ) (r : Stepped) : Type 0 where
   goes : (gs : List Segment) → r ≡ Next (afterSteps ss c) → Run F S X c ss R W R′ W′ K′ gs → Runs F S X c ss R W R′ W′ K′ r
-  stops : (p k q : ℕ) → r ≡ Refused p k q → ((rest : List Step) → run (tablesOf F S) (contextAt (tablesOf F S) W c) (ss ++ rest) (c .steps) ≡ refused p k q)
-      → Runs F S X c ss R W R′ W′ K′ r
+  stops : (p k q : ℕ) → r ≡ Refused p k q → Break (tablesOf F S) c ss W p k q → Runs F S X c ss R W R′ W′ K′ r
 
--- struct names
-pub record ToldStructs (F : List ℕ) (S : Sections) (r : Stepped) : Type 0 where
-  pub tells : (X R W K : List ℕ) → Held F S X W K start → Runs F S X start (tabulate (S .structs) structName) R W R W K r
+-- the same of steps that bind no name and write no rows, those on struct names and struct fields: W is the stack before and after them, and
+-- their segments are written whatever the rows hold
+pub data AnsweringAll (T : Tables) (W : List ℕ) (c : Context) (ss : List Step) (r : Stepped) : Type 0 where
+  all-next : (gs : List Segment) → r ≡ Next (afterSteps ss c) → GoOn T c ss W W gs → ((R : List ℕ) → Written R ss gs) → AnsweringAll T W c ss r
+  all-refused : (p k q : ℕ) → r ≡ Refused p k q → Break T c ss W p k q → AnsweringAll T W c ss r
+
+-- whatever the stack holds: these steps depend on the file alone
+pub record AnsweredAll (F : List ℕ) (S : Sections) (c : Context) (ss : List Step) (r : Stepped) : Type 0 where
+  pub tells : (W : List ℕ) → AnsweringAll (tablesOf F S) W c ss r
 
 -- built-ins, after the struct names
 pub record ReadyBuiltIns (F : List ℕ) (S : Sections) (X W K : List ℕ) (c : Context) : Type 0 where
@@ -80,9 +92,6 @@ pub record ReadyStructs (F : List ℕ) (S : Sections) (X N : List ℕ) (c : Cont
   pub long : 1024 ≤ length N
   pub structs : c .structs ≡ S .structs
   pub few : c .steps < 32768
-
-pub record ToldFieldsOf (F : List ℕ) (S : Sections) (X : List ℕ) (c : Context) (r : Stepped) : Type 0 where
-  pub tells : (R W K : List ℕ) → Held F S X W K c → Runs F S X c (tabulate (S .structs) structFields) R W R W K r
 
 -- the declarations of the file
 pub record Declares (F : List ℕ) (S : Sections) (ds : List Decl) : Type 0 where

@@ -6,14 +6,15 @@ use steps::context::Context;
 use steps::context::Stepped;
 ghost use Prim.Native.Nat.{_*_, _≤_};
 ghost use lib.ListN.{length};
-ghost use Rattle.typing_rules.specs.Steps.{headings, globals, bodies};
+ghost use Rattle.oat.specs.Basics.{tabulate};
+ghost use Rattle.typing_rules.specs.Steps.{structName, structFields, headings, globals, bodies};
 ghost use Rattle.file_sections.specs.Layout.{Laid};
-ghost use Rattle.typing.specs.Runs.{ToldStructs, ReadyBuiltIns, ToldBuiltIns, ReadyStructs, ToldFieldsOf, ReadyDecl, ToldDecl, HeadingTold, ReadyDecls, ToldDecls, HeadingsTold};
+ghost use Rattle.typing.specs.Runs.{start, AnsweredAll, ReadyBuiltIns, ToldBuiltIns, ReadyStructs, ReadyDecl, ToldDecl, HeadingTold, ReadyDecls, ToldDecls, HeadingsTold};
 
 // Struct names; `names` lends room for them.
 pub fn struct_names(file: &[u8], sections: Sections, names: &mut [u16]) -> Stepped
     requires { ⌜ Laid (now file) sections × (1024 ≤ length (now names)) ⌝ }
-    ensures { λ r. ⌜ ToldStructs (now (file .entry)) sections r ⌝ }
+    ensures { λ r. ⌜ AnsweredAll (now (file .entry)) sections start (tabulate (sections .structs) structName) r ⌝ }
 {
     let mut c = Context::empty();
     let mut i = 0;
@@ -66,10 +67,10 @@ fn heading(
     requires { ⌜ ReadyDecl (now file) sections (now index) (now work) (now chains) context node ⌝ }
     ensures { λ r. ⌜ HeadingTold (now (file .entry)) sections (now (index .entry)) context node (now (work .entry)) (now (work .exit)) (now (chains .exit)) r ⌝ }
 {
-    if node_kind(file, sections, node) != 2 {
-        return Stepped::Next(context);
+    match node_kind(file, sections, node) {
+        2 => context.heading_step(file, sections, index, work, chains, node),
+        _ => Stepped::Next(context),
     }
-    context.heading_step(file, sections, index, work, chains, node)
 }
 
 // Function headings.
@@ -111,10 +112,10 @@ fn global(
     requires { ⌜ ReadyDecl (now file) sections (now index) (now work) (now chains) context node × (sections .nodes * 2 ≤ length (now rows)) ⌝ }
     ensures { λ r. ⌜ ToldDecl globals (now (file .entry)) sections (now (index .entry)) context node (now (rows .entry)) (now (work .entry)) (now (rows .exit)) (now (work .exit)) (now (chains .exit)) r ⌝ }
 {
-    if node_kind(file, sections, node) != 1 {
-        return Stepped::Next(context);
+    match node_kind(file, sections, node) {
+        1 => context.global_step(file, sections, index, rows, work, chains, node),
+        _ => Stepped::Next(context),
     }
-    context.global_step(file, sections, index, rows, work, chains, node)
 }
 
 // Globals.
@@ -152,7 +153,7 @@ pub fn struct_fields(
     names: &mut [u16],
 ) -> Stepped
     requires { ⌜ ReadyStructs (now file) sections (now index) (now names) context ⌝ }
-    ensures { λ r. ⌜ ToldFieldsOf (now (file .entry)) sections (now (index .entry)) context r ⌝ }
+    ensures { λ r. ⌜ AnsweredAll (now (file .entry)) sections context (tabulate (sections .structs) structFields) r ⌝ }
 {
     let mut c = context;
     let mut i = 0;
@@ -181,10 +182,10 @@ fn body(
     requires { ⌜ ReadyDecl (now file) sections (now index) (now work) (now chains) context node × (sections .nodes * 2 ≤ length (now rows)) ⌝ }
     ensures { λ r. ⌜ ToldDecl bodies (now (file .entry)) sections (now (index .entry)) context node (now (rows .entry)) (now (work .entry)) (now (rows .exit)) (now (work .exit)) (now (chains .exit)) r ⌝ }
 {
-    if node_kind(file, sections, node) != 2 {
-        return Stepped::Next(context);
+    match node_kind(file, sections, node) {
+        2 => context.body_step(file, sections, index, rows, work, chains, node),
+        _ => Stepped::Next(context),
     }
-    context.body_step(file, sections, index, rows, work, chains, node)
 }
 
 // Function bodies.

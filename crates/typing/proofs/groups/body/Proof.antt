@@ -9,9 +9,9 @@ body-spec =
     tie.close
     (tie.spec
     (λ c κs. search (decl-node, needs))
-    (λ c. search (body-none, needs))
     (λ c κs. search (body-ready, needs))
     (λ c. search needs)
     (λ c. search needs)
     (λ c. search needs)
-    (λ c. search (body-told, needs)))
+    (λ c. search (body-told, needs))
+    (λ c. search (body-none, needs)))

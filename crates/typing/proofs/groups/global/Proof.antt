@@ -9,9 +9,9 @@ global-spec =
     tie.close
     (tie.spec
     (λ c κs. search (decl-node, needs))
-    (λ c. search (global-none, needs))
     (λ c κs. search (global-ready, needs))
     (λ c. search needs)
     (λ c. search needs)
     (λ c. search needs)
-    (λ c. search (global-told, needs)))
+    (λ c. search (global-told, needs))
+    (λ c. search (global-none, needs)))

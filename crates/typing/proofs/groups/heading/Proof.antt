@@ -9,8 +9,8 @@ heading-spec =
     tie.close
     (tie.spec
     (λ c κs. search (decl-node, needs))
-    (λ c. search (heading-none, needs))
     (λ c κs. search (heading-ready, needs))
     (λ c. search needs)
     (λ c. search needs)
-    (λ c. search (heading-told, needs)))
+    (λ c. search (heading-told, needs))
+    (λ c. search (heading-none, needs)))

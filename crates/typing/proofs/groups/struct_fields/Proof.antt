@@ -10,7 +10,7 @@ use Rattle.typing.proofs.groups.struct_fields.Tie as tie
 
 abbrev Inv-loop : tie.InvT-loop
 Inv-loop file sections index names₀ c₀ i₀ names c i =
-    FieldsDone file sections index c₀ i c × (i ≤ sections .structs) × (length names ≡ length names₀)
+    FieldsDone file sections c₀ i c × (i ≤ sections .structs) × (length names ≡ length names₀)
 
 abbrev μ-loop : tie.MeasureT-loop
 μ-loop file sections index names₀ c₀ i₀ names c i = sections .structs - i
