@@ -2,50 +2,30 @@
 -- the check accepts it with them. And a file beside it that has no derivation, shown by the rules alone, and that the check refuses.
 -- Assumes nothing.
 use mathlib.Core.Path.{_≡_, refl, ap, sym, _∙_}
-use mathlib.Core.Bool.{true}
-use mathlib.Core.List.{List, [], _∷_, _++_}
+use mathlib.Core.List.{List, _∷_, _++_}
 use Prim.Native.Nat.{ℕ, _≤_}
 use native.Mathlib.Omega.{arith}
 use lib.ListN.{length, getD, drop, replicate}
-use Rattle.oat.specs.Basics.{tabulate, allBelow, sumBelow}
-use Rattle.oat.specs.Tables.{NodeRecord, Tables, recordNumbers, numbersOf, bytesOf, fileOf}
+use Rattle.oat.specs.Basics.{tabulate}
+use Rattle.oat.specs.Tables.{Tables, recordNumbers, numbersOf, bytesOf, fileOf}
 use Rattle.oat.specs.Types.{Ty, bool, written, firstTypes, typeOf}
-use Rattle.oat.specs.TypeRules.{paramCount, takenBefore, unusedBC, baseRule, typeRule, partsOf, firstParts, partsAt, eachTypeRight, typesRight}
-use Rattle.oat.specs.TableRules.{fieldsBefore, structsRight, tablesRight}
-use Rattle.oat.specs.Syntax.{Expr, literal, truth, name, global, size, depth, isConstant}
-use Rattle.oat.specs.Nodes.{Stands}
+use Rattle.oat.specs.Syntax.{name}
 use Rattle.oat.specs.ProgramFile.{IsFile}
 use Rattle.typing_rules.specs.Contexts.{empty, hit, miss, find, Context, findName}
 use Rattle.typing_rules.specs.Labels.{Labels}
 use Rattle.typing_rules.specs.Rules.{ExprRule, typ-literal, typ-local, typ-global}
 use Rattle.typing_rules.specs.Derivations.{here}
-use Rattle.typing_rules.specs.Judge.{judge}
 use Rattle.typing_rules.specs.Steps.{Step, structName, globalValue, headings, globals, bodies, stepsOf, StepRule, typ-ggdecl, contextAfter, emptyContext, StepsRule, no-step, next-step, DerivesFile}
-use Rattle.typing_rules.specs.Check.{runStep, rowsOf, stepRows, rowsBegin, run, segmentAt, rowsFrom, checkOf}
 use Rattle.typing_rules.specs.Rows.{NumberOf, rows-none, rows-node, labelsFrom, DeclRows, no-rows, global-rows}
+use Rattle.typing_rules.proofs.LawsComputed.{computed, isFile, is-file}
 use Rattle.typing_rules.proofs.LawsSubtrees.{at-literal}
 use Rattle.demand3.specs.CheckFile.{limits, outcome, Checks, checked}
 use Rattle.demand3.specs.Demand3.{Derivable}
-use Rattle.demand3.specs.Example.{exampleBytes, exampleTables, example, exampleLabels, exampleContext, exampleRows, unbound}
-
--- the tables are a file's, where the node stands for the value
-valued : (v : NodeRecord) (a : Expr) → Stands (exampleTables v) 1 a → isConstant a ≡ true → size a ≡ 1 → depth a ≡ 1
-    → IsFile limits (fileOf (exampleTables v)) (record { tables = exampleTables v; declarations = global 5 a ∷ [] })
-unfolding tabulate allBelow sumBelow paramCount takenBefore unusedBC baseRule typeRule partsOf firstParts partsAt eachTypeRight typesRight fieldsBefore structsRight tablesRight
-valued v a s c n d = record {
-  layout = refl;
-  counts = record { types = omega arith; list = omega arith; fields = omega arith; structs = omega arith; builtIns = omega arith; nodes = omega arith };
-  types = refl;
-  tables = refl;
-  stand = ((record { within = omega arith; kind-is = refl; x-is = refl; t-is = refl; children-is = refl }, c, s), tt);
-  used-up = omega (arith, n);
-  deep = omega (arith, d);
-}
+use Rattle.demand3.specs.Example.{exampleBytes, example, exampleLabels, exampleContext, exampleRows, unbound}
 
 pub example-file : IsFile limits exampleBytes example
-unfolding recordNumbers numbersOf bytesOf
-example-file =
-    valued _ (literal truth) (record { within = omega arith; kind-is = refl; x-is = refl; t-is = refl; children-is = refl }) refl refl refl
+unfolding recordNumbers numbersOf bytesOf isFile
+example-file = is-file limits example refl
 
 -- by its rules: TYP_GGDECL over TYP_BOOL_TRUE
 pub example-derivation : DerivesFile example exampleLabels exampleContext
@@ -65,11 +45,12 @@ example-rows =
 
 -- whatever the buffers hold
 pub example-outcome : (rows work : List ℕ) → 4 ≤ length rows → 4 ≤ length work → Checks exampleBytes rows work (outcome 0 1 0 (exampleRows ++ drop 4 rows))
-unfolding tabulate headings globals bodies stepsOf findName judge runStep rowsOf stepRows rowsBegin run segmentAt rowsFrom checkOf
+unfolding computed
 example-outcome rows work r w = checked example example-file r w
 
 pub unbound-file : IsFile limits (fileOf (unbound .tables)) unbound
-unbound-file = valued _ (name 7) (record { within = omega arith; kind-is = refl; x-is = refl; t-is = refl; children-is = refl }) refl refl refl
+unfolding isFile
+unbound-file = is-file limits unbound refl
 
 -- no rule gives a name a type where nothing is bound
 no-name : {T : Tables} {D : Labels Ty} {n x : ℕ} → D n .before ≡ empty → ExprRule T emptyContext D n (name x) → ⊥
@@ -92,5 +73,5 @@ unfolding tabulate headings globals bodies stepsOf
 unbound-derivation d = no-global (first-step (d .derives .rules))
 
 pub unbound-outcome : (rows work : List ℕ) → 4 ≤ length rows → 4 ≤ length work → Checks (fileOf (unbound .tables)) rows work (outcome 8 0 1 (replicate 4 65535 ++ drop 4 rows))
-unfolding tabulate headings globals bodies stepsOf find findName judge runStep run checkOf
+unfolding computed
 unbound-outcome rows work r w = checked unbound unbound-file r w

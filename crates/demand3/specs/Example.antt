@@ -5,7 +5,7 @@ use mathlib.Core.List.{List, [], _∷_}
 use Prim.Native.Nat.{ℕ, zero, suc}
 use Rattle.oat.specs.Tables.{Tables, TypeRecord, NodeRecord}
 use Rattle.oat.specs.Types.{Ty, bool}
-use Rattle.oat.specs.Syntax.{Expr, literal, truth, name, global}
+use Rattle.oat.specs.Syntax.{literal, truth, name, global}
 use Rattle.oat.specs.ProgramFile.{Program}
 use Rattle.typing_rules.specs.Contexts.{empty, Context}
 use Rattle.typing_rules.specs.Labels.{gives, Labels, unlabelled}

@@ -6,16 +6,16 @@ use mathlib.Core.List.{List, [], _∷_, _++_}
 use Prim.Native.Nat.{ℕ}
 use lib.Dec.{eqb}
 use Rattle.oat.specs.Tables.{TypeRecord, FieldRecord, StructRecord, NodeRecord, Tables, fileOf}
-use Rattle.oat.specs.Types.{Ty, int, struct, array, function, nullable, Tys, noTy, andTy, typeOf, Field, Struct, structsOf}
+use Rattle.oat.specs.Types.{Ty, int, struct, array, function, nullable, noTy, andTy, typeOf, Field, Struct, structsOf}
 use Rattle.oat.specs.Subtyping.{SubRet}
 use Rattle.oat.specs.Decide.{below}
-use Rattle.oat.specs.Syntax.{Expr, literal, truth, Stmt, returnVoid, ifElse, Block, block, Stmts, empty, then, Decl}
+use Rattle.oat.specs.Syntax.{literal, truth, returnVoid, ifElse, Block, block, empty, then}
 use Rattle.oat.specs.Syntax as Syntax
 use Rattle.oat.specs.ProgramFile.{Limits, Program, IsFile}
 use Rattle.typing_rules.specs.Contexts.{Context}
 use Rattle.typing_rules.specs.Labels.{Labels}
 use Rattle.typing_rules.specs.Steps.{DerivesFile}
-use Rattle.typing_rules.specs.Check.{Answer, checkOf}
+use Rattle.typing_rules.specs.Check.{checkOf}
 
 -- a type written out, and its number in the file of the pan types
 pub record Numbered : Type 0 where
