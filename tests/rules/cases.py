@@ -1,55 +1,52 @@
 #!/usr/bin/env python3
-"""Writes crates/typing_rules/proofs/Cases.antt: small files of the peer's stored vectors as programs of the definitions, each with the peer's
-answer and rows as a theorem that antt computes. Files are chosen so that together they have every node kind and operator in an
-accepted program, and every number from 7 to 16 at every kind of place and group of steps that a small file of the vectors has.
+"""Writes crates/typing_rules/proofs/Cases.antt: small files of the peer's stored vectors as programs of the definitions, each with a theorem
+that antt computes: the program is that of a file, and the answer and rows are the peer's. Files are chosen so that together they have
+every node kind and operator in an accepted program, and every number from 7 to 16 at every kind of place and group of steps that a small
+file of the vectors has.
 
     tests/rules/cases.py            write the file
     tests/rules/cases.py ALL FROM TO    write every file of at most ALL nodes from number FROM up to TO instead, to try a definition
 """
 import os
+import re
 import struct
 import sys
+import textwrap
 
 ROOT = os.path.join(os.path.dirname(os.path.abspath(__file__)), "..", "..")
 SIZES = (4, 1, 2, 3, 2, 4)
-DEFINITIONS = """checkOf stepsOf tabulate headings globals bodies run runStep judge execute executeVars judgeCondition findName isFixed
-stepRows rowsOf rowsBegin segmentAt rowsFrom find isFresh ty fd st bi nodesN typeOf written writtenParams firstTypes structOf lookup below
-tests sameTy beginsWith structBelow forms isFormed eachBelow argumentsBelow fieldAmong fieldOf initsBelow namesFit eachOnce namedTimes
-declaredTimes member assignsTo hasField distinctFields isAmong distinctNames parameters fieldsFormed parameterRows""".split()
-
 HEADER = """-- Small programs with the answers of the independent peer, computed: every rule is gone through, every number from 7 to 16 appears at
--- each kind of place, and rows are written out. One theorem for each (`tests/rules/cases.py` writes this file). Assumes nothing.
+-- each kind of place, and rows are written out. One theorem for each: the program is that of a file, and the definition of the check
+-- answers as the peer did (`tests/rules/cases.py` writes this file). Assumes nothing.
 use mathlib.Core.Path.{_≡_, refl}
 use mathlib.Core.List.{List, [], _∷_}
 use Prim.Native.Nat.{ℕ}
-use lib.ListN.{replicate}
-use Rattle.oat.specs.Basics.{tabulate}
-use Rattle.oat.specs.Tables.{TypeRecord, FieldRecord, StructRecord, BuiltInRecord, NodeRecord}
-use Rattle.oat.specs.Types.{writtenParams, written, firstTypes, typeOf, structOf, lookup}
-use Rattle.oat.specs.Decide.{sameTy, beginsWith, structBelow, tests, below, forms, isFormed}
+use Rattle.oat.specs.Tables.{TypeRecord, FieldRecord, StructRecord, BuiltInRecord, NodeRecord, fileOf}
 use Rattle.oat.specs.Syntax.{truth, falsity, integer, text, null, literal, name, arrayLiteral, defaultArray, arrayWith, index, lengthOf, structLiteral, field, call, unary, binary, none, also, noInit, init, nameTarget, indexTarget, fieldTarget, noVar, nextVar, noCondition, condition, assign, var, returnValue, returnVoid, callStmt, ifElse, ifNull, for, while, noStep, step, block, empty, then, global, function}
-use Rattle.oat.specs.ProgramFile.{Program}
-use Rattle.typing_rules.specs.Contexts.{find, isFresh, findName, isFixed}
-use Rattle.typing_rules.specs.Rules.{namesFit, eachOnce, namedTimes, declaredTimes, member}
-use Rattle.typing_rules.specs.Judge.{eachBelow, argumentsBelow, fieldAmong, fieldOf, initsBelow, judge, executeVars, judgeCondition, execute, assignsTo}
-use Rattle.typing_rules.specs.Steps.{headings, globals, bodies, stepsOf, hasField, distinctFields, isAmong, distinctNames, parameters}
-use Rattle.typing_rules.specs.Check.{fieldsFormed, runStep, rowsOf, parameterRows, stepRows, rowsBegin, run, segmentAt, rowsFrom, checkOf}
+use Rattle.oat.specs.ProgramFile.{Program, IsFile}
+use Rattle.typing_rules.specs.Check.{checkOf}
+use Rattle.typing_rules.specs.PanCases.{limits}
+use Rattle.typing_rules.proofs.LawsComputed.{computed, isFile, is-file}
 
-pub ty : ℕ → ℕ → ℕ → ℕ → TypeRecord
+abbrev pub ty : ℕ → ℕ → ℕ → ℕ → TypeRecord
 ty k a b c = record { kind = k; a = a; b = b; c = c }
 
-pub fd : ℕ → ℕ → FieldRecord
+abbrev pub fd : ℕ → ℕ → FieldRecord
 fd a b = record { name = a; type = b }
 
-pub st : ℕ → ℕ → ℕ → StructRecord
+abbrev pub st : ℕ → ℕ → ℕ → StructRecord
 st a b c = record { name = a; first = b; count = c }
 
-pub bi : ℕ → ℕ → BuiltInRecord
+abbrev pub bi : ℕ → ℕ → BuiltInRecord
 bi a b = record { name = a; type = b }
 
--- the definitions look at how many nodes there are; the trees are the declarations
-pub nodesN : ℕ → List NodeRecord
-nodesN n = replicate n (record { kind = 0; x = 0; t = 0; children = 0 })
+abbrev pub nd : ℕ → ℕ → ℕ → ℕ → NodeRecord
+nd k x t c = record { kind = k; x = x; t = t; children = c }
+
+-- the program is that of a file, and the check answers number, step and place, with these rows
+pub record Answers (p : Program) (number step place : ℕ) (rows : List ℕ) : Type 0 where
+  pub file : IsFile limits (fileOf (p .tables)) p
+  pub answer : checkOf p ≡ record { number = number; step = step; place = place; rows = rows }
 """
 
 
@@ -79,6 +76,13 @@ def sections(file):
 
 def listed(items):
     return "(" + "".join(item + " ∷ " for item in items) + "[])"
+
+
+def wrapped(text, indent):
+    """The text in lines of at most 130 columns, each further one indented; no record and no row is broken."""
+    bound = re.sub(r"\b(ty|fd|st|bi|nd)((?: \d+)+)", lambda m: m.group().replace(" ", "\0"), text).replace(" ∷ ", " ∷\0")
+    lines = textwrap.wrap(bound, 130, subsequent_indent=" " * indent, break_long_words=False, break_on_hyphens=False)
+    return "\n".join(lines).replace("\0", " ")
 
 
 def folded(items, last):
@@ -199,10 +203,11 @@ class Case:
         terms, self.kinds = Trees(nodes).declarations()
         rows = [word for line in lines[1:] for word in line.split()[1:]]
         self.rows = rows if self.number == 0 else ["65535"] * (2 * len(nodes))
-        tables = "types = %s; list = %s; fields = %s; structs = %s; builtIns = %s; nodes = nodesN %d" % (
-            listed("ty %d %d %d %d" % r for r in types), listed("%d" % r for r in entries), listed("fd %d %d" % r for r in fields),
-            listed("st %d %d %d" % r for r in structs), listed("bi %d %d" % r for r in given), len(nodes))
-        self.program = "record { tables = record { %s }; declarations = %s }" % (tables, listed(terms))
+        records = (("types", "ty %d %d %d %d", types), ("list", "%d", entries), ("fields", "fd %d %d", fields), ("structs", "st %d %d %d", structs),
+                   ("builtIns", "bi %d %d", given), ("nodes", "nd %d %d %d %d", nodes))
+        tables = ["%s = %s;" % (name, listed(form % r for r in section)) for name, form, section in records]
+        self.program = "record {\n  tables = record {\n%s\n  };\n%s\n}" % (
+            "\n".join(wrapped("    " + line, 8) for line in tables), wrapped("  declarations = %s;" % listed(terms), 6))
 
     def group(self):
         """The group of the refusing step, from 0, struct names."""
@@ -222,9 +227,10 @@ class Case:
         return {(self.number, group, nodes[self.place][0] if group in (2, 3, 5) else -1)}
 
     def text(self, name):
-        answer = "record { number = %d; step = %d; place = %d; rows = %s }" % (self.number, self.step, self.place, listed(self.rows))
-        return "\npub program-%s : Program\nprogram-%s = %s\n\npub %s : checkOf program-%s ≡ %s\nunfolding program-%s %s\n%s = refl\n" % (
-            name, name, self.program, name, name, answer, name, " ".join(DEFINITIONS), name)
+        program = "pub program-%s : Program\nprogram-%s = %s\n" % (name, name, self.program)
+        stated = "pub %s : Answers program-%s %d %d %d %s" % (name, name, self.number, self.step, self.place, listed(self.rows))
+        proof = "%s = record { file = is-file limits program-%s refl; answer = refl }" % (name, name)
+        return "\n%s\n%s\nunfolding program-%s computed isFile\n%s\n" % (program, wrapped(stated, 4), name, proof)
 
 
 def chosen(cases):

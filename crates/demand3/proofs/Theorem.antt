@@ -15,8 +15,6 @@ use Rattle.oat.specs.Tables.{Tables}
 use Rattle.oat.specs.Types.{Ty}
 use Rattle.oat.specs.Syntax.{Decl, size, sizeBlock, sizeDecl, sizeDecls}
 use Rattle.oat.specs.ProgramFile.{Program, IsFile}
-use Rattle.oat.proofs.LawsTypes.{types-formed}
-use Rattle.oat.proofs.LawsTables.{tables-formed}
 use Rattle.file_sections.specs.declared.Reading.{Reading}
 use Rattle.file_sections.specs.declared.Reading.the-variants.{Refused, Good}
 use Rattle.program_file.specs.Reading.{readingOf}
@@ -26,7 +24,7 @@ use Rattle.typing_rules.specs.Labels.{Labels}
 use Rattle.typing_rules.specs.Steps.{Step, structName, stepsOf, StepRule, SameOn, same-none, same-step, DerivesFirst, OneFirst, DerivesFile}
 use Rattle.typing_rules.specs.Check.{Segment, Ran, accepted, refused, rowsFrom, Answer, answerOf, checkOf}
 use Rattle.typing_rules.specs.Rows.{DeclRows, no-rows, global-rows, function-rows}
-use Rattle.typing_rules.proofs.Theorem.{Fits, runOf, accepted-derives, derives-accepted, refused-step}
+use Rattle.typing_rules.proofs.Theorem.{Fits, file-fits, runOf, accepted-derives, derives-accepted, refused-step}
 use Rattle.typing_rules.proofs.LawsNumbers.{refused-number}
 use Rattle.typing_rules.proofs.RowsTheorem.{rows-are-derived, rows-long, parameters-long, labels-long}
 use Rattle.demand3.specs.CheckFile.{limits, needed, Outcome, outcome, Checks, unreadable, rows-short, work-short, checked}
@@ -34,10 +32,7 @@ use Rattle.demand3.specs.Demand3.{Derivable, StopsAt, Demand3}
 
 -- a file's program keeps the rules
 pub fits : (bytes : List ℕ) (p : Program) → IsFile limits bytes p → Fits p
-fits bytes p f = record {
-  file = record { types = types-formed 200 (p .tables) (f .types); tables = tables-formed (p .tables) (f .tables) };
-  stand = f .stand;
-}
+fits bytes p f = file-fits 100 bytes p f
 
 -- how many numbers rows are
 decls-long : {T : Tables} {D : Labels Ty} {n : ℕ} {ds : List Decl} {R : List ℕ} → DeclRows T D n ds R → length R ≡ 2 * sizeDecls ds

@@ -1,2 +1,3 @@
 pub mod CheckFile
 pub mod Demand3
+pub mod Example

@@ -3,6 +3,7 @@ pub mod Claims
 pub mod Complete
 pub mod CompleteStmts
 pub mod LawsBridge
+pub mod LawsComputed
 pub mod LawsExecute
 pub mod LawsFields
 pub mod LawsFit

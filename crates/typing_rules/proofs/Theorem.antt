@@ -10,7 +10,9 @@ use Rattle.oat.specs.Basics.{tabulate}
 use Rattle.oat.specs.Tables.{Tables}
 use Rattle.oat.specs.Types.{Ty, structsOf}
 use Rattle.oat.specs.Nodes.{DeclsStand}
-use Rattle.oat.specs.ProgramFile.{Program}
+use Rattle.oat.specs.ProgramFile.{Program, IsFile}
+use Rattle.oat.proofs.LawsTypes.{types-formed}
+use Rattle.oat.proofs.LawsTables.{tables-formed}
 use Rattle.typing_rules.specs.Contexts.{Context}
 use Rattle.typing_rules.specs.Labels.{Labels}
 use Rattle.typing_rules.specs.Steps.{structName, stepsOf, emptyContext, StepRule, DerivesFirst, OneFirst, DerivesFile}
@@ -23,6 +25,13 @@ use Rattle.typing_rules.proofs.LawsProgram.{steps-fit, fit-take, first-
 pub record Fits (p : Program) : Type 0 where
   pub file : File (p .tables)
   pub stand : DeclsStand (p .tables) 0 (p .declarations)
+
+-- a file's program is one
+pub file-fits : (depth : ℕ) (bytes : List ℕ) (p : Program) → IsFile (record { parts = 200; depth = depth }) bytes p → Fits p
+file-fits depth bytes p f = record {
+  file = record { types = types-formed 200 (p .tables) (f .types); tables = tables-formed (p .tables) (f .tables) };
+  stand = f .stand;
+}
 
 -- the run of a program's steps
 abbrev pub runOf : Program → Ran
