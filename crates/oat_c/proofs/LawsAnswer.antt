@@ -1,16 +1,25 @@
--- The number and the yes of an answer to the subtype question. Assumes nothing.
-use mathlib.Core.Path.{_≡_, refl}
+-- The number and the yes of the answers to a reading and to the subtype question. Assumes nothing.
+use mathlib.Core.Path.{_≡_, ap, sym, subst, _∙_}
+use mathlib.Core.List.{List}
 use Prim.Native.Nat.{ℕ}
-use Rattle.subtyping.specs.Question.{refusalNumber, yesAfter}
+use Rattle.file_sections.specs.declared.Reading.{Reading}
+use Rattle.program_file.specs.Reading.{numberOf, Reads, ReadsTables}
+use Rattle.subtyping.specs.Question.{refusalNumber, yesAfter, Answers}
 use Rattle.subtyping.specs.declared.question.Answer.{Answer}
 use Rattle.subtyping.specs.declared.question.Answer.the-variants.{Refused, Yes, No}
 
-module _ (old : ℕ) (q x : Answer) (e : q ≡ x) where
-  pub when-refused : (n : ℕ) → q ≡ Refused n → (n ≡ refusalNumber x) × (old ≡ yesAfter old x)
-  when-refused n h = (rw (← e, h), rw (← e, h))
+pub number-read : (F : List ℕ) (q x : Reading) → (q ≡ x) × ReadsTables F q → (n : ℕ) → n ≡ numberOf q → (n ≡ numberOf x) × Reads F n
+number-read F q x d n e = (e ∙ ap numberOf (d .0), subst (Reads F) (sym e) (d .1 .reads))
 
-  pub when-yes : q ≡ Yes → _≡_ {A = ℕ} 0 (refusalNumber x) × _≡_ {A = ℕ} 1 (yesAfter old x)
-  when-yes h = (rw (← e, h), rw (← e, h))
+module _ (F : List ℕ) (a b old : ℕ) (q x : Answer) (d : (q ≡ x) × ((y : ℕ) → Answers F a b (refusalNumber q) y (yesAfter y q))) where
+  answers : (r : Answer) → q ≡ r → (refusalNumber r ≡ refusalNumber x) × ((yesAfter old r ≡ yesAfter old x) × Answers F a b (refusalNumber r) old (yesAfter old r))
+  answers r h = (rw (← h, d .0), (rw (← h, d .0), subst (λ z. Answers F a b (refusalNumber z) old (yesAfter old z)) h (d .1 old)))
 
-  pub when-no : q ≡ No → _≡_ {A = ℕ} 0 (refusalNumber x) × _≡_ {A = ℕ} 0 (yesAfter old x)
-  when-no h = (rw (← e, h), rw (← e, h))
+  pub when-refused : (n : ℕ) → q ≡ Refused n → (n ≡ refusalNumber x) × ((old ≡ yesAfter old x) × Answers F a b n old old)
+  when-refused n h = answers (Refused n) h
+
+  pub when-yes : q ≡ Yes → _≡_ {A = ℕ} 0 (refusalNumber x) × (_≡_ {A = ℕ} 1 (yesAfter old x) × Answers F a b 0 old 1)
+  when-yes h = answers Yes h
+
+  pub when-no : q ≡ No → _≡_ {A = ℕ} 0 (refusalNumber x) × (_≡_ {A = ℕ} 0 (yesAfter old x) × Answers F a b 0 old 0)
+  when-no h = answers No h

@@ -1,23 +1,26 @@
 // The operations for C and Rust, over plain pointers and lengths (`rt staticlib oat_c`).
 use subtyping::question::Answer;
 ghost use mathlib.Core.Path.{_≡_};
-ghost use Rattle.program_file.specs.Reading.{readingOf, limitsOf, numberOf};
-ghost use Rattle.subtyping.specs.Question.{subtypeOf, refusalNumber, yesAfter};
+ghost use Rattle.program_file.specs.Reading.{readingOf, limitsOf, numberOf, Reads};
+ghost use Rattle.subtyping.specs.Question.{subtypeOf, refusalNumber, yesAfter, Answers};
 ghost use Rattle.typing.specs.Check.{Checked, Demands};
 
 // 0 where the file is readable, or the number under which it is refused.
 #[no_mangle]
 pub extern "C" fn oat_read(file: &[u8]) -> u16
     ensures { λ r. ⌜ r ≡ numberOf (readingOf (limitsOf 200 100) (now (file .entry))) ⌝ }
+    ensures { λ r. ⌜ Reads (now (file .entry)) r ⌝ }
 {
     program_file::number(program_file::read(file))
 }
 
-// 0, with 1 in `yes` where the type a is below the type b and else 0; or the number under which the question is refused.
+// 0, with 1 in `yes` where the type a is below the type b and else 0; or the number under which the question is refused, and `yes` as it
+// was.
 #[no_mangle]
 pub extern "C" fn oat_subtype(file: &[u8], a: usize, b: usize, yes: &mut u8) -> u16
     ensures { λ r. ⌜ r ≡ refusalNumber (subtypeOf (now (file .entry)) a b) ⌝ }
     ensures { λ _. ⌜ now (yes .exit) ≡ yesAfter (now (yes .entry)) (subtypeOf (now (file .entry)) a b) ⌝ }
+    ensures { λ r. ⌜ Answers (now (file .entry)) a b r (now (yes .entry)) (now (yes .exit)) ⌝ }
 {
     let answer = subtyping::question::subtype(file, a, b);
     match answer {

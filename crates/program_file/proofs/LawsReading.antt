@@ -1,15 +1,23 @@
--- The ways through a reading. Assumes nothing.
+-- The ways through a reading, and the numbers that it refuses under. Assumes nothing.
 use mathlib.Core.Path.{_≡_, sym, _∙_}
 use mathlib.Core.Bool.{Bool, true, false, not}
 use mathlib.Core.List.{List}
-use Prim.Native.Nat.{ℕ}
+use Prim.Native.Nat.{ℕ, _+_, _*_, _≤_}
+use native.Mathlib.Omega.{arith}
+use lib.ListN.{length}
+use lib.Dec.{eqb, ltb}
 use borrow.Author.Tests.{not-true, not-false}
+use Rattle.oat.specs.Basics.{pick}
 use Rattle.oat.specs.TypeRules.{typesRight}
 use Rattle.oat.specs.TableRules.{tablesRight}
+use Rattle.oat.specs.ProgramFile.{Limits}
 use Rattle.file_sections.specs.declared.Sections.{Sections}
 use Rattle.file_sections.specs.declared.Reading.{Reading}
 use Rattle.file_sections.specs.declared.Reading.the-variants.{Refused, Good}
-use Rattle.file_sections.specs.Layout.{Laid, thenReading, sectionsOf, tablesOf}
+use Rattle.file_sections.specs.declared.layout.Section.{Section}
+use Rattle.file_sections.specs.declared.layout.Section.the-variants.{Bad, Counted}
+use Rattle.file_sections.specs.Numbers.{numberAt}
+use Rattle.file_sections.specs.Layout.{Laid, sectionOf, thenSection, thenReading, frontOf, sectionsOf, tablesOf}
 use Rattle.file_sections.proofs.LawsFile.{all-stood}
 use Rattle.node_tree.specs.Tree.{treesRight}
 use Rattle.program_file.specs.Reading.{readingOf, limitsOf}
@@ -40,3 +48,63 @@ module _ (s : List ℕ) (parts depth : ℕ) (r : Reading) (e : r ≡ sectionsOf 
         pub all-right : not v ≡ false → Good S ≡ readingOf (limitsOf parts depth) s
         unfolding readingOf
         all-right d = rw (← e, h, ← et, not-false t b, ← eu, not-false u c, ← ev, not-false v d)
+
+-- a refusal is under 1 to 5
+data LowSection : Section → Type 0 where
+  low-bad : {n : ℕ} → 1 ≤ n → n ≤ 5 → LowSection (Bad n)
+  low-counted : {count next : ℕ} → LowSection (Counted count next)
+
+pub data Low : Reading → Type 0 where
+  low-refused : {n : ℕ} → 1 ≤ n → n ≤ 5 → Low (Refused n)
+  low-good : {S : Sections} → Low (Good S)
+
+pick-bad : (b : Bool) (n : ℕ) (r : Section) → 1 ≤ n → n ≤ 5 → LowSection r → LowSection (pick b (Bad n) r)
+pick-bad true n r h k l = low-bad h k
+pick-bad false n r h k l = l
+
+pick-refused : (b : Bool) (r : Reading) (n : ℕ) → 1 ≤ n → n ≤ 5 → Low r → Low (pick b r (Refused n))
+pick-refused true r n h k l = l
+pick-refused false r n h k l = low-refused h k
+
+low-section : (s : List ℕ) (at most size : ℕ) → LowSection (sectionOf s at most size)
+unfolding sectionOf
+low-section s at most size =
+    pick-bad (ltb (length s) (at * 2 + 2)) 1 _ (omega arith) (omega arith)
+    (pick-bad (ltb most (numberAt s at)) 2 _ (omega arith) (omega arith)
+    (pick-bad (ltb (length s) ((at + 1 + numberAt s at * size) * 2)) 1 _ (omega arith) (omega arith) low-counted))
+
+then-section : (r : Section) (k : ℕ → ℕ → Reading) → LowSection r → ((count next : ℕ) → Low (k count next)) → Low (thenSection r k)
+then-section _ _ (low-bad h k) f = low-refused h k
+then-section _ _ low-counted f = f _ _
+
+then-reading : (r : Reading) (k : Sections → Reading) → Low r → ((S : Sections) → Low (k S)) → Low (thenReading r k)
+then-reading _ _ (low-refused h k) f = low-refused h k
+then-reading _ _ low-good f = f _
+
+low-front : (s : List ℕ) → Low (frontOf s)
+unfolding frontOf
+low-front s =
+    then-section (sectionOf s 0 512 4) _ (low-section s _ _ _) λ types list.
+    then-section (sectionOf s list 1024 1) _ (low-section s _ _ _) λ entries fields.
+    then-section (sectionOf s fields 1024 2) _ (low-section s _ _ _) λ members structs. low-good
+
+low-sections : (s : List ℕ) → Low (sectionsOf s)
+unfolding sectionsOf
+low-sections s =
+    then-reading (frontOf s) _ (low-front s) λ F.
+    then-section (sectionOf s (F .«structs_at») 256 3) _ (low-section s _ _ _) λ records builtIns.
+    then-section (sectionOf s builtIns 128 2) _ (low-section s _ _ _) λ given nodes.
+    then-section (sectionOf s nodes 4096 4) _ (low-section s _ _ _) λ count end.
+    pick-refused (eqb (length s) (end * 2)) _ 1 (omega arith) (omega arith) low-good
+
+pub low-reading : (limits : Limits) (s : List ℕ) → Low (readingOf limits s)
+unfolding readingOf
+low-reading limits s =
+    then-reading (sectionsOf s) _ (low-sections s) λ S.
+    pick-refused (typesRight (limits .parts) (tablesOf s S)) _ 3 (omega arith) (omega arith)
+    (pick-refused (tablesRight (tablesOf s S)) _ 4 (omega arith) (omega arith)
+    (pick-refused (treesRight (limits .depth) (tablesOf s S)) _ 5 (omega arith) (omega arith) low-good))
+
+pub low-number : {r : Reading} {n : ℕ} → Low r → r ≡ Refused n → (1 ≤ n) × (n ≤ 5)
+low-number {n = n} (low-refused {n = m} h k) e = let same : m ≡ n = cc in (omega arith, omega arith)
+low-number low-good e = absurd (let z : _≡_ {A = ℕ} 0 1 = cc in omega arith)

@@ -1,11 +1,14 @@
 -- A file is read exactly when its bytes are a program file, and then they are the file of one program alone (`readable`). Its
--- tables are those that the readers of records give (`read-tables`). Assumes nothing.
+-- tables are those that the readers of records give (`read-tables`). A refusal is under 1 to 5 (`refused-from-1-to-5`). So the answer
+-- has demand 1 (`demand1`, `with-demand1`). Assumes nothing.
 use mathlib.Core.Path.{_≡_, refl, ap, sym, _∙_, subst}
 use mathlib.Core.Bool.{Bool, true, false}
 use mathlib.Core.List.{List}
 use mathlib.Core.Logic.{_↔_}
-use Prim.Native.Nat.{ℕ, _<_}
+use Prim.Native.Nat.{ℕ, _≤_, _<_}
 use native.Mathlib.Omega.{arith}
+use mir.Syntax.{w8}
+use mir.Val.{Fits}
 use lib.ListN.{length, getD}
 use Rattle.oat.specs.Basics.{pick}
 use Rattle.oat.specs.Tables.{Tables, fileOf}
@@ -24,11 +27,16 @@ use Rattle.file_sections.proofs.LawsRecords.{types-long, list-long, fields-long
 use Rattle.node_tree.specs.Tree.{treesRight}
 use Rattle.node_tree.proofs.Accepted.{trees-accepted}
 use Rattle.node_tree.proofs.Found.{trees-found}
-use Rattle.program_file.specs.Reading.{readingOf, limitsOf}
+use Rattle.program_file.specs.Reading.{readingOf, limitsOf, numberOf, IsProgramFile, Reads, ReadsTables}
+use Rattle.program_file.proofs.LawsReading.{low-reading, low-number}
 
 -- the list holds bytes
 pub record Bytes (s : List ℕ) : Type 0 where
   pub each : (i : ℕ) → getD s i 0 < 256
+
+-- a slice of bytes does
+pub bytes-of : (s : List ℕ) → ((i : ℕ) → Fits w8 (getD s i 0)) → Bytes s
+bytes-of s h = record { each = λ i. omega (arith, h i) }
 
 -- what an accepted reading says
 pub record Accepted (limits : Limits) (s : List ℕ) (S : Sections) : Type 0 where
@@ -135,3 +143,36 @@ readable limits s b = (
       (p, f, λ q g. one-program limits s q p g f),
   λ file. (sectionsFor (file .0 .tables), reading-of limits s (file .0) (file .1) .0),
 )
+
+-- A file that is not read is refused under 1 to 5.
+pub refused-from-1-to-5 : (limits : Limits) (s : List ℕ) (n : ℕ) → readingOf limits s ≡ Refused n → (1 ≤ n) × (n ≤ 5)
+refused-from-1-to-5 limits s n e = low-number (low-reading limits s) e
+
+-- the file of a program is not refused
+not-refused : (s : List ℕ) (n : ℕ) → readingOf (limitsOf 200 100) s ≡ Refused n → IsProgramFile s → ⊥
+not-refused s n e f =
+    let good = reading-of (limitsOf 200 100) s (f .program) (f .file) .0 in
+    let z : _≡_ {A = ℕ} 0 1 = cc in omega arith
+
+-- Demand 1, of the number of a reading.
+pub demand1 : (s : List ℕ) → Bytes s → (r : Reading) → readingOf (limitsOf 200 100) s ≡ r → Reads s (numberOf r)
+demand1 s b (Refused n) e =
+    let low = refused-from-1-to-5 (limitsOf 200 100) s n e in
+    record {
+      read = (λ z. absurd (omega (arith, low .0)), λ f. absurd (not-refused s n e f));
+      refused = (λ l f. not-refused s n e f, λ none. low);
+      one-program = one-program (limitsOf 200 100) s;
+    }
+demand1 s b (Good S) e =
+    let (p, f) = program-of (limitsOf 200 100) s S b e in
+    let file : IsProgramFile s = record { program = p; file = f } in
+    record {
+      read = (λ z. file, λ f. refl);
+      refused = (λ l. absurd (omega (arith, l .0)), λ none. absurd (none file));
+      one-program = one-program (limitsOf 200 100) s;
+    }
+
+-- and of an answer
+pub with-demand1 : (s : List ℕ) → Bytes s → (r : Reading) → r ≡ readingOf (limitsOf 200 100) s → (r ≡ readingOf (limitsOf 200 100) s) × ReadsTables s r
+with-demand1 s b r e =
+    (e, record { reads = demand1 s b r (sym e); tables = λ S h p f. read-tables (limitsOf 200 100) s S p (sym e ∙ h) f })

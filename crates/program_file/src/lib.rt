@@ -2,11 +2,12 @@
 use file_sections::Reading;
 ghost use mathlib.Core.Path.{_≡_};
 ghost use Prim.Native.Nat.{_≤_};
-ghost use Rattle.program_file.specs.Reading.{readingOf, limitsOf, numberOf};
+ghost use Rattle.program_file.specs.Reading.{readingOf, limitsOf, numberOf, ReadsTables};
 
 // Reads a file within document 01's limits: 200 parts, depth 100.
 pub fn read(file: &[u8]) -> Reading
     ensures { λ r. ⌜ r ≡ readingOf (limitsOf 200 100) (now (file .entry)) ⌝ }
+    ensures { λ r. ⌜ ReadsTables (now (file .entry)) r ⌝ }
 {
     read_within(file, 200, 100)
 }

@@ -1,19 +1,25 @@
--- The subtype question (document 01, 'Rows and answers'): 1 to 5, then 17, then yes or no. Assumes nothing.
+-- The subtype question (document 01, 'Rows and answers'): 1 to 5, then 17, then yes or no; and what its number and its yes say of the file
+-- and the rules. Assumes nothing.
+use mathlib.Core.Path.{_≡_}
 use mathlib.Core.Bool.{true, false}
 use mathlib.Core.List.{List}
-use Prim.Native.Nat.{ℕ}
+use mathlib.Core.Logic.{_↔_, _⊎_}
+use Prim.Native.Nat.{ℕ, _≤_, _<_}
 use lib.ListN.{length}
 use lib.Dec.{leb}
 use Rattle.oat.specs.Basics.{pick}
 use Rattle.oat.specs.Tables.{Tables}
 use Rattle.oat.specs.Types.{typeOf, structsOf}
+use Rattle.oat.specs.Subtyping.{SubRet}
 use Rattle.oat.specs.Decide.{below}
+use Rattle.oat.specs.ProgramFile.{Program, IsFile}
 use Rattle.file_sections.specs.declared.Sections.{Sections}
 use Rattle.file_sections.specs.declared.Reading.{Reading}
 use Rattle.file_sections.specs.declared.Reading.the-variants.{Good}
 use Rattle.file_sections.specs.declared.Reading.the-variants
 use Rattle.file_sections.specs.Layout.{tablesOf}
-use Rattle.program_file.specs.Reading.{readingOf, limitsOf}
+use Rattle.program_file.specs.Reading.{readingOf, limitsOf, numberOf, IsProgramFile}
+use Rattle.type_index.specs.Index.{declared}
 use Rattle.subtyping.specs.declared.question.Answer.{Answer}
 use Rattle.subtyping.specs.declared.question.Answer.the-variants.{Refused, Yes, No}
 
@@ -44,3 +50,31 @@ abbrev pub yesAfter : ℕ → Answer → ℕ
 yesAfter old (Refused n) = old
 yesAfter old Yes = 1
 yesAfter old No = 0
+
+-- the program has both types
+abbrev pub HasBoth : Program → ℕ → ℕ → Type 0
+HasBoth p a b = (a < length (p .tables .types)) × (b < length (p .tables .types))
+
+-- the rules derive that a is below b
+abbrev pub Below : Program → ℕ → ℕ → Type 0
+Below p a b = SubRet (declared (p .tables)) (typeOf (p .tables) a) (typeOf (p .tables) b)
+
+-- what the number n and the value `yes` say of the types a and b of the program p
+pub record AnswersOn (p : Program) (a b n yes : ℕ) : Type 0 where
+  -- 17 exactly when it lacks one of them
+  pub lacks : (n ≡ 17) ↔ ((length (p .tables .types) ≤ a) ⊎ (length (p .tables .types) ≤ b))
+  -- yes exactly when it has both and the rules derive it
+  pub says-yes : ((n ≡ 0) × (yes ≡ 1)) ↔ (HasBoth p a b × Below p a b)
+  -- no exactly when it has both and they do not
+  pub says-no : ((n ≡ 0) × (yes ≡ 0)) ↔ (HasBoth p a b × (Below p a b → ⊥))
+
+-- what they say on the bytes F, where the value was `old` before
+pub record Answers (F : List ℕ) (a b n old yes : ℕ) : Type 0 where
+  -- where the bytes are the file of a program: 17, yes or no
+  pub asked : (p : Program) → IsFile (limitsOf 200 100) F p → AnswersOn p a b n yes
+  -- 1 to 5 exactly when they are no program file
+  pub refused : ((1 ≤ n) × (n ≤ 5)) ↔ (IsProgramFile F → ⊥)
+  -- and then it is the number of their reading
+  pub unread : (IsProgramFile F → ⊥) → n ≡ numberOf (readingOf (limitsOf 200 100) F)
+  -- a refusal leaves the value as it was
+  pub unchanged : (n ≡ 0 → ⊥) → yes ≡ old

@@ -4,13 +4,13 @@ use file_sections::Reading;
 use file_sections::Sections;
 use type_index::index::index_types;
 ghost use mathlib.Core.Path.{_≡_};
-ghost use Prim.Native.Nat.{_<_};
+ghost use Prim.Native.Nat.{ℕ, _<_};
 ghost use Rattle.oat.specs.Basics.{pick};
 ghost use Rattle.oat.specs.Types.{typeOf};
 ghost use Rattle.oat.specs.Decide.{below};
 ghost use Rattle.file_sections.specs.Layout.{tablesOf, GoodTables};
 ghost use Rattle.type_index.specs.Index.{declared};
-ghost use Rattle.subtyping.specs.Question.{subtypeOf};
+ghost use Rattle.subtyping.specs.Question.{subtypeOf, refusalNumber, yesAfter, Answers};
 
 pub enum Answer {
     Refused(u16),
@@ -31,9 +31,10 @@ fn ask(file: &[u8], sections: Sections, a: usize, b: usize) -> Answer
     Answer::No
 }
 
-// Is the type a below the type b?
+// Is the type a below the type b? Whatever value a caller holds before, the answer's number and `yesAfter` give what `Answers` says.
 pub fn subtype(file: &[u8], a: usize, b: usize) -> Answer
     ensures { λ r. ⌜ r ≡ subtypeOf (now (file .entry)) a b ⌝ }
+    ensures { λ r. ⌜ ((old : ℕ) → Answers (now (file .entry)) a b (refusalNumber r) old (yesAfter old r)) ⌝ }
 {
     let read = program_file::read(file);
     let Reading::Good(sections) = read else {

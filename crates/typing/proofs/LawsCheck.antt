@@ -3,8 +3,6 @@ use mathlib.Core.Path.{_≡_, refl, ap, ap₂, sym, subst, _∙_}
 use mathlib.Core.List.{List, [], _∷_, _++_, append-nil}
 use Prim.Native.Nat.{ℕ, _+_, _*_, _≤_, _<_}
 use native.Mathlib.Omega.{arith}
-use mir.Syntax.{w8}
-use mir.Val.{Fits}
 use lib.ListN.{length, getD, take, drop, replicate}
 use lib.Seq.{drop-at, length-take-le}
 use Rattle.oat.specs.Basics.{tabulate}
@@ -161,10 +159,6 @@ check-numbers p = go (runOf p) refl
 -- a readable file has few nodes
 pub nodes-few : (F : List ℕ) {S : Sections} {g : Reading} → g ≡ readingOf limits F → g ≡ Good S → S .nodes ≤ 4096
 nodes-few F {S} {g} i j = good-tables F g S i j .laid .nodes-most
-
--- a slice of bytes holds bytes
-pub bytes-of : (F : List ℕ) → ((i : ℕ) → Fits w8 (getD F i 0)) → Bytes F
-bytes-of F h = record { each = λ i. omega (arith, h i) }
 
 -- the check on bytes and buffers: 1 to 5
 needed-is : {F : List ℕ} {S : Sections} (p : Program) → IsFile limits F p → readingOf limits F ≡ Good S → needed p ≡ S .nodes * 2

@@ -1,7 +1,6 @@
 -- `oat_read` meets its contract. Assumes nothing.
-use mathlib.Core.Path.{ap, _∙_}
 use borrow.Author.Needs.{needs}
-use Rattle.program_file.specs.Reading.{numberOf}
+use Rattle.oat_c.proofs.LawsAnswer.{number-read}
 use Rattle.oat_c.proofs.oat_read.Statement.{statement}
 use Rattle.oat_c.proofs.oat_read.Tie as tie
 
@@ -11,4 +10,4 @@ oat-read-spec =
     (tie.spec
     (λ c κs. search needs)
     (λ c κs. search needs)
-    (λ c. c .number .ensures ∙ ap numberOf (c .before .read .ensures)))
+    (λ c. number-read _ _ _ (c .before .read .ensures) _ (c .number .ensures)))

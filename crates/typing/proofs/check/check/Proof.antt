@@ -4,21 +4,22 @@ use lib.Seq.{length-take-le}
 use mathlib.Core.Path.{sym}
 use denote.Ref.{now}
 use borrow.Author.Needs.{needs}
-use Rattle.typing.proofs.LawsCheck.{bytes-of, nodes-few, check-unread, check-rows-short, check-work-short, check-ready, check-good, with-demands}
+use Rattle.program_file.proofs.Theorem.{bytes-of}
+use Rattle.typing.proofs.LawsCheck.{nodes-few, check-unread, check-rows-short, check-work-short, check-ready, check-good, with-demands}
 use Rattle.typing.proofs.check.check.Statement.{statement}
 use Rattle.typing.proofs.check.check.Tie as tie
 
 returns : tie.Need-returns
-returns c = with-demands (check-unread (c .before .before .before .before .read .ensures) (c .before .before .enum-told .given .1) (c .before .number .ensures) (c .bare .ensures))
+returns c = with-demands (check-unread (c .before .before .before .before .read .ensures .0) (c .before .before .enum-told .given .1) (c .before .number .ensures) (c .bare .ensures))
 
 mul-needed : tie.Need-mul-needed
-mul-needed c = omega (arith, nodes-few _ (c .before .before .before .before .read .ensures) (c .before .before .read2 .given .1))
+mul-needed c = omega (arith, nodes-few _ (c .before .before .before .before .read .ensures .0) (c .before .before .read2 .given .1))
 
 returns-2 : tie.Need-returns-2
-returns-2 c = with-demands (check-rows-short (bytes-of (now (c .before .before .before .before .before .before .before .before .before .before .args .file)) (c .before .before .before .before .before .before .before .before .before .shared-slice-known .given)) (c .before .before .before .before .before .before .read .ensures) (c .before .before .before .before .read2 .given .1) (omega (arith, c .before .if1 .taken)) (c .bare2 .ensures))
+returns-2 c = with-demands (check-rows-short (bytes-of (now (c .before .before .before .before .before .before .before .before .before .before .args .file)) (c .before .before .before .before .before .before .before .before .before .shared-slice-known .given)) (c .before .before .before .before .before .before .read .ensures .0) (c .before .before .before .before .read2 .given .1) (omega (arith, c .before .if1 .taken)) (c .bare2 .ensures))
 
 returns-3 : tie.Need-returns-3
-returns-3 c = with-demands (check-work-short (bytes-of (now (c .before .before .before .before .before .before .before .before .before .before .before .args .file)) (c .before .before .before .before .before .before .before .before .before .before .shared-slice-known .given)) (c .before .before .before .before .before .before .before .read .ensures) (c .before .before .before .before .before .read2 .given .1) (c .before .before .if1 .left) (omega (arith, c .before .if2 .taken)) (c .bare3 .ensures))
+returns-3 c = with-demands (check-work-short (bytes-of (now (c .before .before .before .before .before .before .before .before .before .before .before .args .file)) (c .before .before .before .before .before .before .before .before .before .before .shared-slice-known .given)) (c .before .before .before .before .before .before .before .read .ensures .0) (c .before .before .before .before .before .read2 .given .1) (c .before .before .if1 .left) (omega (arith, c .before .if2 .taken)) (c .bare3 .ensures))
 
 slice-aggregate-check-read : tie.Need-slice-aggregate-check-read
 slice-aggregate-check-read c = sym (length-take-le _ _ (c .before .before .if1 .left))
@@ -27,11 +28,11 @@ slice-aggregate-check-read-2 : tie.Need-slice-aggregate-check-read-2
 slice-aggregate-check-read-2 c = sym (length-take-le _ _ (c .before .before .if2 .left))
 
 check-read-requires : tie.Need-check-read-requires
-check-read-requires c κs = check-ready _ _ _ (bytes-of (now (c .before .before .before .before .before .before .before .before .before .before .before .before .args .file)) (c .before .before .before .before .before .before .before .before .before .before .before .shared-slice-known .given)) (c .before .before .before .before .before .before .before .before .read .ensures) (c .before .before .before .before .before .before .read2 .given .1) (c .before .before .before .if1 .left) (c .before .before .if2 .left)
+check-read-requires c κs = check-ready _ _ _ (bytes-of (now (c .before .before .before .before .before .before .before .before .before .before .before .before .args .file)) (c .before .before .before .before .before .before .before .before .before .before .before .shared-slice-known .given)) (c .before .before .before .before .before .before .before .before .read .ensures .0) (c .before .before .before .before .before .before .read2 .given .1) (c .before .before .before .if1 .left) (c .before .before .if2 .left)
 
 returns-4 : tie.Need-returns-4
 returns-4 c =
-    with-demands (check-good _ _ _ (bytes-of (now (c .before .before .before .before .before .before .before .before .before .before .before .before .before .before .before .before .before .args .file)) (c .before .before .before .before .before .before .before .before .before .before .before .before .before .before .before .before .shared-slice-known .given)) (c .before .before .before .before .before .before .before .before .before .before .before .before .before .read .ensures) (c .before .before .before .before .before .before .before .before .before .before .before .read2 .given .1) (c .before .before .before .before .before .before .before .before .if1 .left) (c .before .before .before .before .before .before .before .if2 .left) (c .before .before .before .before .check-read .ensures))
+    with-demands (check-good _ _ _ (bytes-of (now (c .before .before .before .before .before .before .before .before .before .before .before .before .before .before .before .before .before .args .file)) (c .before .before .before .before .before .before .before .before .before .before .before .before .before .before .before .before .shared-slice-known .given)) (c .before .before .before .before .before .before .before .before .before .before .before .before .before .read .ensures .0) (c .before .before .before .before .before .before .before .before .before .before .before .read2 .given .1) (c .before .before .before .before .before .before .before .before .if1 .left) (c .before .before .before .before .before .before .before .if2 .left) (c .before .before .before .before .check-read .ensures))
 
 pub check-spec : {M : Type 1} → statement M
 check-spec =
