@@ -25,11 +25,13 @@ use Rattle.fields.specs.declared.lookup.FieldType.{FieldType}
 use Rattle.fields.specs.declared.lookup.FieldType.the-variants.{Of, Unknown}
 use Rattle.fields.specs.Lookup.{numberOf, fieldIn}
 use Rattle.fields.proofs.LawsLookup.{member-in, found-below}
+use Rattle.answers.specs.declared.answer.Judgement.{Judgement}
 use Rattle.answers.specs.declared.answer.Judgement.the-variants.{Typed, Refused}
+use Rattle.answers.specs.declared.answer.At.{At as Place}
 use Rattle.answers.specs.declared.answer.Judged.{Judged}
 use Rattle.answers.specs.declared.leaves.Expected.{Expected}
 use Rattle.answers.specs.declared.leaves.Expected.the-variants.{Each, Run}
-use Rattle.answers.specs.Answers.{structsAlone, withRow, leafAnswer, literalKind, Expecting, expectedAt, NullAnswer, NameAnswer}
+use Rattle.answers.specs.Answers.{structsAlone, withRow, AnswerIs, LeafAnswer, literalKind, Expecting, expectedAt, NullAnswer, NameAnswer}
 
 -- nothing found is no position, and a position is found once
 nothing-at : (j : ℕ) → _≡_ {A = Found} Nothing (At j) → ⊥
@@ -37,6 +39,13 @@ nothing-at j e = let z : _≡_ {A = ℕ} 0 1 = cc in omega arith
 
 at-same : (i j : ℕ) → _≡_ {A = Found} (At i) (At j) → i ≡ j
 at-same i j e = cc
+
+-- an answer, from what a leaf function makes
+pub answered : {j : Judgement} {n s : ℕ} {a : Place} {r : Judged} → r ≡ record { judgement = j; at = a } → a .node ≡ n → a .scope ≡ s → AnswerIs j n s r
+answered e en es = record { judged = ap (λ x. x .judgement) e; next = ap (λ x. x .at .node) e ∙ en; scope = ap (λ x. x .at .scope) e ∙ es }
+
+leaf-of : {t u n s : ℕ} {r : Judged} (a : Place) → r ≡ record { judgement = Typed t; at = a } → t ≡ u → a .node ≡ n → a .scope ≡ s → AnswerIs (Typed u) n s r
+leaf-of a er e en es = answered (er ∙ ap (λ i. record { judgement = Typed i; at = a }) e) en es
 
 -- the type of a literal, by its kind
 module _ (k : ℕ) where
@@ -61,8 +70,8 @@ module _ (k : ℕ) where
 
 -- the answer and the row of a literal of the kind m
 module _ (m k t n s : ℕ) (e : t ≡ literalKind k) (ek : k ≡ m) where
-  pub literal-answer : (r : Judged) → r ≡ leafAnswer t n s → r ≡ leafAnswer (literalKind m) n s
-  literal-answer r er = er ∙ ap (λ i. leafAnswer i n s) (e ∙ ap literalKind ek)
+  pub literal-answer : (r : Judged) (a : Place) → r ≡ record { judgement = Typed t; at = a } → a .node ≡ n + 1 → a .scope ≡ s → LeafAnswer (literalKind m) n s r
+  literal-answer r a er en es = leaf-of a er (e ∙ ap literalKind ek) en es
 
   pub literal-row : (R R′ : List ℕ) → R′ ≡ withRow R n t 65535 → R′ ≡ withRow R n (literalKind m) 65535
   literal-row R R′ eR = eR ∙ ap (λ i. withRow R n i 65535) (e ∙ ap literalKind ek)
@@ -160,9 +169,9 @@ module _ (X R : List ℕ) (k n s t : ℕ) (b : Bool) (e : t ≡ k) (eb : b ≡ f
     unformed = λ q. er;
   }
 
-  pub null-formed : (R′ : List ℕ) (r : Judged) → not b ≡ false → r ≡ leafAnswer t n s → R′ ≡ withRow R n t 65535 → NullAnswer X R k n s R′ r
-  null-formed R′ r h er eR = record {
-    formed = λ q. (er ∙ ap (λ i. leafAnswer i n s) e, eR ∙ ap (λ i. withRow R n i 65535) e);
+  pub null-formed : (R′ : List ℕ) (r : Judged) (a : Place) → not b ≡ false → r ≡ record { judgement = Typed t; at = a } → a .node ≡ n + 1 → a .scope ≡ s → R′ ≡ withRow R n t 65535 → NullAnswer X R k n s R′ r
+  null-formed R′ r a h er en es eR = record {
+    formed = λ q. (leaf-of a er e en es, eR ∙ ap (λ i. withRow R n i 65535) e);
     unformed = λ q. absurd (false≢true (sym q ∙ (marked ∙ not-false b h)));
   }
 
@@ -177,11 +186,11 @@ module _ (F : List ℕ) (S : Sections) (R W K : List ℕ) (n s x : ℕ) (f : Fou
     missing = λ h c q. er;
   }
 
-  pub name-found : (R′ : List ℕ) (r : Judged) (i t b : ℕ) → f ≡ At i → t ≡ typeBound (tablesOf F S) W i → b ≡ binderOf (tablesOf F S) W i → r ≡ leafAnswer t n s → R′ ≡ withRow R n t b
+  pub name-found : (R′ : List ℕ) (r : Judged) (i t b : ℕ) → f ≡ At i → t ≡ typeBound (tablesOf F S) W i → b ≡ binderOf (tablesOf F S) W i → r .judgement ≡ Typed t → r .at .node ≡ n + 1 → r .at .scope ≡ s → R′ ≡ withRow R n t b
       → NameAnswer F S R W K n s R′ r
-  name-found R′ r i t b e et eb er eR = record {
+  name-found R′ r i t b e et eb er en es eR = record {
     found = λ h j c q.
         let same = at-same i j (sym e ∙ found-latest h c ∙ q) in
-        (er ∙ ap (λ m. leafAnswer m n s) (et ∙ ap (typeBound (tablesOf F S) W) same), eR ∙ ap₂ (withRow R n) (et ∙ ap (typeBound (tablesOf F S) W) same) (eb ∙ ap (binderOf (tablesOf F S) W) same));
+        (record { judged = er ∙ ap Typed (et ∙ ap (typeBound (tablesOf F S) W) same); next = en; scope = es }, eR ∙ ap₂ (withRow R n) (et ∙ ap (typeBound (tablesOf F S) W) same) (eb ∙ ap (binderOf (tablesOf F S) W) same));
     missing = λ h c q. absurd (nothing-at i (sym (sym e ∙ found-latest h c ∙ q)));
   }

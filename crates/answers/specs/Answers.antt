@@ -14,6 +14,7 @@ use Rattle.file_sections.specs.declared.Sections.{Sections}
 use Rattle.file_sections.specs.Layout.{tablesOf}
 use Rattle.bindings.specs.declared.Found.the-variants.{At, Nothing}
 use Rattle.bindings.specs.Bindings.{binderOf, typeBound, latest, Scoped}
+use Rattle.answers.specs.declared.answer.Judgement.{Judgement}
 use Rattle.answers.specs.declared.answer.Judgement.the-variants.{Typed, Refused}
 use Rattle.answers.specs.declared.answer.Judged.{Judged}
 use Rattle.answers.specs.declared.leaves.Expected.{Expected}
@@ -27,19 +28,25 @@ structsAlone T = record { structs = declared T; names = [] }
 abbrev pub withRow : List ℕ → (n result binder : ℕ) → List ℕ
 withRow R n result binder = set (set R (n * 2) result) (n * 2 + 1) binder
 
--- the answer to an expression of the type t without children
-abbrev pub leafAnswer : (t n s : ℕ) → Judged
-leafAnswer t n s = record { judgement = Typed t; next = n + 1; scope = s }
+-- r is the judgement j, and the walk stands at the node n in a scope of the height s
+pub record AnswerIs (j : Judgement) (n s : ℕ) (r : Judged) : Type 0 where
+  pub judged : r .judgement ≡ j
+  pub next : r .at .node ≡ n
+  pub scope : r .at .scope ≡ s
+
+-- the answer to an expression of the type t at n without children
+abbrev pub LeafAnswer : (t n s : ℕ) → Judged → Type 0
+LeafAnswer t n s r = AnswerIs (Typed t) (n + 1) s r
 
 -- what `null` answers where the type is well-formed, by the index, and where it is not
 pub record NullAnswer (X R : List ℕ) (t n s : ℕ) (R′ : List ℕ) (r : Judged) : Type 0 where
-  pub formed : formedEntry X t ≡ true → (r ≡ leafAnswer t n s) × (R′ ≡ withRow R n t 65535)
+  pub formed : formedEntry X t ≡ true → LeafAnswer t n s r × (R′ ≡ withRow R n t 65535)
   pub unformed : formedEntry X t ≡ false → r .judgement ≡ Refused 9 n
 
 -- what `name` answers where the name is bound, and where it is not
 pub record NameAnswer (F : List ℕ) (S : Sections) (R W K : List ℕ) (n s : ℕ) (R′ : List ℕ) (r : Judged) : Type 0 where
   pub found : (h j : ℕ) → Scoped F S W K h → latest (tablesOf F S) W (nodeAt (tablesOf F S) n .x) h ≡ At j
-      → (r ≡ leafAnswer (typeBound (tablesOf F S) W j) n s) × (R′ ≡ withRow R n (typeBound (tablesOf F S) W j) (binderOf (tablesOf F S) W j))
+      → LeafAnswer (typeBound (tablesOf F S) W j) n s r × (R′ ≡ withRow R n (typeBound (tablesOf F S) W j) (binderOf (tablesOf F S) W j))
   pub missing : (h : ℕ) → Scoped F S W K h → latest (tablesOf F S) W (nodeAt (tablesOf F S) n .x) h ≡ Nothing → r .judgement ≡ Refused 8 n
 
 -- the type of a literal of this kind

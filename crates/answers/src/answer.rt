@@ -1,4 +1,5 @@
 // What judging a part of a program comes to, and rows.
+use file_sections::Sections;
 ghost use mathlib.Core.Path.{_≡_};
 ghost use Prim.Native.Nat.{_+_, _*_, _≤_, _<_};
 ghost use lib.ListN.{length};
@@ -12,21 +13,42 @@ pub enum Judgement {
     Refused(usize, usize),
 }
 
-// A judgement, the node after the part, and the scope after it.
-pub struct Judged {
-    pub judgement: Judgement,
-    pub next: usize,
+// What is fixed within a declaration: the file's sections, the height at which its locals begin, and the type that it returns.
+pub struct Frame {
+    pub sections: Sections,
+    pub base: usize,
+    pub result: usize,
+}
+
+// Where the walk stands: a node, and the height of the scope.
+pub struct At {
+    pub node: usize,
     pub scope: usize,
 }
 
-// A refusal.
-pub fn refused(number: usize, place: usize) -> Judged
-    ensures { λ r. ⌜ r .judgement ≡ Judgement.Refused number place ⌝ }
+// A judgement, and where the walk stands after the part.
+pub struct Judged {
+    pub judgement: Judgement,
+    pub at: At,
+}
+
+// A refusal, made where the walk stands.
+pub fn refused(number: usize, place: usize, at: At) -> Judged
+    ensures { λ r. ⌜ (r .judgement ≡ Judgement.Refused number place) × (r .at ≡ at) ⌝ }
 {
     Judged {
         judgement: Judgement::Refused(number, place),
-        next: place,
-        scope: 0,
+        at: at,
+    }
+}
+
+// A list of expressions, or a part that adds no mark: the walk goes on.
+pub fn goes_on(at: At) -> Judged
+    ensures { λ r. ⌜ r ≡ record { judgement = Judgement.GoesOn; at = at } ⌝ }
+{
+    Judged {
+        judgement: Judgement::GoesOn,
+        at: at,
     }
 }
 
@@ -40,15 +62,14 @@ pub fn row(rows: &mut [u16], node: usize, result: usize, binder: usize)
 }
 
 // An expression of the type t that is no name: its row and its answer.
-pub fn typed(rows: &mut [u16], node: usize, t: usize, next: usize, scope: usize) -> Judged
+pub fn typed(rows: &mut [u16], node: usize, t: usize, after: At) -> Judged
     requires { ⌜ (node * 2 + 1 < length (now rows)) × (node < 65536) × (t < 65536) ⌝ }
-    ensures { λ r. ⌜ r ≡ record { judgement = Judgement.Typed t; next = next; scope = scope } ⌝ }
+    ensures { λ r. ⌜ r ≡ record { judgement = Judgement.Typed t; at = after } ⌝ }
     ensures { λ _. ⌜ now (rows .exit) ≡ withRow (now (rows .entry)) node t 65535 ⌝ }
 {
     row(rows, node, t, 65535);
     Judged {
         judgement: Judgement::Typed(t),
-        next: next,
-        scope: scope,
+        at: after,
     }
 }

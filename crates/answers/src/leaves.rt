@@ -1,4 +1,5 @@
 // Expressions without children, and tests on types.
+use crate::answer::At;
 use crate::answer::Judged;
 use crate::answer::Judgement;
 use crate::answer::refused;
@@ -31,7 +32,7 @@ ghost use Rattle.typing_rules.specs.Judge.{hasDefault, isBelow, isBelowMember};
 ghost use Rattle.file_sections.specs.Layout.{Laid, Has, tablesOf, GoodTables};
 ghost use Rattle.type_index.specs.Index.{Entered, Indexed};
 ghost use Rattle.bindings.specs.Bindings.{Some};
-ghost use Rattle.answers.specs.Answers.{structsAlone, withRow, leafAnswer, literalKind, Expecting, expectedAt, NullAnswer, NameAnswer};
+ghost use Rattle.answers.specs.Answers.{structsAlone, withRow, LeafAnswer, literalKind, Expecting, expectedAt, NullAnswer, NameAnswer};
 
 // What the types of a list of expressions are to be below: each the same type, or the run of the type list from an entry on.
 pub enum Expected {
@@ -119,22 +120,23 @@ pub fn unary_type(operator: usize) -> usize
     0
 }
 
-pub fn null(
-    file: &[u8],
-    sections: Sections,
-    index: &[u16],
-    rows: &mut [u16],
-    node: usize,
-    scope: usize,
-) -> Judged
-    requires { ⌜ Has (now file) sections node (sections .nodes) × Entered (now index) (nodeAt (tablesOf (now file) sections) node .t) × (sections .nodes * 2 ≤ length (now rows)) ⌝ }
-    ensures { λ r. ⌜ NullAnswer (now (index .entry)) (now (rows .entry)) (nodeAt (tablesOf (now (file .entry)) sections) node .t) node scope (now (rows .exit)) r ⌝ }
+pub fn null(file: &[u8], sections: Sections, index: &[u16], rows: &mut [u16], at: At) -> Judged
+    requires { ⌜ Has (now file) sections (at .node) (sections .nodes) × Entered (now index) (nodeAt (tablesOf (now file) sections) (at .node) .t) × (sections .nodes * 2 ≤ length (now rows)) ⌝ }
+    ensures { λ r. ⌜ NullAnswer (now (index .entry)) (now (rows .entry)) (nodeAt (tablesOf (now (file .entry)) sections) (at .node) .t) (at .node) (at .scope) (now (rows .exit)) r ⌝ }
 {
-    let t = node_t(file, sections, node);
+    let t = node_t(file, sections, at.node);
     if !is_formed(index, t) {
-        return refused(9, node);
+        return refused(9, at.node, at);
     }
-    typed(rows, node, t, node + 1, scope)
+    typed(
+        rows,
+        at.node,
+        t,
+        At {
+            node: at.node + 1,
+            ..at
+        },
+    )
 }
 
 // The type of a literal of this kind.
@@ -148,19 +150,21 @@ fn literal_type(kind: usize) -> usize
     }
 }
 
-pub fn literal(
-    file: &[u8],
-    sections: Sections,
-    rows: &mut [u16],
-    node: usize,
-    scope: usize,
-) -> Judged
-    requires { ⌜ Has (now file) sections node (sections .nodes) × (sections .nodes * 2 ≤ length (now rows)) ⌝ }
-    ensures { λ r. ⌜ r ≡ leafAnswer (literalKind (nodeAt (tablesOf (now (file .entry)) sections) node .kind)) node scope ⌝ }
-    ensures { λ _. ⌜ now (rows .exit) ≡ withRow (now (rows .entry)) node (literalKind (nodeAt (tablesOf (now (file .entry)) sections) node .kind)) 65535 ⌝ }
+pub fn literal(file: &[u8], sections: Sections, rows: &mut [u16], at: At) -> Judged
+    requires { ⌜ Has (now file) sections (at .node) (sections .nodes) × (sections .nodes * 2 ≤ length (now rows)) ⌝ }
+    ensures { λ r. ⌜ LeafAnswer (literalKind (nodeAt (tablesOf (now (file .entry)) sections) (at .node) .kind)) (at .node) (at .scope) r ⌝ }
+    ensures { λ _. ⌜ now (rows .exit) ≡ withRow (now (rows .entry)) (at .node) (literalKind (nodeAt (tablesOf (now (file .entry)) sections) (at .node) .kind)) 65535 ⌝ }
 {
-    let t = literal_type(node_kind(file, sections, node));
-    typed(rows, node, t, node + 1, scope)
+    let t = literal_type(node_kind(file, sections, at.node));
+    typed(
+        rows,
+        at.node,
+        t,
+        At {
+            node: at.node + 1,
+            ..at
+        },
+    )
 }
 
 pub fn name(
@@ -169,21 +173,28 @@ pub fn name(
     rows: &mut [u16],
     work: &[u16],
     chains: &[u16],
-    node: usize,
-    scope: usize,
+    at: At,
 ) -> Judged
-    requires { ⌜ Some (now file) sections (now work) (now chains) × (node < sections .nodes) × (sections .nodes * 2 ≤ length (now rows)) ⌝ }
-    ensures { λ r. ⌜ NameAnswer (now (file .entry)) sections (now (rows .entry)) (now (work .entry)) (now (chains .entry)) node scope (now (rows .exit)) r ⌝ }
+    requires { ⌜ Some (now file) sections (now work) (now chains) × ((at .node) < sections .nodes) × (sections .nodes * 2 ≤ length (now rows)) ⌝ }
+    ensures { λ r. ⌜ NameAnswer (now (file .entry)) sections (now (rows .entry)) (now (work .entry)) (now (chains .entry)) (at .node) (at .scope) (now (rows .exit)) r ⌝ }
 {
-    let found = find(file, sections, work, chains, node_x(file, sections, node));
+    let found = find(
+        file,
+        sections,
+        work,
+        chains,
+        node_x(file, sections, at.node),
+    );
     let Found::At(position) = found else {
-        return refused(8, node);
+        return refused(8, at.node, at);
     };
     let t = type_at(file, sections, work, position);
-    row(rows, node, t, binder_at(file, sections, work, position));
+    row(rows, at.node, t, binder_at(file, sections, work, position));
     Judged {
         judgement: Judgement::Typed(t),
-        next: node + 1,
-        scope: scope,
+        at: At {
+            node: at.node + 1,
+            ..at
+        },
     }
 }

@@ -18,6 +18,7 @@ use Rattle.file_sections.proofs.LawsRecords.{nodes-long}
 use Rattle.type_index.specs.Index.{declared}
 use Rattle.bindings.specs.Bindings.{entryOf, namesOf, scopeOf, Scoped, Same}
 use Rattle.answers.specs.declared.answer.Judgement.the-variants.{Typed, Refused}
+use Rattle.answers.specs.declared.answer.At.{At}
 use Rattle.answers.specs.declared.answer.Judged.{Judged}
 use Rattle.answers.specs.Answers.{withRow}
 use Rattle.expressions.specs.Contract.{contextOf, Fine, Kept, RowsAt, After, Typing, Meets, accepts, refuses, Ready, Told}
@@ -120,13 +121,14 @@ module _ {F : List ℕ} {S : Sections} {X : List ℕ} {base : ℕ} where
       }
 
   -- an accepted expression that is no name: its own row over its children's
-  pub rule-typed : {L : List (Label ℕ)} {n k j m s t : ℕ} {R W R₁ W₁ K₁ R′ : List ℕ} {r : Judged} {Γ : Scope ℕ} → n < S .nodes → t < S .types
-      → After F S X base L (n + 1) k s s R W R₁ W₁ K₁ → r ≡ record { judgement = Typed t; next = m; scope = s } → m ≡ n + 1 + k → j ≡ 1 + k
+  pub rule-typed : {L : List (Label ℕ)} {n k j s t : ℕ} {R W R₁ W₁ K₁ R′ : List ℕ} {r : Judged} {m : At} {Γ : Scope ℕ} → n < S .nodes → t < S .types
+      → After F S X base L (n + 1) k s s R W R₁ W₁ K₁ → r ≡ record { judgement = Typed t; at = m } → m .node ≡ n + 1 + k → m .scope ≡ s → j ≡ 1 + k
       → R′ ≡ withRow R₁ n t 65535 → Typing F S X base n j s R W R′ W₁ K₁ r t (typedAs t 65535 Γ ∷ L)
-  rule-typed {L} {n} {k} {j} {m} {s} {t} {R} {W} {R₁} {W₁} {K₁} {R′} {r} {Γ} h w a er em ej eR =
+  rule-typed {L} {n} {k} {j} {s} {t} {R} {W} {R₁} {W₁} {K₁} {R′} {r} {m} {Γ} h w a er em es ej eR =
       record {
         typed = ap (λ x. x .judgement) er;
-        next = ap (λ x. x .next) er ∙ omega arith;
+        next = ap (λ x. x .at .node) er ∙ em ∙ omega arith;
+        scope = ap (λ x. x .at .scope) er ∙ es;
         within = w;
         after = subst (λ i. After F S X base (typedAs t 65535 Γ ∷ L) n i s s R W R′ W₁ K₁) (sym ej)
             (subst (λ x. After F S X base (typedAs t 65535 Γ ∷ L) n (1 + k) s s R W x W₁ K₁) (sym eR) (after-row t 65535 Γ h a));
@@ -145,11 +147,11 @@ module _ {F : List ℕ} {S : Sections} {X : List ℕ} {base : ℕ} where
   typing-of o (refuses p q e) y = absurd (let z : _≡_ {A = ℕ} 0 1 = cc in omega arith)
 
   -- a later part sees the scope and the names of the part before it
-  pub retell : {W R₁ W₁ R₂ W₂ K₂ : List ℕ} {s m i : ℕ} {r : Judged} → Same (entryOf (tablesOf F S) s) W W₁ → base ≤ s → m ≡ i → Told F S X R₁ W₁ base m s R₂ W₂ K₂ r
+  pub retell : {W R₁ W₁ R₂ W₂ K₂ : List ℕ} {s m i q : ℕ} {r : Judged} → Same (entryOf (tablesOf F S) s) W W₁ → base ≤ s → m ≡ i → q ≡ s → Told F S X R₁ W₁ base m q R₂ W₂ K₂ r
       → (e : Expr) → Stands (tablesOf F S) i e
       → Meets (Typing F S X base i (size e) s R₁ W₁ R₂ W₂ K₂ r) r (judge (tablesOf F S) (contextOf (tablesOf F S) W base) e i (scopeOf (tablesOf F S) W base s))
-  retell {W} {R₁} {W₁} {R₂} {W₂} {K₂} {s} {m} {i} {r} a l e told x h =
+  retell {W} {R₁} {W₁} {R₂} {W₂} {K₂} {s} {m} {i} {q} {r} a l e f told x h =
       subst (λ Γ. Meets (Typing F S X base i (size x) s R₁ W₁ R₂ W₂ K₂ r) r (judge (tablesOf F S) (contextOf (tablesOf F S) W base) x i Γ)) (scope-same (tablesOf F S) s a base)
       (subst (λ N. Meets (Typing F S X base i (size x) s R₁ W₁ R₂ W₂ K₂ r) r (judge (tablesOf F S) (record { structs = declared (tablesOf F S); names = N }) x i (scopeOf (tablesOf F S) W₁ base s)))
       (names-same (tablesOf F S) s a base l)
-      (subst (λ j. Told F S X R₁ W₁ base j s R₂ W₂ K₂ r) e told .tells x h))
+      (subst (λ j. Told F S X R₁ W₁ base j s R₂ W₂ K₂ r) e (subst (λ j. Told F S X R₁ W₁ base m j R₂ W₂ K₂ r) f told) .tells x h))

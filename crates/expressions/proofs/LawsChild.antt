@@ -102,3 +102,6 @@ module _ {F : List ℕ} {S : Sections} {X R W K : List ℕ} {base m s : ℕ} (g 
 
   pub child-fine : Fine F S X R₁ W₁ K₁ base s
   child-fine = typed-child .2 .after .fine
+
+  pub child-scope : r .at .scope ≡ s
+  child-scope = typed-child .2 .scope

@@ -22,6 +22,7 @@ use Rattle.type_index.specs.Index.{declared, formedEntry, Entered, Indexed}
 use Rattle.bindings.specs.Bindings.{entryOf, scopeOf, Scoped, Some, Same, Freshness, Bindable, Bound}
 use Rattle.bindings.proofs.LawsBindings.{scope-bound, names-bound, scope-same, names-same, same-trans}
 use Rattle.answers.specs.declared.answer.Judgement.the-variants.{Typed, Refused}
+use Rattle.answers.specs.declared.answer.At.{At}
 use Rattle.answers.specs.declared.answer.Judged.{Judged}
 use Rattle.answers.specs.Answers.{withRow}
 use Rattle.expressions.specs.Contract.{contextOf, Fine, After, Typing, Meets, accepts, Answers, Ready, Told, fills, ReadyFilling, ToldFilling}
@@ -135,15 +136,16 @@ module _ {F : List ℕ} {S : Sections} {X R W K : List ℕ} {base n s m : ℕ} (
                   tells = λ d h. child-ok _ _ v y (retell-bound (g .fine .above) b m₁ d h) λ L q p. stops _ 11 n _ (below-is ∙ not-true _ f) e;
                 }
 
-            pub filling-ok : {r : Judged} → not b₁ ≡ false → r ≡ record { judgement = Typed v; next = r₁ .next; scope = s } → ToldFilling F S X R W base n s m R₂ W₂ K₃ r
-            filling-ok {r} f er =
+            pub filling-ok : {r : Judged} {a : At} → not b₁ ≡ false → a .node ≡ r₁ .at .node → a .scope ≡ s → r ≡ record { judgement = Typed v; at = a } → ToldFilling F S X R W base n s m R₂ W₂ K₃ r
+            filling-ok {r} {a} f there level er =
                 record {
                   tells = λ d h.
                       child-ok _ _ v y (retell-bound (g .fine .above) b m₁ d h) λ L q p.
                       passes _ 11 n _ (below-is ∙ not-false _ f)
                       (accepts v L (record {
                         typed = ap (λ i. i .judgement) er;
-                        next = ap (λ i. i .next) er ∙ p .next;
+                        next = ap (λ i. i .at .node) er ∙ there ∙ p .next;
+                        scope = ap (λ i. i .at .scope) er ∙ level;
                         within = p .within;
                         after = after-leave (g .fine .above) b (p .after) c;
                       }));
@@ -205,16 +207,16 @@ module _ {F : List ℕ} {S : Sections} {X R W K : List ℕ} {base n s : ℕ} (g 
     filled-some = record { height = s; scoped = first-fine .scoped }
 
     -- for `filling`
-    pub filled-filling : ReadyFilling F S X R₁ W₁ K₁ base n s (r₁ .next)
+    pub filled-filling : ReadyFilling F S X R₁ W₁ K₁ base n s (r₁ .at .node)
     filled-filling =
-        on-filled (λ e. s + size e ≤ S .«built_ins» + S .nodes → ReadyFilling F S X R₁ W₁ K₁ base n s (r₁ .next))
+        on-filled (λ e. s + size e ≤ S .«built_ins» + S .nodes → ReadyFilling F S X R₁ W₁ K₁ base n s (r₁ .at .node))
         (λ t x a b h l.
         let (L, q, p) = typing-of _ (m₁ .tells a (h .2)) y₁ in
         let st = subst (λ i. Stands (tablesOf F S) i b) (sym (p .next)) (h .3) in
         record {
           fine = p .after .fine;
           after-node = omega (arith, p .next);
-          within = subst (λ i. r₁ .next < i) (nodes-long F S) (stands-within (tablesOf F S) (r₁ .next) b st);
+          within = subst (λ i. r₁ .at .node < i) (nodes-long F S) (stands-within (tablesOf F S) (r₁ .at .node) b st);
           array = filled-kind;
           tree = b;
           stands = st;
@@ -290,7 +292,7 @@ module _ {F : List ℕ} {S : Sections} {X R W K : List ℕ} {base n s : ℕ} (g 
                         (stops _ 7 n _ (fresh-is x (h .0 .x-is) (p .after .same) ∙ not-true _ f) e))) kind;
                   }
 
-              module _ (f₂ : not b₂ ≡ false) {R₂ W₂ K₂ : List ℕ} {r₂ : Judged} (m₂ : ToldFilling F S X R₁ W₁ base n s (r₁ .next) R₂ W₂ K₂ r₂) where
+              module _ (f₂ : not b₂ ≡ false) {R₂ W₂ K₂ : List ℕ} {r₂ : Judged} (m₂ : ToldFilling F S X R₁ W₁ base n s (r₁ .at .node) R₂ W₂ K₂ r₂) where
                 pub filled-no-2 : Untyped r₂ → Told F S X R W base n s R₂ W₂ K₂ r₂
                 unfolding judge
                 filled-no-2 z =
@@ -307,7 +309,7 @@ module _ {F : List ℕ} {S : Sections} {X R W K : List ℕ} {base n s : ℕ} (g 
                           (child-no _ (λ v M. plain t (scopeOf (tablesOf F S) W base s) (L ++ M)) z (retell-filling (p .after .same) (g .fine .above) (p .next) m₂ t x (h .0 .t-is) (h .0 .x-is) b (h .3))))))) kind;
                     }
 
-                pub filled-ok : {v : ℕ} {r : Judged} {R′ : List ℕ} → r₂ .judgement ≡ Typed v → r ≡ record { judgement = Typed t₁; next = r₂ .next; scope = s }
+                pub filled-ok : {v : ℕ} {r : Judged} {R′ : List ℕ} → r₂ .judgement ≡ Typed v → r ≡ record { judgement = Typed t₁; at = r₂ .at }
                     → R′ ≡ withRow R₂ n t₁ 65535 → Told F S X R W base n s R′ W₂ K₂ r
                 unfolding judge
                 filled-ok {v} {r} {R′} y₂ er eR =
@@ -323,5 +325,5 @@ module _ {F : List ℕ} {S : Sections} {X R W K : List ℕ} {base n s : ℕ} (g 
                           (λ v. isBelow (tablesOf F S) (contextOf (tablesOf F S) W base) v (referred (tablesOf F S) t)) 11 n (λ v M. plain t (scopeOf (tablesOf F S) W base s) (L ++ M)))
                           (child-ok _ (λ v M. plain t (scopeOf (tablesOf F S) W base s) (L ++ M)) v y₂ (retell-filling (p .after .same) (g .fine .above) (p .next) m₂ t x (h .0 .t-is) (h .0 .x-is) b (h .3)) λ M q₂ p₂.
                           subst (λ i. Meets (Typing F S X base n (size (arrayWith t x a b)) s R W R′ W₂ K₂ r) r (plain i (scopeOf (tablesOf F S) W base s) (L ++ M))) (et ∙ h .0 .t-is)
-                          (accepts _ _ (rule-typed (g .within) filled-within (after-append (expr-long _ _ a (n + 1) _ u L q) (expr-closed _ _ a (n + 1) _ u L q) (p .after) (p₂ .after)) er (p₂ .next ∙ omega arith) (omega arith) eR))))))) kind;
+                          (accepts _ _ (rule-typed (g .within) filled-within (after-append (expr-long _ _ a (n + 1) _ u L q) (expr-closed _ _ a (n + 1) _ u L q) (p .after) (p₂ .after)) er (p₂ .next ∙ omega arith) (p₂ .scope) (omega arith) eR))))))) kind;
                     }

@@ -21,12 +21,13 @@ use Rattle.file_sections.proofs.LawsRecords.{nodes-long}
 use Rattle.type_index.specs.Index.{Indexed}
 use Rattle.bindings.specs.Bindings.{scopeOf}
 use Rattle.answers.specs.declared.answer.Judgement.the-variants.{Typed, GoesOn, Refused}
+use Rattle.answers.specs.declared.answer.At.{At}
 use Rattle.answers.specs.declared.answer.Judged.{Judged}
 use Rattle.answers.specs.Answers.{structsAlone, withRow}
 use Rattle.expressions.specs.Contract.{contextOf, Fine, RowsAt, After, Typing, Listing, Meets, accepts, Ready, Told, initialized, ReadyInits, ToldInits}
 use Rattle.expressions.proofs.LawsMeets.{Untyped, stops, passes}
 use Rattle.expressions.proofs.LawsAfter.{ready, typing-of, retell, rows-kept, row-length, row-other, row-result, row-binder, fine-rows, after-none, after-append}
-use Rattle.expressions.proofs.LawsChild.{child-within, child-fine}
+use Rattle.expressions.proofs.LawsChild.{child-scope, child-within, child-fine}
 use Rattle.expressions.proofs.LawsLabels.{Closed, closed-none, closed-append, closed-before, expr-long, expr-closed, expr-head}
 use Rattle.expressions.proofs.LawsShape.{size-one}
 use Rattle.expressions.proofs.LawsList.{exprIn, and-true, and-assoc, afterThose, those-none, those-more, child-through, listing-of}
@@ -121,7 +122,7 @@ module _ {F : List ℕ} {S : Sections} {X R W : List ℕ} {base n s left owner m
       → R₃ ≡ withRow R₂ m t 65535
       → y ≡ nodeAt (tablesOf F S) m .x
       → b ≡ (fits && isBelowMember (tablesOf F S) (structsAlone (tablesOf F S)) t (member y (structOf (tablesOf F S) owner .fields)))
-      → PrefixInits F S X base n s R W left owner (r .next) (i + 1) b R₃ W₂ K₂ is
+      → PrefixInits F S X base n s R W left owner (r .at .node) (i + 1) b R₃ W₂ K₂ is
   unfolding initsBelow
   part-more {R₂} {W₂} {K₂} {R₃} {r} {t} {y} {b} x a rs h c z f j M q v eR ex e =
       let T : Tables = tablesOf F S in
@@ -178,11 +179,12 @@ module _ {F : List ℕ} {S : Sections} {X R W : List ℕ} {base n s left owner m
         subst (λ o. Meets Q r (andThen o λ ts L. needs (fitsIn F S W base owner is ts) 11 parent (ok ts L)))
         (sym all-judged) h
 
-    part-listed : {r : Judged} → r ≡ record { judgement = GoesOn; next = m; scope = s } → Listing F S X base n (sizeInits is) s R W R₁ W₁ K₁ r (p .types) (p .labels)
-    part-listed {r} e =
+    part-listed : {r : Judged} {a : At} → a .node ≡ m → a .scope ≡ s → r ≡ record { judgement = GoesOn; at = a } → Listing F S X base n (sizeInits is) s R W R₁ W₁ K₁ r (p .types) (p .labels)
+    part-listed {r} {a} there level e =
         record {
           goes-on = ap (λ q. q .judgement) e;
-          next = ap (λ q. q .next) e ∙ omega (arith, p .reached, all-sized);
+          next = ap (λ q. q .at .node) e ∙ there ∙ omega (arith, p .reached, all-sized);
+          scope = ap (λ q. q .at .scope) e ∙ level;
           after = subst (λ k. After F S X base (p .labels) n k s s R W R₁ W₁ K₁) (sym all-sized) (p .after);
         }
 
@@ -213,20 +215,21 @@ module _ {F : List ℕ} {S : Sections} {X R W K : List ℕ} {base n s left owner
     pub inits-forward : n ≤ m
     inits-forward = omega (arith, so-far .reached)
 
-    module _ (more : i < left) where
+    module _ (more : i < left) {q : ℕ} (level : q ≡ s) where
       pub inits-here : m < S .nodes
       inits-here =
           on-some (λ is. InitsStand (tablesOf F S) m is → m < S .nodes)
           (λ x a is h. subst (λ k. m < k) (nodes-long F S) (h .0 .within))
           (so-far .rest) (omega (arith, so-far .counted, more)) (so-far .stand)
 
-      pub inits-ready : Ready F S X R₁ W₁ K₁ base (m + 1) s
+      pub inits-ready : Ready F S X R₁ W₁ K₁ base (m + 1) q
       inits-ready =
-          on-some (λ is. InitsStand (tablesOf F S) m is → s + sizeInits is ≤ S .«built_ins» + S .nodes → Ready F S X R₁ W₁ K₁ base (m + 1) s)
+          subst (λ h. Ready F S X R₁ W₁ K₁ base (m + 1) h) (sym level)
+          (on-some (λ is. InitsStand (tablesOf F S) m is → s + sizeInits is ≤ S .«built_ins» + S .nodes → Ready F S X R₁ W₁ K₁ base (m + 1) s)
           (λ x a is h l. ready (m + 1) a (so-far .after .fine) (h .1) (omega arith))
-          (so-far .rest) (omega (arith, so-far .counted, more)) (so-far .stand) (omega (arith, so-far .sized, g .room))
+          (so-far .rest) (omega (arith, so-far .counted, more)) (so-far .stand) (omega (arith, so-far .sized, g .room)))
 
-      module _ {R₂ W₂ K₂ : List ℕ} {r₁ : Judged} (m₁ : Told F S X R₁ W₁ base (m + 1) s R₂ W₂ K₂ r₁) where
+      module _ {R₂ W₂ K₂ : List ℕ} {r₁ : Judged} (m₁ : Told F S X R₁ W₁ base (m + 1) q R₂ W₂ K₂ r₁) where
         pub inits-child-no : {parent : ℕ} → Untyped r₁ → ToldInits F S X R W base n s left owner parent R₂ W₂ K₂ r₁
         unfolding judgeInits
         inits-child-no {parent} u = record { tells = λ is h c. go is (w .part is h c) }
@@ -243,7 +246,7 @@ module _ {F : List ℕ} {S : Sections} {X R W K : List ℕ} {base n s left owner
             go is p =
                 subst (λ o. Meets (Listing F S X base n (sizeInits is) s R W R₂ W₂ K₂ r₁) r₁ (andThen o (fitting is))) (sym (p .judged))
                 (on-some (λ rs. InitsStand (tablesOf F S) m rs → Meets (Listing F S X base n (sizeInits is) s R W R₂ W₂ K₂ r₁) r₁ (andThen (afterThose (p .types) (p .labels) (outcome rs)) (fitting is)))
-                (λ x a rs h. child-through _ _ _ (fitting is) u (retell (p .after .same) (g .fine .above) refl m₁ a (h .1)))
+                (λ x a rs h. child-through _ _ _ (fitting is) u (retell (p .after .same) (g .fine .above) refl level m₁ a (h .1)))
                 (p .rest) (omega (arith, p .counted, more)) (p .stand))
 
         module _ {t : ℕ} (y : r₁ .judgement ≡ Typed t) where
@@ -258,12 +261,15 @@ module _ {F : List ℕ} {S : Sections} {X R W K : List ℕ} {base n s left owner
           pub inits-tested : GoodTables F S × Indexed X (tablesOf F S) (S .types) × (t < S .types) × (owner < S .structs)
           inits-tested = (g .fine .good-tables, g .fine .indexed, child-within inits-ready m₁ y, g .declared-there)
 
+          pub inits-level : r₁ .at .scope ≡ s
+          inits-level = child-scope inits-ready m₁ y ∙ level
+
           pub inits-again : {R₃ : List ℕ} {x : ℕ} {b : Bool} → R₃ ≡ withRow R₂ m t 65535 → x ≡ nodeAt (tablesOf F S) m .x
               → b ≡ (fits && isBelowMember (tablesOf F S) (structsAlone (tablesOf F S)) t (member x (structOf (tablesOf F S) owner .fields)))
-              → WalkedInits F S X base n s R W left owner (r₁ .next) (i + 1) b R₃ W₂ K₂
+              → WalkedInits F S X base n s R W left owner (r₁ .at .node) (i + 1) b R₃ W₂ K₂
           inits-again {R₃} {x} {b} eR ex e = record { part = λ is h c. go is (w .part is h c) }
             where
-              go : (is : Inits) → PrefixInits F S X base n s R W left owner m i fits R₁ W₁ K₁ is → PrefixInits F S X base n s R W left owner (r₁ .next) (i + 1) b R₃ W₂ K₂ is
+              go : (is : Inits) → PrefixInits F S X base n s R W left owner m i fits R₁ W₁ K₁ is → PrefixInits F S X base n s R W left owner (r₁ .at .node) (i + 1) b R₃ W₂ K₂ is
               go is p =
                   on-some
                   (λ rs. InitsStand (tablesOf F S) m rs → countInits rs + i ≡ left → sizeInits is ≡ length (p .labels) + sizeInits rs
@@ -271,9 +277,9 @@ module _ {F : List ℕ} {S : Sections} {X R W K : List ℕ} {base n s left owner
                   ≡ (fits && fitsIn F S W base owner rs us))
                   → initsIn F S W base s is n
                   ≡ afterThose (p .types) (p .labels) (initsIn F S W base s rs m)
-                  → PrefixInits F S X base n s R W left owner (r₁ .next) (i + 1) b R₃ W₂ K₂ is)
+                  → PrefixInits F S X base n s R W left owner (r₁ .at .node) (i + 1) b R₃ W₂ K₂ is)
                   (λ z a rs h c k f j.
-                  let (M, q, v) = typing-of _ (retell (p .after .same) (g .fine .above) refl m₁ a (h .1)) y in
+                  let (M, q, v) = typing-of _ (retell (p .after .same) (g .fine .above) refl level m₁ a (h .1)) y in
                   part-more p z a rs h c k f j M q v eR ex e)
                   (p .rest) (omega (arith, p .counted, more)) (p .stand) (p .counted) (p .sized) (p .below) (p .judged)
 
@@ -286,12 +292,12 @@ module _ {F : List ℕ} {S : Sections} {X R W K : List ℕ} {base n s left owner
                 ended p done parent (stops _ 11 parent _ (sym (all-below p done) ∙ not-true fits f) e);
           }
 
-      pub inits-done : not fits ≡ false → r ≡ record { judgement = GoesOn; next = m; scope = s } → ToldInits F S X R W base n s left owner parent R₁ W₁ K₁ r
-      inits-done f e =
+      pub inits-done : {a : At} → not fits ≡ false → a .node ≡ m → a .scope ≡ s → r ≡ record { judgement = GoesOn; at = a } → ToldInits F S X R W base n s left owner parent R₁ W₁ K₁ r
+      inits-done f there level e =
           record {
             tells = λ is h c.
                 let p = w .part is h c in
-                ended p done parent (passes _ 11 parent _ (sym (all-below p done) ∙ not-false fits f) (accepts _ _ (part-listed p done e)));
+                ended p done parent (passes _ 11 parent _ (sym (all-below p done) ∙ not-false fits f) (accepts _ _ (part-listed p done there level e)));
           }
 
 module _ {F : List ℕ} {S : Sections} {X R W K : List ℕ} {base n s left owner : ℕ} (g : ReadyInits F S X R W K base n s left owner) {parent : ℕ} {R₁ W₁ K₁ : List ℕ} {r : Judged}

@@ -21,7 +21,7 @@ use Rattle.bindings.specs.declared.Found.the-variants.{At, Nothing}
 use Rattle.bindings.specs.Bindings.{namesOf, scopeOf, latest, Some}
 use Rattle.bindings.proofs.LawsBindings.{latest-low, found-is, missing-is}
 use Rattle.answers.specs.declared.answer.Judged.{Judged}
-use Rattle.answers.specs.Answers.{withRow, leafAnswer, NullAnswer, NameAnswer, literalKind}
+use Rattle.answers.specs.Answers.{withRow, LeafAnswer, NullAnswer, NameAnswer, literalKind}
 use Rattle.expressions.specs.Contract.{contextOf, After, Typing, Meets, accepts, refuses, Answers, Ready, Told}
 use Rattle.expressions.proofs.LawsMeets.{stops, passes}
 use Rattle.expressions.proofs.LawsAfter.{after-none, after-row}
@@ -30,11 +30,12 @@ use Rattle.expressions.proofs.LawsShape.{on-null, on-literal, on-name, 
 
 -- an accepted leaf
 leaf-typing : {F : List ℕ} {S : Sections} {X R W K : List ℕ} {base n s t b : ℕ} {R′ : List ℕ} {r : Judged} {Γ : Scope ℕ} → Ready F S X R W K base n s → t < S .types
-    → r ≡ leafAnswer t n s → R′ ≡ withRow R n t b → Typing F S X base n 1 s R W R′ W K r t (typedAs t b Γ ∷ [])
+    → LeafAnswer t n s r → R′ ≡ withRow R n t b → Typing F S X base n 1 s R W R′ W K r t (typedAs t b Γ ∷ [])
 leaf-typing {F} {S} {X} {R} {W} {K} {base} {n} {s} {t} {b} {R′} {r} {Γ} g w er eR =
     record {
-      typed = ap (λ x. x .judgement) er;
-      next = ap (λ x. x .next) er;
+      typed = er .judged;
+      next = er .next;
+      scope = er .scope;
       within = w;
       after = subst (λ x. After F S X base (typedAs t b Γ ∷ []) n 1 s s R W x W K) (sym eR) (after-row t b Γ (g .within) (after-none (n + 1) (g .fine)));
     }
@@ -79,7 +80,7 @@ module _ {F : List ℕ} {S : Sections} {X R W K : List ℕ} {base n s : ℕ} (g 
   literal-asked = (leaf-node, g .fine .rows-long)
 
   pub literal-told : {R′ : List ℕ} {r : Judged} → 11 ≤ nodeAt (tablesOf F S) n .kind → nodeAt (tablesOf F S) n .kind ≤ 14
-      → r ≡ leafAnswer (literalKind (nodeAt (tablesOf F S) n .kind)) n s → R′ ≡ withRow R n (literalKind (nodeAt (tablesOf F S) n .kind)) 65535
+      → LeafAnswer (literalKind (nodeAt (tablesOf F S) n .kind)) n s r → R′ ≡ withRow R n (literalKind (nodeAt (tablesOf F S) n .kind)) 65535
       → Told F S X R W base n s R′ W K r
   unfolding judge
   literal-told {R′} {r} a b er eR =
@@ -87,7 +88,7 @@ module _ {F : List ℕ} {S : Sections} {X R W K : List ℕ} {base n s : ℕ} (g 
         tells = on-literal (Answers F S X R W base n s R′ W K r)
             (λ l h.
             let e = literal-type (tablesOf F S) n l h in
-            accepts _ _ (leaf-typing g (base-within (g .fine .good-tables) (low l)) (er ∙ ap (λ t. leafAnswer t n s) e) (eR ∙ ap (λ t. withRow R n t 65535) e))) a b;
+            accepts _ _ (leaf-typing g (base-within (g .fine .good-tables) (low l)) (subst (λ t. LeafAnswer t n s r) e er) (eR ∙ ap (λ t. withRow R n t 65535) e))) a b;
       }
     where
       low : (l : Literal) → literalType l < 4

@@ -17,6 +17,7 @@ use Rattle.file_sections.specs.Layout.{tablesOf, GoodTables}
 use Rattle.type_index.specs.Index.{Indexed}
 use Rattle.bindings.specs.Bindings.{scopeOf}
 use Rattle.answers.specs.declared.answer.Judgement.the-variants.{Typed, GoesOn, Refused}
+use Rattle.answers.specs.declared.answer.At.{At}
 use Rattle.answers.specs.declared.answer.Judged.{Judged}
 use Rattle.answers.specs.declared.leaves.Expected.{Expected}
 use Rattle.answers.specs.declared.leaves.Expected.the-variants.{Each, Run}
@@ -24,7 +25,7 @@ use Rattle.answers.specs.Answers.{structsAlone, Expecting, expectedAt}
 use Rattle.expressions.specs.Contract.{contextOf, Fine, After, Typing, Listing, Meets, accepts, refuses, Ready, Told, expectedBelow, listed, ReadyList, ToldList}
 use Rattle.expressions.proofs.LawsMeets.{Untyped, stops, passes}
 use Rattle.expressions.proofs.LawsAfter.{ready, typing-of, retell, after-none, after-append}
-use Rattle.expressions.proofs.LawsChild.{child-within}
+use Rattle.expressions.proofs.LawsChild.{child-scope, child-within}
 use Rattle.expressions.proofs.LawsLabels.{Closed, closed-none, closed-append, expr-long, expr-closed}
 
 -- the definition in the scope and the context of the buffers
@@ -138,7 +139,7 @@ module _ {F : List ℕ} {S : Sections} {X R W : List ℕ} {base n s left : ℕ} 
       → (M : List (Label ℕ)) → exprIn F S W base s a m ≡ ok t M
       → Typing F S X base m (size a) s R₁ W₁ R₂ W₂ K₂ r t M
       → b ≡ (fits && isBelow (tablesOf F S) (structsAlone (tablesOf F S)) t (expectedAt (tablesOf F S) x i))
-      → Prefix F S X base n s R W left x (r .next) (i + 1) b R₂ W₂ K₂ es
+      → Prefix F S X base n s R W left x (r .at .node) (i + 1) b R₂ W₂ K₂ es
   part-more {R₂} {W₂} {K₂} {r} {t} {b} a rs h c z j M q v e =
       let T : Tables = tablesOf F S in
       let C : Context ℕ = contextOf (tablesOf F S) W base in
@@ -179,11 +180,12 @@ module _ {F : List ℕ} {S : Sections} {X R W : List ℕ} {base n s left : ℕ} 
     ended {Q} {r} parent h =
         subst (λ o. Meets Q r (andThen o λ ts L. needs (expectedIn F S W base ts x) 11 parent (ok ts L))) (sym all-judged) h
 
-    part-listed : {r : Judged} → r ≡ record { judgement = GoesOn; next = m; scope = s } → Listing F S X base n (sizes es) s R W R₁ W₁ K₁ r (p .types) (p .labels)
-    part-listed {r} e =
+    part-listed : {r : Judged} {a : At} → a .node ≡ m → a .scope ≡ s → r ≡ record { judgement = GoesOn; at = a } → Listing F S X base n (sizes es) s R W R₁ W₁ K₁ r (p .types) (p .labels)
+    part-listed {r} {a} there level e =
         record {
           goes-on = ap (λ q. q .judgement) e;
-          next = ap (λ q. q .next) e ∙ omega (arith, p .reached, all-sized);
+          next = ap (λ q. q .at .node) e ∙ there ∙ omega (arith, p .reached, all-sized);
+          scope = ap (λ q. q .at .scope) e ∙ level;
           after = subst (λ k. After F S X base (p .labels) n k s s R W R₁ W₁ K₁) (sym all-sized) (p .after);
         }
 
@@ -218,12 +220,13 @@ module _ {F : List ℕ} {S : Sections} {X R W K : List ℕ} {base n s left : ℕ
     pub list-most : i ≤ left
     list-most = omega (arith, so-far .counted)
 
-    module _ (more : i < left) where
-      pub list-ready : Ready F S X R₁ W₁ K₁ base m s
+    module _ (more : i < left) {q : ℕ} (level : q ≡ s) where
+      pub list-ready : Ready F S X R₁ W₁ K₁ base m q
       list-ready =
-          on-some (λ es. StandAll (tablesOf F S) m es → s + sizes es ≤ S .«built_ins» + S .nodes → Ready F S X R₁ W₁ K₁ base m s)
+          subst (λ h. Ready F S X R₁ W₁ K₁ base m h) (sym level)
+          (on-some (λ es. StandAll (tablesOf F S) m es → s + sizes es ≤ S .«built_ins» + S .nodes → Ready F S X R₁ W₁ K₁ base m s)
           (λ a es h l. ready m a (so-far .after .fine) (h .0) (omega arith))
-          (so-far .rest) (omega (arith, so-far .counted, more)) (so-far .stand) (omega (arith, so-far .sized, g .room))
+          (so-far .rest) (omega (arith, so-far .counted, more)) (so-far .stand) (omega (arith, so-far .sized, g .room)))
 
       pub list-expecting : Expecting (tablesOf F S) S x (i + 1)
       list-expecting = go x (g .expecting)
@@ -232,7 +235,7 @@ module _ {F : List ℕ} {S : Sections} {X R W K : List ℕ} {base n s left : ℕ
           go (Each t) h = h
           go (Run p) h = (omega (arith, h .0), λ j l. h .1 j (omega arith))
 
-      module _ {R₂ W₂ K₂ : List ℕ} {r₁ : Judged} (m₁ : Told F S X R₁ W₁ base m s R₂ W₂ K₂ r₁) where
+      module _ {R₂ W₂ K₂ : List ℕ} {r₁ : Judged} (m₁ : Told F S X R₁ W₁ base m q R₂ W₂ K₂ r₁) where
         pub list-child-no : {parent : ℕ} → Untyped r₁ → ToldList F S X R W base n s left x parent R₂ W₂ K₂ r₁
         unfolding judges
         list-child-no {parent} u = record { tells = λ es h c. go es (w .part es h c) }
@@ -248,26 +251,29 @@ module _ {F : List ℕ} {S : Sections} {X R W K : List ℕ} {base n s left : ℕ
             go es p =
                 subst (λ o. Meets (Listing F S X base n (sizes es) s R W R₂ W₂ K₂ r₁) r₁ (andThen o fitting)) (sym (p .judged))
                 (on-some (λ rs. StandAll (tablesOf F S) m rs → Meets (Listing F S X base n (sizes es) s R W R₂ W₂ K₂ r₁) r₁ (andThen (afterThose (p .types) (p .labels) (outcome rs)) fitting))
-                (λ a rs h. child-through _ _ _ fitting u (retell (p .after .same) (g .fine .above) refl m₁ a (h .0)))
+                (λ a rs h. child-through _ _ _ fitting u (retell (p .after .same) (g .fine .above) refl level m₁ a (h .0)))
                 (p .rest) (omega (arith, p .counted, more)) (p .stand))
 
         module _ {t : ℕ} (y : r₁ .judgement ≡ Typed t) where
           pub list-tested : GoodTables F S × Indexed X (tablesOf F S) (S .types) × (t < S .types) × Expecting (tablesOf F S) S x (i + 1)
           list-tested = (g .fine .good-tables, g .fine .indexed, child-within list-ready m₁ y, list-expecting)
 
+          pub list-level : r₁ .at .scope ≡ s
+          list-level = child-scope list-ready m₁ y ∙ level
+
           pub list-again : {b : Bool} → b ≡ (fits && isBelow (tablesOf F S) (structsAlone (tablesOf F S)) t (expectedAt (tablesOf F S) x i))
-              → Walked F S X base n s R W left x (r₁ .next) (i + 1) b R₂ W₂ K₂
+              → Walked F S X base n s R W left x (r₁ .at .node) (i + 1) b R₂ W₂ K₂
           list-again {b} e = record { part = λ es h c. go es (w .part es h c) }
             where
-              go : (es : Exprs) → Prefix F S X base n s R W left x m i fits R₁ W₁ K₁ es → Prefix F S X base n s R W left x (r₁ .next) (i + 1) b R₂ W₂ K₂ es
+              go : (es : Exprs) → Prefix F S X base n s R W left x m i fits R₁ W₁ K₁ es → Prefix F S X base n s R W left x (r₁ .at .node) (i + 1) b R₂ W₂ K₂ es
               go es p =
                   on-some
                   (λ rs. StandAll (tablesOf F S) m rs → count rs + i ≡ left → sizes es ≡ length (p .labels) + sizes rs
                   → judgedIn F S W base s es n
                   ≡ afterThose (p .types) (p .labels) (judgedIn F S W base s rs m)
-                  → Prefix F S X base n s R W left x (r₁ .next) (i + 1) b R₂ W₂ K₂ es)
+                  → Prefix F S X base n s R W left x (r₁ .at .node) (i + 1) b R₂ W₂ K₂ es)
                   (λ a rs h c z j.
-                  let (M, q, v) = typing-of _ (retell (p .after .same) (g .fine .above) refl m₁ a (h .0)) y in
+                  let (M, q, v) = typing-of _ (retell (p .after .same) (g .fine .above) refl level m₁ a (h .0)) y in
                   part-more p a rs h c z j M q v e)
                   (p .rest) (omega (arith, p .counted, more)) (p .stand) (p .counted) (p .sized) (p .judged)
 
@@ -280,12 +286,12 @@ module _ {F : List ℕ} {S : Sections} {X R W K : List ℕ} {base n s left : ℕ
                 ended p done parent (stops _ 11 parent _ (sym (p .below) ∙ not-true fits f) e);
           }
 
-      pub list-done : not fits ≡ false → r ≡ record { judgement = GoesOn; next = m; scope = s } → ToldList F S X R W base n s left x parent R₁ W₁ K₁ r
-      list-done f e =
+      pub list-done : {a : At} → not fits ≡ false → a .node ≡ m → a .scope ≡ s → r ≡ record { judgement = GoesOn; at = a } → ToldList F S X R W base n s left x parent R₁ W₁ K₁ r
+      list-done f there level e =
           record {
             tells = λ es h c.
                 let p = w .part es h c in
-                ended p done parent (passes _ 11 parent _ (sym (p .below) ∙ not-false fits f) (accepts _ _ (part-listed p done e)));
+                ended p done parent (passes _ 11 parent _ (sym (p .below) ∙ not-false fits f) (accepts _ _ (part-listed p done there level e)));
           }
 
 -- what a list that goes on says

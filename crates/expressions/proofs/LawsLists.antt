@@ -59,14 +59,14 @@ module _ {F : List ℕ} {S : Sections} {X : List ℕ} {base : ℕ} where
   after-since m a = record { rows = a .rows; kept = a .kept; same = same-more m (a .same); fine = a .fine }
 
   -- a later list sees the scope and the names of the part before it
-  pub retell-list : {W R₁ W₁ R₂ W₂ K₂ : List ℕ} {s m i left : ℕ} {x : Expected} {parent : ℕ} {r : Judged} → Same (entryOf (tablesOf F S) s) W W₁ → base ≤ s → m ≡ i
-      → ToldList F S X R₁ W₁ base m s left x parent R₂ W₂ K₂ r → (es : Exprs) → StandAll (tablesOf F S) i es → count es ≡ left
+  pub retell-list : {W R₁ W₁ R₂ W₂ K₂ : List ℕ} {s m i q left : ℕ} {x : Expected} {parent : ℕ} {r : Judged} → Same (entryOf (tablesOf F S) s) W W₁ → base ≤ s → m ≡ i → q ≡ s
+      → ToldList F S X R₁ W₁ base m q left x parent R₂ W₂ K₂ r → (es : Exprs) → StandAll (tablesOf F S) i es → count es ≡ left
       → Meets (Listing F S X base i (sizes es) s R₁ W₁ R₂ W₂ K₂ r) r (listedIn F S W base s es i x parent)
-  retell-list {W} {R₁} {W₁} {R₂} {W₂} {K₂} {s} {m} {i} {left} {x} {parent} {r} a l e told es h c =
+  retell-list {W} {R₁} {W₁} {R₂} {W₂} {K₂} {s} {m} {i} {q} {left} {x} {parent} {r} a l e f told es h c =
       subst (λ Γ. Meets (Listing F S X base i (sizes es) s R₁ W₁ R₂ W₂ K₂ r) r (listed (tablesOf F S) (contextOf (tablesOf F S) W base) es i Γ x parent)) (scope-same (tablesOf F S) s a base)
       (subst (λ N. Meets (Listing F S X base i (sizes es) s R₁ W₁ R₂ W₂ K₂ r) r (listed (tablesOf F S) (record { structs = declared (tablesOf F S); names = N }) es i (scopeOf (tablesOf F S) W₁ base s) x parent))
       (names-same (tablesOf F S) s a base l)
-      (subst (λ j. ToldList F S X R₁ W₁ base j s left x parent R₂ W₂ K₂ r) e told .tells es h c))
+      (subst (λ j. ToldList F S X R₁ W₁ base j s left x parent R₂ W₂ K₂ r) e (subst (λ j. ToldList F S X R₁ W₁ base m j left x parent R₂ W₂ K₂ r) f told) .tells es h c))
 
   pub retell-inits : {W R₁ W₁ R₂ W₂ K₂ : List ℕ} {s m left owner parent : ℕ} {r : Judged} → Same (entryOf (tablesOf F S) s) W W₁ → base ≤ s
       → ToldInits F S X R₁ W₁ base m s left owner parent R₂ W₂ K₂ r → (is : Inits) → InitsStand (tablesOf F S) m is → countInits is ≡ left
@@ -151,14 +151,14 @@ module _ {F : List ℕ} {S : Sections} {X R W K : List ℕ} {base n s : ℕ} (g 
         pub array-row : r₁ .judgement ≡ GoesOn → (n * 2 + 1 < length R₁) × (n < 65536) × (t < 65536)
         array-row y = row-fits (listed-fine (array-list ec) m₁ y) (g .within) array-within
 
-        pub array-ok : {r : Judged} {R′ : List ℕ} → r₁ .judgement ≡ GoesOn → r ≡ record { judgement = Typed t; next = r₁ .next; scope = s } → R′ ≡ withRow R₁ n t 65535
+        pub array-ok : {r : Judged} {R′ : List ℕ} → r₁ .judgement ≡ GoesOn → r ≡ record { judgement = Typed t; at = r₁ .at } → R′ ≡ withRow R₁ n t 65535
             → Told F S X R W base n s R′ W₁ K₁ r
         array-ok {r} {R′} y er eR =
             record {
               tells = array-at et (Answers F S X R W base n s R′ W₁ K₁ r)
                   (λ es h. array-told es h
                   (list-ok _ _ y (array-listed es h) λ ts L q p.
-                  accepts _ _ (rule-typed (g .within) array-within (p .after) er (p .next) refl eR))) kind;
+                  accepts _ _ (rule-typed (g .within) array-within (p .after) er (p .next) (p .scope) refl eR))) kind;
             }
 
 -- call
@@ -224,13 +224,13 @@ module _ {F : List ℕ} {S : Sections} {X R W K : List ℕ} {base n s : ℕ} (g 
               counts : (es : Exprs) → nodeAt (tablesOf F S) n .children ≡ 1 + count es → count es ≡ c
               counts es h = omega (arith, ed, many)
 
-              pub call-list : (n < r₁ .next) × ReadyList F S X R₁ W₁ K₁ base (r₁ .next) s c (Run b)
+              pub call-list : (n < r₁ .at .node) × ReadyList F S X R₁ W₁ K₁ base (r₁ .at .node) (r₁ .at .scope) c (Run b)
               call-list =
-                  on-call (λ e. s + size e ≤ S .«built_ins» + S .nodes → (n < r₁ .next) × ReadyList F S X R₁ W₁ K₁ base (r₁ .next) s c (Run b))
+                  on-call (λ e. s + size e ≤ S .«built_ins» + S .nodes → (n < r₁ .at .node) × ReadyList F S X R₁ W₁ K₁ base (r₁ .at .node) (r₁ .at .scope) c (Run b))
                   (λ a es h l.
                   let (L, q, p) = typing-of _ (m₁ .tells a (h .1)) y₁ in (
                     omega (arith, p .next),
-                    record {
+                    subst (λ i. ReadyList F S X R₁ W₁ K₁ base (r₁ .at .node) i c (Run b)) (sym (p .scope)) (record {
                       fine = p .after .fine;
                       within = omega (arith, p .next, stands-end (tablesOf F S) (n + 1) a (h .1), nodes-long F S);
                       expecting = parameters-within (g .fine .good-tables) (child-within call-first m₁ y₁) (sym e₁ ∙ six) eb ec;
@@ -238,11 +238,11 @@ module _ {F : List ℕ} {S : Sections} {X R W K : List ℕ} {base n s : ℕ} (g 
                       stand = subst (λ i. StandAll (tablesOf F S) i es) (sym (p .next)) (h .2);
                       counted = counts es (h .0 .children-is);
                       room = omega arith;
-                    },
+                    }),
                   )) kind
                   (g .tree) (g .stands) (g .room)
 
-              module _ {R₂ W₂ K₂ : List ℕ} {r₂ : Judged} (m₂ : ToldList F S X R₁ W₁ base (r₁ .next) s c (Run b) n R₂ W₂ K₂ r₂) where
+              module _ {R₂ W₂ K₂ : List ℕ} {r₂ : Judged} (m₂ : ToldList F S X R₁ W₁ base (r₁ .at .node) (r₁ .at .scope) c (Run b) n R₂ W₂ K₂ r₂) where
                 call-told : {r : Judged} {R′ W′ K′ : List ℕ}
                     → ((a : Expr) (es : Exprs) (L : List (Label ℕ)) → exprIn F S W base s a (n + 1) ≡ ok f L
                     → Typing F S X base (n + 1) (size a) s R W R₁ W₁ K₁ r₁ f L
@@ -265,8 +265,8 @@ module _ {F : List ℕ} {S : Sections} {X R W K : List ℕ} {base n s : ℕ} (g 
                           (λ ts. argumentsBelow (tablesOf F S) (contextOf (tablesOf F S) W base) ts (typeAt (tablesOf F S) f .b)) 11 n
                           (λ ts M. plain (referred (tablesOf F S) f) (scopeOf (tablesOf F S) W base s) (L ++ M))
                           (go a es L q p
-                          (retell-list (p .after .same) (g .fine .above) (p .next)
-                          (subst (λ i. ToldList F S X R₁ W₁ base (r₁ .next) s c (Run i) n R₂ W₂ K₂ r₂) eb m₂) es (h .2) (counts es (h .0 .children-is)))))))) kind;
+                          (retell-list (p .after .same) (g .fine .above) (p .next) (p .scope)
+                          (subst (λ i. ToldList F S X R₁ W₁ base (r₁ .at .node) (r₁ .at .scope) c (Run i) n R₂ W₂ K₂ r₂) eb m₂) es (h .2) (counts es (h .0 .children-is)))))))) kind;
                     }
 
                 pub call-no-2 : Unlisted r₂ → Told F S X R W base n s R₂ W₂ K₂ r₂
@@ -275,14 +275,14 @@ module _ {F : List ℕ} {S : Sections} {X R W K : List ℕ} {base n s : ℕ} (g 
                 pub call-row : r₂ .judgement ≡ GoesOn → (n * 2 + 1 < length R₂) × (n < 65536) × (u < 65536)
                 call-row y = row-fits (listed-fine (call-list .1) m₂ y) (g .within) call-within
 
-                pub call-ok : {r : Judged} {R′ : List ℕ} → r₂ .judgement ≡ GoesOn → r ≡ record { judgement = Typed u; next = r₂ .next; scope = s } → R′ ≡ withRow R₂ n u 65535
+                pub call-ok : {r : Judged} {R′ : List ℕ} → r₂ .judgement ≡ GoesOn → r ≡ record { judgement = Typed u; at = r₂ .at } → R′ ≡ withRow R₂ n u 65535
                     → Told F S X R W base n s R′ W₂ K₂ r
                 call-ok {r} {R′} y er eR =
                     call-told
                     (λ a es L q p v.
                     list-ok _ _ y v λ ts M q₂ p₂.
                     subst (λ i. Meets (Typing F S X base n (size (call a es)) s R W R′ W₂ K₂ r) r (plain i (scopeOf (tablesOf F S) W base s) (L ++ M))) eu
-                    (accepts _ _ (rule-typed (g .within) call-within (after-append (expr-long _ _ a (n + 1) _ f L q) (expr-closed _ _ a (n + 1) _ f L q) (p .after) (p₂ .after)) er (p₂ .next ∙ omega arith) (omega arith) eR)))
+                    (accepts _ _ (rule-typed (g .within) call-within (after-append (expr-long _ _ a (n + 1) _ f L q) (expr-closed _ _ a (n + 1) _ f L q) (p .after) (p₂ .after)) er (p₂ .next ∙ omega arith) (p₂ .scope) (omega arith) eR)))
 
 -- struct literal
 struct-at : {T : Tables} {n t : ℕ} → t ≡ nodeAt T n .t → (P : Expr → Type 0) → ((is : Inits) → Stands T n (structLiteral t is) → P (structLiteral t is))
@@ -412,10 +412,10 @@ module _ {F : List ℕ} {S : Sections} {X R W K : List ℕ} {base n s : ℕ} (g 
           pub struct-row : length W₀ ≡ length W → r₁ .judgement ≡ GoesOn → (n * 2 + 1 < length R₁) × (n < 65536) × (t < 65536)
           struct-row el y = row-fits (initialized-fine (struct-inits el ec) m₁ y) (g .within) struct-within
 
-          pub struct-ok : {r : Judged} {R′ : List ℕ} → r₁ .judgement ≡ GoesOn → r ≡ record { judgement = Typed t; next = r₁ .next; scope = s } → R′ ≡ withRow R₁ n t 65535
+          pub struct-ok : {r : Judged} {R′ : List ℕ} → r₁ .judgement ≡ GoesOn → r ≡ record { judgement = Typed t; at = r₁ .at } → R′ ≡ withRow R₁ n t 65535
               → Told F S X R W base n s R′ W₁ K₁ r
           struct-ok {r} {R′} y er eR =
               struct-told
               (λ is v.
               list-ok _ _ y v λ ts L q p.
-              accepts _ _ (rule-typed (g .within) struct-within (after-since stack-same (p .after)) er (p .next) refl eR))
+              accepts _ _ (rule-typed (g .within) struct-within (after-since stack-same (p .after)) er (p .next) (p .scope) refl eR))

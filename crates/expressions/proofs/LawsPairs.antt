@@ -92,15 +92,15 @@ module _ {F : List ℕ} {S : Sections} {X R W K : List ℕ} {base n s : ℕ} (g 
                 (λ a b h. child-ok _ _ t y₁ (m₁ .tells a (h .1)) λ L q p. stops _ 10 n _ (ne-eqb _ _ (λ i. f (e₁ ∙ i))) e) kind;
           }
 
-      pub element-second : (n < r₁ .next) × Ready F S X R₁ W₁ K₁ base (r₁ .next) s
+      pub element-second : (n < r₁ .at .node) × Ready F S X R₁ W₁ K₁ base (r₁ .at .node) (r₁ .at .scope)
       element-second =
-          on-index (λ e. s + size e ≤ S .«built_ins» + S .nodes → (n < r₁ .next) × Ready F S X R₁ W₁ K₁ base (r₁ .next) s)
+          on-index (λ e. s + size e ≤ S .«built_ins» + S .nodes → (n < r₁ .at .node) × Ready F S X R₁ W₁ K₁ base (r₁ .at .node) (r₁ .at .scope))
           (λ a b h l.
           let (L, q, p) = typing-of _ (m₁ .tells a (h .1)) y₁ in
-          (omega (arith, p .next), ready (r₁ .next) b (p .after .fine) (subst (λ i. Stands (tablesOf F S) i b) (sym (p .next)) (h .2)) (omega arith))) kind
+          (omega (arith, p .next), subst (λ i. Ready F S X R₁ W₁ K₁ base (r₁ .at .node) i) (sym (p .scope)) (ready (r₁ .at .node) b (p .after .fine) (subst (λ i. Stands (tablesOf F S) i b) (sym (p .next)) (h .2)) (omega arith)))) kind
           (g .tree) (g .stands) (g .room)
 
-      module _ (z₁ : k₁ ≡ 5) {R₂ W₂ K₂ : List ℕ} {r₂ : Judged} (m₂ : Told F S X R₁ W₁ base (r₁ .next) s R₂ W₂ K₂ r₂) where
+      module _ (z₁ : k₁ ≡ 5) {R₂ W₂ K₂ : List ℕ} {r₂ : Judged} (m₂ : Told F S X R₁ W₁ base (r₁ .at .node) (r₁ .at .scope) R₂ W₂ K₂ r₂) where
         pub element-no-2 : Untyped r₂ → Told F S X R W base n s R₂ W₂ K₂ r₂
         unfolding judge
         element-no-2 u =
@@ -109,7 +109,7 @@ module _ {F : List ℕ} {S : Sections} {X R W K : List ℕ} {base n s : ℕ} (g 
                   (λ a b h.
                   child-ok _ _ t y₁ (m₁ .tells a (h .1)) λ L q p.
                   passes _ 10 n _ (eq-eqb _ _ (sym e₁ ∙ z₁))
-                  (child-no _ _ u (retell (p .after .same) (g .fine .above) (p .next) m₂ b (h .2)))) kind;
+                  (child-no _ _ u (retell (p .after .same) (g .fine .above) (p .next) (p .scope) m₂ b (h .2)))) kind;
             }
 
         module _ {u k₂ : ℕ} (y₂ : r₂ .judgement ≡ Typed u) (e₂ : k₂ ≡ typeAt (tablesOf F S) u .kind) where
@@ -121,7 +121,7 @@ module _ {F : List ℕ} {S : Sections} {X R W K : List ℕ} {base n s : ℕ} (g 
                     (λ a b h.
                     child-ok _ _ t y₁ (m₁ .tells a (h .1)) λ L q p.
                     passes _ 10 n _ (eq-eqb _ _ (sym e₁ ∙ z₁))
-                    (child-ok _ _ u y₂ (retell (p .after .same) (g .fine .above) (p .next) m₂ b (h .2)) λ M q₂ p₂.
+                    (child-ok _ _ u y₂ (retell (p .after .same) (g .fine .above) (p .next) (p .scope) m₂ b (h .2)) λ M q₂ p₂.
                     stops _ 10 n _ (ne-eqb _ _ (λ i. f (e₂ ∙ i))) e)) kind;
               }
 
@@ -129,7 +129,7 @@ module _ {F : List ℕ} {S : Sections} {X R W K : List ℕ} {base n s : ℕ} (g 
           element-given ex = subst (λ i. i < S .types) (sym ex) (element-within (g .fine .good-tables) (child-within element-first m₁ y₁) (sym e₁ ∙ z₁))
 
           pub element-ok : {r : Judged} {R′ : List ℕ} {x : ℕ} → k₂ ≡ 0 → x ≡ typeAt (tablesOf F S) t .a → x < S .types
-              → r ≡ record { judgement = Typed x; next = r₂ .next; scope = s } → R′ ≡ withRow R₂ n x 65535 → Told F S X R W base n s R′ W₂ K₂ r
+              → r ≡ record { judgement = Typed x; at = r₂ .at } → R′ ≡ withRow R₂ n x 65535 → Told F S X R W base n s R′ W₂ K₂ r
           unfolding judge
           element-ok {r} {R′} {x} z₂ ex w er eR =
               record {
@@ -137,10 +137,10 @@ module _ {F : List ℕ} {S : Sections} {X R W K : List ℕ} {base n s : ℕ} (g 
                     (λ a b h.
                     child-ok _ _ t y₁ (m₁ .tells a (h .1)) λ L q p.
                     passes _ 10 n _ (eq-eqb _ _ (sym e₁ ∙ z₁))
-                    (child-ok _ _ u y₂ (retell (p .after .same) (g .fine .above) (p .next) m₂ b (h .2)) λ M q₂ p₂.
+                    (child-ok _ _ u y₂ (retell (p .after .same) (g .fine .above) (p .next) (p .scope) m₂ b (h .2)) λ M q₂ p₂.
                     passes _ 10 n _ (eq-eqb _ _ (sym e₂ ∙ z₂))
                     (subst (λ i. Meets (Typing F S X base n (size (index a b)) s R W R′ W₂ K₂ r) r (plain i (scopeOf (tablesOf F S) W base s) (L ++ M))) ex
-                    (accepts _ _ (rule-typed (g .within) w (after-append (expr-long _ _ a (n + 1) _ t L q) (expr-closed _ _ a (n + 1) _ t L q) (p .after) (p₂ .after)) er (p₂ .next ∙ omega arith) (omega arith) eR))))) kind;
+                    (accepts _ _ (rule-typed (g .within) w (after-append (expr-long _ _ a (n + 1) _ t L q) (expr-closed _ _ a (n + 1) _ t L q) (p .after) (p₂ .after)) er (p₂ .next ∙ omega arith) (p₂ .scope) (omega arith) eR))))) kind;
               }
 
 -- operators that take two of one type
@@ -156,12 +156,12 @@ module _ {F : List ℕ} {S : Sections} {X R W K : List ℕ} {base n s : ℕ} (g 
     binary-no u = record { tells = on-binary (Answers F S X R W base n s R₁ W₁ K₁ r₁) (λ x a b h. child-no _ _ u (m₁ .tells a (h .2))) kind }
 
     module _ {t : ℕ} (y₁ : r₁ .judgement ≡ Typed t) where
-      pub binary-second : (n < r₁ .next) × Ready F S X R₁ W₁ K₁ base (r₁ .next) s
+      pub binary-second : (n < r₁ .at .node) × Ready F S X R₁ W₁ K₁ base (r₁ .at .node) (r₁ .at .scope)
       binary-second =
-          on-binary (λ e. s + size e ≤ S .«built_ins» + S .nodes → (n < r₁ .next) × Ready F S X R₁ W₁ K₁ base (r₁ .next) s)
+          on-binary (λ e. s + size e ≤ S .«built_ins» + S .nodes → (n < r₁ .at .node) × Ready F S X R₁ W₁ K₁ base (r₁ .at .node) (r₁ .at .scope))
           (λ x a b h l.
           let (L, q, p) = typing-of _ (m₁ .tells a (h .2)) y₁ in
-          (omega (arith, p .next), ready (r₁ .next) b (p .after .fine) (subst (λ i. Stands (tablesOf F S) i b) (sym (p .next)) (h .3)) (omega arith))) kind
+          (omega (arith, p .next), subst (λ i. Ready F S X R₁ W₁ K₁ base (r₁ .at .node) i) (sym (p .scope)) (ready (r₁ .at .node) b (p .after .fine) (subst (λ i. Stands (tablesOf F S) i b) (sym (p .next)) (h .3)) (omega arith)))) kind
           (g .tree) (g .stands) (g .room)
 
       module _ {taken given k₁ : ℕ} (o : (isEquality (nodeAt (tablesOf F S) n .x) ≡ false) × (operandType (nodeAt (tablesOf F S) n .x) ≡ taken) × (resultType (nodeAt (tablesOf F S) n .x) ≡ given)) (e₁ : k₁ ≡ typeAt (tablesOf F S) t .kind) where
@@ -182,7 +182,7 @@ module _ {F : List ℕ} {S : Sections} {X R W K : List ℕ} {base n s : ℕ} (g 
                   (λ x a b h. child-ok _ _ t y₁ (m₁ .tells a (h .2)) λ L q p. stops _ 10 n _ (sort-not x k₁ t (h .0 .x-is) e₁ f) e) kind;
             }
 
-        module _ (z₁ : k₁ ≡ taken) {R₂ W₂ K₂ : List ℕ} {r₂ : Judged} (m₂ : Told F S X R₁ W₁ base (r₁ .next) s R₂ W₂ K₂ r₂) where
+        module _ (z₁ : k₁ ≡ taken) {R₂ W₂ K₂ : List ℕ} {r₂ : Judged} (m₂ : Told F S X R₁ W₁ base (r₁ .at .node) (r₁ .at .scope) R₂ W₂ K₂ r₂) where
           pub operator-no-2 : Untyped r₂ → Told F S X R W base n s R₂ W₂ K₂ r₂
           unfolding judge
           operator-no-2 u =
@@ -191,7 +191,7 @@ module _ {F : List ℕ} {S : Sections} {X R W K : List ℕ} {base n s : ℕ} (g 
                     (λ x a b h.
                     child-ok _ _ t y₁ (m₁ .tells a (h .2)) λ L q p.
                     passes _ 10 n _ (sort-yes x k₁ t (h .0 .x-is) e₁ z₁)
-                    (child-no _ _ u (retell (p .after .same) (g .fine .above) (p .next) m₂ b (h .3)))) kind;
+                    (child-no _ _ u (retell (p .after .same) (g .fine .above) (p .next) (p .scope) m₂ b (h .3)))) kind;
               }
 
           module _ {u k₂ : ℕ} (y₂ : r₂ .judgement ≡ Typed u) (e₂ : k₂ ≡ typeAt (tablesOf F S) u .kind) where
@@ -203,11 +203,11 @@ module _ {F : List ℕ} {S : Sections} {X R W K : List ℕ} {base n s : ℕ} (g 
                       (λ x a b h.
                       child-ok _ _ t y₁ (m₁ .tells a (h .2)) λ L q p.
                       passes _ 10 n _ (sort-yes x k₁ t (h .0 .x-is) e₁ z₁)
-                      (child-ok _ _ u y₂ (retell (p .after .same) (g .fine .above) (p .next) m₂ b (h .3)) λ M q₂ p₂.
+                      (child-ok _ _ u y₂ (retell (p .after .same) (g .fine .above) (p .next) (p .scope) m₂ b (h .3)) λ M q₂ p₂.
                       stops _ 10 n _ (sort-not x k₂ u (h .0 .x-is) e₂ f) e)) kind;
                 }
 
-            pub operator-ok : {r : Judged} {R′ : List ℕ} → k₂ ≡ taken → r ≡ record { judgement = Typed given; next = r₂ .next; scope = s } → R′ ≡ withRow R₂ n given 65535
+            pub operator-ok : {r : Judged} {R′ : List ℕ} → k₂ ≡ taken → r ≡ record { judgement = Typed given; at = r₂ .at } → R′ ≡ withRow R₂ n given 65535
                 → Told F S X R W base n s R′ W₂ K₂ r
             unfolding judge
             operator-ok {r} {R′} z₂ er eR =
@@ -217,16 +217,16 @@ module _ {F : List ℕ} {S : Sections} {X R W K : List ℕ} {base n s : ℕ} (g 
                       let is : given ≡ resultType x = sym (o .2) ∙ ap resultType (h .0 .x-is) in
                       child-ok _ _ t y₁ (m₁ .tells a (h .2)) λ L q p.
                       passes _ 10 n _ (sort-yes x k₁ t (h .0 .x-is) e₁ z₁)
-                      (child-ok _ _ u y₂ (retell (p .after .same) (g .fine .above) (p .next) m₂ b (h .3)) λ M q₂ p₂.
+                      (child-ok _ _ u y₂ (retell (p .after .same) (g .fine .above) (p .next) (p .scope) m₂ b (h .3)) λ M q₂ p₂.
                       passes _ 10 n _ (sort-yes x k₂ u (h .0 .x-is) e₂ z₂)
                       (passes _ 11 n _ (not-equality (isEquality x) _ (sym (ap isEquality (h .0 .x-is)) ∙ o .0))
                       (subst (λ i. Meets (Typing F S X base n (size (binary x a b)) s R W R′ W₂ K₂ r) r (plain i (scopeOf (tablesOf F S) W base s) (L ++ M))) is
                       (accepts _ _ (rule-typed (g .within) (subst (λ i. i < S .types) (sym is) (base-within (g .fine .good-tables) (result-low x)))
-                      (after-append (expr-long _ _ a (n + 1) _ t L q) (expr-closed _ _ a (n + 1) _ t L q) (p .after) (p₂ .after)) er (p₂ .next ∙ omega arith) (omega arith) eR)))))) kind;
+                      (after-append (expr-long _ _ a (n + 1) _ t L q) (expr-closed _ _ a (n + 1) _ t L q) (p .after) (p₂ .after)) er (p₂ .next ∙ omega arith) (p₂ .scope) (omega arith) eR)))))) kind;
                 }
 
       -- equality
-      module _ (o : isEquality (nodeAt (tablesOf F S) n .x) ≡ true) {R₂ W₂ K₂ : List ℕ} {r₂ : Judged} (m₂ : Told F S X R₁ W₁ base (r₁ .next) s R₂ W₂ K₂ r₂) where
+      module _ (o : isEquality (nodeAt (tablesOf F S) n .x) ≡ true) {R₂ W₂ K₂ : List ℕ} {r₂ : Judged} (m₂ : Told F S X R₁ W₁ base (r₁ .at .node) (r₁ .at .scope) R₂ W₂ K₂ r₂) where
         is-equality : (x : ℕ) (b : Bool) → nodeAt (tablesOf F S) n .x ≡ x → (isEquality x || b) ≡ true
         is-equality x b ex = or-left (isEquality x) b (sym (ap isEquality ex) ∙ o)
 
@@ -238,7 +238,7 @@ module _ {F : List ℕ} {S : Sections} {X R W K : List ℕ} {base n s : ℕ} (g 
                   (λ x a b h.
                   child-ok _ _ t y₁ (m₁ .tells a (h .2)) λ L q p.
                   passes _ 10 n _ (is-equality x _ (h .0 .x-is))
-                  (child-no _ _ u (retell (p .after .same) (g .fine .above) (p .next) m₂ b (h .3)))) kind;
+                  (child-no _ _ u (retell (p .after .same) (g .fine .above) (p .next) (p .scope) m₂ b (h .3)))) kind;
             }
 
         module _ {u : ℕ} (y₂ : r₂ .judgement ≡ Typed u) {d : Bool} (ed : d ≡ below (declared (tablesOf F S)) (typeOf (tablesOf F S) t) (typeOf (tablesOf F S) u)) where
@@ -250,7 +250,7 @@ module _ {F : List ℕ} {S : Sections} {X R W K : List ℕ} {base n s : ℕ} (g 
                     (λ x a b h.
                     child-ok _ _ t y₁ (m₁ .tells a (h .2)) λ L q p.
                     passes _ 10 n _ (is-equality x _ (h .0 .x-is))
-                    (child-ok _ _ u y₂ (retell (p .after .same) (g .fine .above) (p .next) m₂ b (h .3)) λ M q₂ p₂.
+                    (child-ok _ _ u y₂ (retell (p .after .same) (g .fine .above) (p .next) (p .scope) m₂ b (h .3)) λ M q₂ p₂.
                     passes _ 10 n _ (is-equality x _ (h .0 .x-is))
                     (stops (not (isEquality x) || ((below (declared (tablesOf F S)) (typeOf (tablesOf F S) t) (typeOf (tablesOf F S) u)) && (below (declared (tablesOf F S)) (typeOf (tablesOf F S) u) (typeOf (tablesOf F S) t)))) 11 n _
                     (not-both (isEquality x) (below (declared (tablesOf F S)) (typeOf (tablesOf F S) t) (typeOf (tablesOf F S) u)) (below (declared (tablesOf F S)) (typeOf (tablesOf F S) u) (typeOf (tablesOf F S) t)) (sym (ap isEquality (h .0 .x-is)) ∙ o) (and-first (below (declared (tablesOf F S)) (typeOf (tablesOf F S) t) (typeOf (tablesOf F S) u)) (below (declared (tablesOf F S)) (typeOf (tablesOf F S) u) (typeOf (tablesOf F S) t)) (sym ed ∙ not-true d f))) e))) kind;
@@ -265,13 +265,13 @@ module _ {F : List ℕ} {S : Sections} {X R W K : List ℕ} {base n s : ℕ} (g 
                       (λ x a b h.
                       child-ok _ _ t y₁ (m₁ .tells a (h .2)) λ L q p.
                       passes _ 10 n _ (is-equality x _ (h .0 .x-is))
-                      (child-ok _ _ u y₂ (retell (p .after .same) (g .fine .above) (p .next) m₂ b (h .3)) λ M q₂ p₂.
+                      (child-ok _ _ u y₂ (retell (p .after .same) (g .fine .above) (p .next) (p .scope) m₂ b (h .3)) λ M q₂ p₂.
                       passes _ 10 n _ (is-equality x _ (h .0 .x-is))
                       (stops (not (isEquality x) || ((below (declared (tablesOf F S)) (typeOf (tablesOf F S) t) (typeOf (tablesOf F S) u)) && (below (declared (tablesOf F S)) (typeOf (tablesOf F S) u) (typeOf (tablesOf F S) t)))) 11 n _
                       (not-both (isEquality x) (below (declared (tablesOf F S)) (typeOf (tablesOf F S) t) (typeOf (tablesOf F S) u)) (below (declared (tablesOf F S)) (typeOf (tablesOf F S) u) (typeOf (tablesOf F S) t)) (sym (ap isEquality (h .0 .x-is)) ∙ o) (and-second (below (declared (tablesOf F S)) (typeOf (tablesOf F S) t) (typeOf (tablesOf F S) u)) (below (declared (tablesOf F S)) (typeOf (tablesOf F S) u) (typeOf (tablesOf F S) t)) (sym ec ∙ not-true c f))) e))) kind;
                 }
 
-            pub equality-ok : {r : Judged} {R′ : List ℕ} → not d ≡ false → not c ≡ false → r ≡ record { judgement = Typed 1; next = r₂ .next; scope = s } → R′ ≡ withRow R₂ n 1 65535
+            pub equality-ok : {r : Judged} {R′ : List ℕ} → not d ≡ false → not c ≡ false → r ≡ record { judgement = Typed 1; at = r₂ .at } → R′ ≡ withRow R₂ n 1 65535
                 → Told F S X R W base n s R′ W₂ K₂ r
             unfolding judge
             equality-ok {r} {R′} f f₂ er eR =
@@ -281,10 +281,10 @@ module _ {F : List ℕ} {S : Sections} {X R W K : List ℕ} {base n s : ℕ} (g 
                       let is : 1 ≡ resultType x = sym (equality-result x (sym (ap isEquality (h .0 .x-is)) ∙ o)) in
                       child-ok _ _ t y₁ (m₁ .tells a (h .2)) λ L q p.
                       passes _ 10 n _ (is-equality x _ (h .0 .x-is))
-                      (child-ok _ _ u y₂ (retell (p .after .same) (g .fine .above) (p .next) m₂ b (h .3)) λ M q₂ p₂.
+                      (child-ok _ _ u y₂ (retell (p .after .same) (g .fine .above) (p .next) (p .scope) m₂ b (h .3)) λ M q₂ p₂.
                       passes _ 10 n _ (is-equality x _ (h .0 .x-is))
                       (passes _ 11 n _ (or-right (not (isEquality x)) _ (both-true _ _ (sym ed ∙ not-false d f) (sym ec ∙ not-false c f₂)))
                       (subst (λ i. Meets (Typing F S X base n (size (binary x a b)) s R W R′ W₂ K₂ r) r (plain i (scopeOf (tablesOf F S) W base s) (L ++ M))) is
                       (accepts _ _ (rule-typed (g .within) (base-within (g .fine .good-tables) (omega arith))
-                      (after-append (expr-long _ _ a (n + 1) _ t L q) (expr-closed _ _ a (n + 1) _ t L q) (p .after) (p₂ .after)) er (p₂ .next ∙ omega arith) (omega arith) eR)))))) kind;
+                      (after-append (expr-long _ _ a (n + 1) _ t L q) (expr-closed _ _ a (n + 1) _ t L q) (p .after) (p₂ .after)) er (p₂ .next ∙ omega arith) (p₂ .scope) (omega arith) eR)))))) kind;
                 }

@@ -54,7 +54,7 @@ module _ {F : List ℕ} {S : Sections} {X R W K : List ℕ} {base n s : ℕ} (g 
                 (λ a h. child-ok _ _ t y₁ (m₁ .tells a (h .1)) λ L q p. stops _ 10 n _ (ne-eqb _ _ (λ i. f (e₁ ∙ i))) e) kind;
           }
 
-      pub length-ok : {r : Judged} {R′ : List ℕ} → k₁ ≡ 5 → r ≡ record { judgement = Typed 0; next = r₁ .next; scope = s } → R′ ≡ withRow R₁ n 0 65535
+      pub length-ok : {r : Judged} {R′ : List ℕ} → k₁ ≡ 5 → r ≡ record { judgement = Typed 0; at = r₁ .at } → R′ ≡ withRow R₁ n 0 65535
           → Told F S X R W base n s R′ W₁ K₁ r
       unfolding judge
       length-ok {r} {R′} k er eR =
@@ -63,7 +63,7 @@ module _ {F : List ℕ} {S : Sections} {X R W K : List ℕ} {base n s : ℕ} (g 
                 (λ a h.
                 child-ok _ _ t y₁ (m₁ .tells a (h .1)) λ L q p.
                 passes _ 10 n _ (eq-eqb _ _ (sym e₁ ∙ k))
-                (accepts _ _ (rule-typed (g .within) (base-within (g .fine .good-tables) (omega arith)) (p .after) er (p .next) refl eR))) kind;
+                (accepts _ _ (rule-typed (g .within) (base-within (g .fine .good-tables) (omega arith)) (p .after) er (p .next) (p .scope) refl eR))) kind;
           }
 
 unary-low : (x : ℕ) → unaryType x < 4
@@ -97,7 +97,7 @@ module _ {F : List ℕ} {S : Sections} {X R W K : List ℕ} {base n s : ℕ} (g 
                 (λ x a h. child-ok _ _ t y₁ (m₁ .tells a (h .2)) λ L q p. stops _ 10 n _ (ne-eqb _ _ (λ i. f (e₁ ∙ i ∙ sym (et ∙ ap unaryType (ex ∙ h .0 .x-is))))) e) kind;
           }
 
-      pub unary-ok : {r : Judged} {R′ : List ℕ} → k₁ ≡ taken → r ≡ record { judgement = Typed taken; next = r₁ .next; scope = s } → R′ ≡ withRow R₁ n taken 65535
+      pub unary-ok : {r : Judged} {R′ : List ℕ} → k₁ ≡ taken → r ≡ record { judgement = Typed taken; at = r₁ .at } → R′ ≡ withRow R₁ n taken 65535
           → Told F S X R W base n s R′ W₁ K₁ r
       unfolding judge
       unary-ok {r} {R′} k er eR =
@@ -108,7 +108,7 @@ module _ {F : List ℕ} {S : Sections} {X R W K : List ℕ} {base n s : ℕ} (g 
                 child-ok _ _ t y₁ (m₁ .tells a (h .2)) λ L q p.
                 passes _ 10 n _ (eq-eqb _ _ (sym e₁ ∙ k ∙ is))
                 (subst (λ i. Meets (Typing F S X base n (size (unary x a)) s R W R′ W₁ K₁ r) r (plain i (scopeOf (tablesOf F S) W base s) L)) is
-                (accepts _ _ (rule-typed (g .within) (subst (λ i. i < S .types) (sym is) (base-within (g .fine .good-tables) (unary-low x))) (p .after) er (p .next) refl eR)))) kind;
+                (accepts _ _ (rule-typed (g .within) (subst (λ i. i < S .types) (sym is) (base-within (g .fine .good-tables) (unary-low x))) (p .after) er (p .next) (p .scope) refl eR)))) kind;
           }
 
 -- default array
@@ -180,7 +180,7 @@ module _ {F : List ℕ} {S : Sections} {X R W K : List ℕ} {base n s : ℕ} (g 
                       (stops _ 16 n _ (sym (ap (hasDefault (tablesOf F S)) (ex ∙ ap (λ i. typeAt (tablesOf F S) i .a) (et ∙ h .0 .t-is))) ∙ sym ed ∙ not-true d f) e))) kind;
                 }
 
-            pub default-ok : {r : Judged} {R′ : List ℕ} → not d ≡ false → r ≡ record { judgement = Typed t; next = r₁ .next; scope = s } → R′ ≡ withRow R₁ n t 65535
+            pub default-ok : {r : Judged} {R′ : List ℕ} → not d ≡ false → r ≡ record { judgement = Typed t; at = r₁ .at } → R′ ≡ withRow R₁ n t 65535
                 → Told F S X R W base n s R′ W₁ K₁ r
             unfolding judge
             default-ok {r} {R′} f er eR =
@@ -192,7 +192,7 @@ module _ {F : List ℕ} {S : Sections} {X R W K : List ℕ} {base n s : ℕ} (g 
                       passes _ 10 n _ (eq-eqb _ _ (sym e₁ ∙ k))
                       (passes _ 16 n _ (sym (ap (hasDefault (tablesOf F S)) (ex ∙ ap (λ i. typeAt (tablesOf F S) i .a) (et ∙ h .0 .t-is))) ∙ sym ed ∙ not-false d f)
                       (subst (λ i. Meets (Typing F S X base n (size (defaultArray v a)) s R W R′ W₁ K₁ r) r (plain i (scopeOf (tablesOf F S) W base s) L)) (et ∙ h .0 .t-is)
-                      (accepts _ _ (rule-typed (g .within) (default-within .0) (p .after) er (p .next) refl eR)))))) kind;
+                      (accepts _ _ (rule-typed (g .within) (default-within .0) (p .after) er (p .next) (p .scope) refl eR)))))) kind;
                 }
 
 -- field
@@ -241,7 +241,7 @@ module _ {F : List ℕ} {S : Sections} {X R W K : List ℕ} {base n s : ℕ} (g 
           pub field-within : u < S .types
           field-within = found-below F S (g .fine .good-tables) o x₁ u (sym ef ∙ ap numberOf z)
 
-          pub field-ok : {r : Judged} {R′ : List ℕ} → r ≡ record { judgement = Typed u; next = r₁ .next; scope = s } → R′ ≡ withRow R₁ n u 65535
+          pub field-ok : {r : Judged} {R′ : List ℕ} → r ≡ record { judgement = Typed u; at = r₁ .at } → R′ ≡ withRow R₁ n u 65535
               → Told F S X R W base n s R′ W₁ K₁ r
           unfolding judge
           field-ok {r} {R′} er eR =
@@ -252,5 +252,5 @@ module _ {F : List ℕ} {S : Sections} {X R W K : List ℕ} {base n s : ℕ} (g 
                     passes _ 10 n _ (eq-eqb _ _ (sym e₁ ∙ k))
                     (subst (λ i. Meets (Typing F S X base n (size (field x a)) s R W R′ W₁ K₁ r) r (fieldType i n (scopeOf (tablesOf F S) W base s) L))
                     (sym (field-meant x a h (p .within) ∙ ap numberOf z))
-                    (accepts _ _ (rule-typed (g .within) field-within (p .after) er (p .next) refl eR)))) kind;
+                    (accepts _ _ (rule-typed (g .within) field-within (p .after) er (p .next) (p .scope) refl eR)))) kind;
               }

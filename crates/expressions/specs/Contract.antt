@@ -57,16 +57,18 @@ pub record After (F : List ℕ) (S : Sections) (X : List ℕ) (base : ℕ) (L : 
   pub same : Same (entryOf (tablesOf F S) s) W W′
   pub fine : Fine F S X R′ W′ K′ base s′
 
--- the answer to an accepted expression of the type t, and to accepted lists
+-- the answer to an accepted expression of the type t, and to an accepted list or test, which the definition has give a
 pub record Typing (F : List ℕ) (S : Sections) (X : List ℕ) (base n k s : ℕ) (R W R′ W′ K′ : List ℕ) (r : Judged) (t : ℕ) (L : List (Label ℕ)) : Type 0 where
   pub typed : r .judgement ≡ Typed t
-  pub next : r .next ≡ n + k
+  pub next : r .at .node ≡ n + k
+  pub scope : r .at .scope ≡ s
   pub within : t < S .types
   pub after : After F S X base L n k s s R W R′ W′ K′
 
-pub record Listing (F : List ℕ) (S : Sections) (X : List ℕ) (base n k s : ℕ) (R W R′ W′ K′ : List ℕ) (r : Judged) (ts : List ℕ) (L : List (Label ℕ)) : Type 0 where
+pub record Listing {A : Type 0} (F : List ℕ) (S : Sections) (X : List ℕ) (base n k s : ℕ) (R W R′ W′ K′ : List ℕ) (r : Judged) (a : A) (L : List (Label ℕ)) : Type 0 where
   pub goes-on : r .judgement ≡ GoesOn
-  pub next : r .next ≡ n + k
+  pub next : r .at .node ≡ n + k
+  pub scope : r .at .scope ≡ s
   pub after : After F S X base L n k s s R W R′ W′ K′
 
 -- the answer r meets an outcome of the definition: P holds where it accepts, and r is its refusal where it refuses

@@ -1,7 +1,10 @@
 // The cycle of expressions: a dispatcher by node kind, one by operator, a function for each rule, and those for a list of
 // expressions and for field initializers. The remaining nodes fall.
+use answers::answer::At;
+use answers::answer::Frame;
 use answers::answer::Judged;
 use answers::answer::Judgement;
+use answers::answer::goes_on;
 use answers::answer::refused;
 use answers::answer::row;
 use answers::answer::typed;
@@ -19,7 +22,6 @@ use bindings::leave;
 use fields::literal::names_fit;
 use fields::lookup::FieldType;
 use fields::lookup::field_of;
-use file_sections::Sections;
 use file_sections::records::node_children;
 use file_sections::records::node_kind;
 use file_sections::records::node_t;
@@ -39,799 +41,695 @@ ghost use Rattle.typing_rules.specs.Operators.{isEquality, operandType, resultT
 ghost use Rattle.file_sections.specs.Layout.{tablesOf};
 ghost use Rattle.expressions.specs.Contract.{Ready, Told, ReadyList, ToldList, ReadyInits, ToldInits, ReadyFilling, ToldFilling};
 
-// The expression at `node`.
+// The expression at `at`.
 pub fn expression(
     file: &[u8],
-    sections: Sections,
+    frame: Frame,
     index: &[u16],
     rows: &mut [u16],
     work: &mut [u16],
     chains: &mut [u16],
-    base: usize,
-    node: usize,
-    scope: usize,
+    at: At,
 ) -> Judged
-    requires { ⌜ Ready (now file) sections (now index) (now rows) (now work) (now chains) base node scope ⌝ }
-    ensures { λ r. ⌜ Told (now (file .entry)) sections (now (index .entry)) (now (rows .entry)) (now (work .entry)) base node scope (now (rows .exit)) (now (work .exit)) (now (chains .exit)) r ⌝ }
+    requires { ⌜ Ready (now file) (frame .sections) (now index) (now rows) (now work) (now chains) (frame .base) (at .node) (at .scope) ⌝ }
+    ensures { λ r. ⌜ Told (now (file .entry)) (frame .sections) (now (index .entry)) (now (rows .entry)) (now (work .entry)) (frame .base) (at .node) (at .scope) (now (rows .exit)) (now (work .exit)) (now (chains .exit)) r ⌝ }
 {
-    match node_kind(file, sections, node) {
-        10 => null(file, sections, index, rows, node, scope),
-        11..=14 => literal(file, sections, rows, node, scope),
-        15 => name(file, sections, rows, &*work, &*chains, node, scope),
-        16 => array(file, sections, index, rows, work, chains, base, node, scope),
-        17 => zeroed(file, sections, index, rows, work, chains, base, node, scope),
-        18 => filled(file, sections, index, rows, work, chains, base, node, scope),
-        19 => element(file, sections, index, rows, work, chains, base, node, scope),
-        20 => length_of(file, sections, index, rows, work, chains, base, node, scope),
-        21 => structure(file, sections, index, rows, work, chains, base, node, scope),
-        23 => field(file, sections, index, rows, work, chains, base, node, scope),
-        24 => call(file, sections, index, rows, work, chains, base, node, scope),
-        25 => unary(file, sections, index, rows, work, chains, base, node, scope),
-        _ => binary(file, sections, index, rows, work, chains, base, node, scope),
+    match node_kind(file, frame.sections, at.node) {
+        10 => null(file, frame.sections, index, rows, at),
+        11..=14 => literal(file, frame.sections, rows, at),
+        15 => name(file, frame.sections, rows, &*work, &*chains, at),
+        16 => array(file, frame, index, rows, work, chains, at),
+        17 => zeroed(file, frame, index, rows, work, chains, at),
+        18 => filled(file, frame, index, rows, work, chains, at),
+        19 => element(file, frame, index, rows, work, chains, at),
+        20 => length_of(file, frame, index, rows, work, chains, at),
+        21 => structure(file, frame, index, rows, work, chains, at),
+        23 => field(file, frame, index, rows, work, chains, at),
+        24 => call(file, frame, index, rows, work, chains, at),
+        25 => unary(file, frame, index, rows, work, chains, at),
+        _ => binary(file, frame, index, rows, work, chains, at),
     }
 }
 
-// `count` expressions from `node` on, then their subtypes, which break at the parent.
+// `count` expressions from `at` on, then their subtypes, which break at the parent.
 pub fn list(
     file: &[u8],
-    sections: Sections,
+    frame: Frame,
     index: &[u16],
     rows: &mut [u16],
     work: &mut [u16],
     chains: &mut [u16],
-    base: usize,
-    node: usize,
-    scope: usize,
+    at: At,
     count: usize,
     expected: Expected,
     parent: usize,
 ) -> Judged
-    requires { ⌜ ReadyList (now file) sections (now index) (now rows) (now work) (now chains) base node scope count expected ⌝ }
-    ensures { λ r. ⌜ ToldList (now (file .entry)) sections (now (index .entry)) (now (rows .entry)) (now (work .entry)) base node scope count expected parent (now (rows .exit)) (now (work .exit)) (now (chains .exit)) r ⌝ }
+    requires { ⌜ ReadyList (now file) (frame .sections) (now index) (now rows) (now work) (now chains) (frame .base) (at .node) (at .scope) count expected ⌝ }
+    ensures { λ r. ⌜ ToldList (now (file .entry)) (frame .sections) (now (index .entry)) (now (rows .entry)) (now (work .entry)) (frame .base) (at .node) (at .scope) count expected parent (now (rows .exit)) (now (work .exit)) (now (chains .exit)) r ⌝ }
 {
-    let mut at = node;
+    let mut here = at;
     let mut fits = true;
     let mut i = 0;
     while i < count {
-        let one = expression(file, sections, index, rows, work, chains, base, at, scope);
+        let one = expression(file, frame, index, rows, work, chains, here);
         let judgement = one.judgement;
         let Judgement::Typed(t) = judgement else {
             return one;
         };
-        fits = still_below(file, sections, index, fits, t, expected, i);
-        at = one.next;
+        fits = still_below(file, frame.sections, index, fits, t, expected, i);
+        here = one.at;
         i += 1;
     }
     if !fits {
-        return refused(11, parent);
+        return refused(11, parent, here);
     }
-    Judged {
-        judgement: Judgement::GoesOn,
-        next: at,
-        scope: scope,
-    }
+    goes_on(here)
 }
 
-// `count` field initializers from `node` on, of a literal of the record, then their subtypes, which break at the parent.
+// `count` field initializers from `at` on, of a literal of the record, then their subtypes, which break at the parent.
 fn inits(
     file: &[u8],
-    sections: Sections,
+    frame: Frame,
     index: &[u16],
     rows: &mut [u16],
     work: &mut [u16],
     chains: &mut [u16],
-    base: usize,
-    node: usize,
-    scope: usize,
+    at: At,
     count: usize,
     owner: usize,
     parent: usize,
 ) -> Judged
-    requires { ⌜ ReadyInits (now file) sections (now index) (now rows) (now work) (now chains) base node scope count owner ⌝ }
-    ensures { λ r. ⌜ ToldInits (now (file .entry)) sections (now (index .entry)) (now (rows .entry)) (now (work .entry)) base node scope count owner parent (now (rows .exit)) (now (work .exit)) (now (chains .exit)) r ⌝ }
+    requires { ⌜ ReadyInits (now file) (frame .sections) (now index) (now rows) (now work) (now chains) (frame .base) (at .node) (at .scope) count owner ⌝ }
+    ensures { λ r. ⌜ ToldInits (now (file .entry)) (frame .sections) (now (index .entry)) (now (rows .entry)) (now (work .entry)) (frame .base) (at .node) (at .scope) count owner parent (now (rows .exit)) (now (work .exit)) (now (chains .exit)) r ⌝ }
 {
-    let mut at = node;
+    let mut here = at;
     let mut fits = true;
     let mut i = 0;
     while i < count {
         let one = expression(
             file,
-            sections,
+            frame,
             index,
             rows,
             work,
             chains,
-            base,
-            at + 1,
-            scope,
+            At {
+                node: here.node + 1,
+                ..here
+            },
         );
         let judgement = one.judgement;
         let Judgement::Typed(t) = judgement else {
             return one;
         };
-        row(rows, at, t, 65535);
+        row(rows, here.node, t, 65535);
         fits = still_fits(
             file,
-            sections,
+            frame.sections,
             index,
             fits,
             t,
             owner,
-            node_x(file, sections, at),
+            node_x(file, frame.sections, here.node),
         );
-        at = one.next;
+        here = one.at;
         i += 1;
     }
     if !fits {
-        return refused(11, parent);
+        return refused(11, parent, here);
     }
-    Judged {
-        judgement: Judgement::GoesOn,
-        next: at,
-        scope: scope,
-    }
+    goes_on(here)
 }
 
 // Array literal: element type, all elements, all subtypes.
 fn array(
     file: &[u8],
-    sections: Sections,
+    frame: Frame,
     index: &[u16],
     rows: &mut [u16],
     work: &mut [u16],
     chains: &mut [u16],
-    base: usize,
-    node: usize,
-    scope: usize,
+    at: At,
 ) -> Judged
-    requires { ⌜ Ready (now file) sections (now index) (now rows) (now work) (now chains) base node scope ⌝ }
-    requires { ⌜ nodeAt (tablesOf (now file) sections) node .kind ≡ 16 ⌝ }
-    ensures { λ r. ⌜ Told (now (file .entry)) sections (now (index .entry)) (now (rows .entry)) (now (work .entry)) base node scope (now (rows .exit)) (now (work .exit)) (now (chains .exit)) r ⌝ }
+    requires { ⌜ Ready (now file) (frame .sections) (now index) (now rows) (now work) (now chains) (frame .base) (at .node) (at .scope) ⌝ }
+    requires { ⌜ nodeAt (tablesOf (now file) (frame .sections)) (at .node) .kind ≡ 16 ⌝ }
+    ensures { λ r. ⌜ Told (now (file .entry)) (frame .sections) (now (index .entry)) (now (rows .entry)) (now (work .entry)) (frame .base) (at .node) (at .scope) (now (rows .exit)) (now (work .exit)) (now (chains .exit)) r ⌝ }
 {
-    let t = node_t(file, sections, node);
-    let element = type_a(file, sections, t);
+    let t = node_t(file, frame.sections, at.node);
+    let element = type_a(file, frame.sections, t);
     if !is_formed(index, element) {
-        return refused(9, node);
+        return refused(9, at.node, at);
     }
     let all = list(
         file,
-        sections,
+        frame,
         index,
         rows,
         work,
         chains,
-        base,
-        node + 1,
-        scope,
-        node_children(file, sections, node),
+        At {
+            node: at.node + 1,
+            ..at
+        },
+        node_children(file, frame.sections, at.node),
         Expected::Each(element),
-        node,
+        at.node,
     );
     let judgement = all.judgement;
     let Judgement::GoesOn = judgement else {
         return all;
     };
-    typed(rows, node, t, all.next, scope)
+    typed(rows, at.node, t, all.at)
 }
 
 // Default array: element type, length, the element's default.
 fn zeroed(
     file: &[u8],
-    sections: Sections,
+    frame: Frame,
     index: &[u16],
     rows: &mut [u16],
     work: &mut [u16],
     chains: &mut [u16],
-    base: usize,
-    node: usize,
-    scope: usize,
+    at: At,
 ) -> Judged
-    requires { ⌜ Ready (now file) sections (now index) (now rows) (now work) (now chains) base node scope ⌝ }
-    requires { ⌜ nodeAt (tablesOf (now file) sections) node .kind ≡ 17 ⌝ }
-    ensures { λ r. ⌜ Told (now (file .entry)) sections (now (index .entry)) (now (rows .entry)) (now (work .entry)) base node scope (now (rows .exit)) (now (work .exit)) (now (chains .exit)) r ⌝ }
+    requires { ⌜ Ready (now file) (frame .sections) (now index) (now rows) (now work) (now chains) (frame .base) (at .node) (at .scope) ⌝ }
+    requires { ⌜ nodeAt (tablesOf (now file) (frame .sections)) (at .node) .kind ≡ 17 ⌝ }
+    ensures { λ r. ⌜ Told (now (file .entry)) (frame .sections) (now (index .entry)) (now (rows .entry)) (now (work .entry)) (frame .base) (at .node) (at .scope) (now (rows .exit)) (now (work .exit)) (now (chains .exit)) r ⌝ }
 {
-    let t = node_t(file, sections, node);
-    let element = type_a(file, sections, t);
+    let t = node_t(file, frame.sections, at.node);
+    let element = type_a(file, frame.sections, t);
     if !is_formed(index, element) {
-        return refused(9, node);
+        return refused(9, at.node, at);
     }
     let one = expression(
         file,
-        sections,
+        frame,
         index,
         rows,
         work,
         chains,
-        base,
-        node + 1,
-        scope,
+        At {
+            node: at.node + 1,
+            ..at
+        },
     );
     let judgement = one.judgement;
     let Judgement::Typed(u) = judgement else {
         return one;
     };
-    if type_kind(file, sections, u) != 0 {
-        return refused(10, node);
+    if type_kind(file, frame.sections, u) != 0 {
+        return refused(10, at.node, one.at);
     }
-    if !has_default(file, sections, element) {
-        return refused(16, node);
+    if !has_default(file, frame.sections, element) {
+        return refused(16, at.node, one.at);
     }
-    typed(rows, node, t, one.next, scope)
+    typed(rows, at.node, t, one.at)
 }
 
 // Array with initializer: element type, length, fresh index name, value.
 fn filled(
     file: &[u8],
-    sections: Sections,
+    frame: Frame,
     index: &[u16],
     rows: &mut [u16],
     work: &mut [u16],
     chains: &mut [u16],
-    base: usize,
-    node: usize,
-    scope: usize,
+    at: At,
 ) -> Judged
-    requires { ⌜ Ready (now file) sections (now index) (now rows) (now work) (now chains) base node scope ⌝ }
-    requires { ⌜ nodeAt (tablesOf (now file) sections) node .kind ≡ 18 ⌝ }
-    ensures { λ r. ⌜ Told (now (file .entry)) sections (now (index .entry)) (now (rows .entry)) (now (work .entry)) base node scope (now (rows .exit)) (now (work .exit)) (now (chains .exit)) r ⌝ }
+    requires { ⌜ Ready (now file) (frame .sections) (now index) (now rows) (now work) (now chains) (frame .base) (at .node) (at .scope) ⌝ }
+    requires { ⌜ nodeAt (tablesOf (now file) (frame .sections)) (at .node) .kind ≡ 18 ⌝ }
+    ensures { λ r. ⌜ Told (now (file .entry)) (frame .sections) (now (index .entry)) (now (rows .entry)) (now (work .entry)) (frame .base) (at .node) (at .scope) (now (rows .exit)) (now (work .exit)) (now (chains .exit)) r ⌝ }
 {
-    let t = node_t(file, sections, node);
-    let element = type_a(file, sections, t);
+    let t = node_t(file, frame.sections, at.node);
+    let element = type_a(file, frame.sections, t);
     if !is_formed(index, element) {
-        return refused(9, node);
+        return refused(9, at.node, at);
     }
     let one = expression(
         file,
-        sections,
+        frame,
         index,
         rows,
         work,
         chains,
-        base,
-        node + 1,
-        scope,
+        At {
+            node: at.node + 1,
+            ..at
+        },
     );
     let first = one.judgement;
     let Judgement::Typed(u) = first else {
         return one;
     };
-    if type_kind(file, sections, u) != 0 {
-        return refused(10, node);
+    if type_kind(file, frame.sections, u) != 0 {
+        return refused(10, at.node, one.at);
     }
     if !is_fresh(
         file,
-        sections,
+        frame.sections,
         &*work,
         &*chains,
-        base,
-        node_x(file, sections, node),
+        frame.base,
+        node_x(file, frame.sections, at.node),
     ) {
-        return refused(7, node);
+        return refused(7, at.node, one.at);
     }
-    let two = filling(
-        file,
-        sections,
-        index,
-        rows,
-        work,
-        chains,
-        base,
-        node,
-        scope,
-        one.next,
-    );
+    let two = filling(file, frame, index, rows, work, chains, at, one.at);
     let second = two.judgement;
     let Judgement::Typed(_) = second else {
         return two;
     };
-    typed(rows, node, t, two.next, scope)
+    typed(rows, at.node, t, two.at)
 }
 
-// The value at `at` of the array with initializer at `node`, with the index name bound, and its subtype.
+// The value at `value` of the array with initializer at `at`, with the index name bound, and its subtype.
 fn filling(
     file: &[u8],
-    sections: Sections,
+    frame: Frame,
     index: &[u16],
     rows: &mut [u16],
     work: &mut [u16],
     chains: &mut [u16],
-    base: usize,
-    node: usize,
-    scope: usize,
-    at: usize,
+    at: At,
+    value: At,
 ) -> Judged
-    requires { ⌜ ReadyFilling (now file) sections (now index) (now rows) (now work) (now chains) base node scope at ⌝ }
-    ensures { λ r. ⌜ ToldFilling (now (file .entry)) sections (now (index .entry)) (now (rows .entry)) (now (work .entry)) base node scope at (now (rows .exit)) (now (work .exit)) (now (chains .exit)) r ⌝ }
+    requires { ⌜ ReadyFilling (now file) (frame .sections) (now index) (now rows) (now work) (now chains) (frame .base) (at .node) (at .scope) (value .node) ⌝ }
+    ensures { λ r. ⌜ ToldFilling (now (file .entry)) (frame .sections) (now (index .entry)) (now (rows .entry)) (now (work .entry)) (frame .base) (at .node) (at .scope) (value .node) (now (rows .exit)) (now (work .exit)) (now (chains .exit)) r ⌝ }
 {
-    bind(file, sections, work, chains, scope, node, 0);
+    bind(file, frame.sections, work, chains, at.scope, at.node, 0);
     let one = expression(
         file,
-        sections,
+        frame,
         index,
         rows,
         work,
         chains,
-        base,
-        at,
-        scope + 1,
+        At {
+            scope: at.scope + 1,
+            ..value
+        },
     );
     let judgement = one.judgement;
     let Judgement::Typed(v) = judgement else {
         return one;
     };
-    leave(file, sections, &*work, chains, scope + 1, scope);
-    let element = type_a(file, sections, node_t(file, sections, node));
-    if !below(file, sections, index, v, element) {
-        return refused(11, node);
+    leave(file, frame.sections, &*work, chains, at.scope + 1, at.scope);
+    let element = type_a(file, frame.sections, node_t(file, frame.sections, at.node));
+    if !below(file, frame.sections, index, v, element) {
+        return refused(11, at.node, one.at);
     }
     Judged {
         judgement: judgement,
-        next: one.next,
-        scope: scope,
+        at: At {
+            scope: at.scope,
+            ..one.at
+        },
     }
 }
 
 // Index: array, its sort, index, its sort.
 fn element(
     file: &[u8],
-    sections: Sections,
+    frame: Frame,
     index: &[u16],
     rows: &mut [u16],
     work: &mut [u16],
     chains: &mut [u16],
-    base: usize,
-    node: usize,
-    scope: usize,
+    at: At,
 ) -> Judged
-    requires { ⌜ Ready (now file) sections (now index) (now rows) (now work) (now chains) base node scope ⌝ }
-    requires { ⌜ nodeAt (tablesOf (now file) sections) node .kind ≡ 19 ⌝ }
-    ensures { λ r. ⌜ Told (now (file .entry)) sections (now (index .entry)) (now (rows .entry)) (now (work .entry)) base node scope (now (rows .exit)) (now (work .exit)) (now (chains .exit)) r ⌝ }
+    requires { ⌜ Ready (now file) (frame .sections) (now index) (now rows) (now work) (now chains) (frame .base) (at .node) (at .scope) ⌝ }
+    requires { ⌜ nodeAt (tablesOf (now file) (frame .sections)) (at .node) .kind ≡ 19 ⌝ }
+    ensures { λ r. ⌜ Told (now (file .entry)) (frame .sections) (now (index .entry)) (now (rows .entry)) (now (work .entry)) (frame .base) (at .node) (at .scope) (now (rows .exit)) (now (work .exit)) (now (chains .exit)) r ⌝ }
 {
     let one = expression(
         file,
-        sections,
+        frame,
         index,
         rows,
         work,
         chains,
-        base,
-        node + 1,
-        scope,
+        At {
+            node: at.node + 1,
+            ..at
+        },
     );
     let first = one.judgement;
     let Judgement::Typed(t) = first else {
         return one;
     };
-    if type_kind(file, sections, t) != 5 {
-        return refused(10, node);
+    if type_kind(file, frame.sections, t) != 5 {
+        return refused(10, at.node, one.at);
     }
-    let two = expression(
-        file,
-        sections,
-        index,
-        rows,
-        work,
-        chains,
-        base,
-        one.next,
-        scope,
-    );
+    let two = expression(file, frame, index, rows, work, chains, one.at);
     let second = two.judgement;
     let Judgement::Typed(u) = second else {
         return two;
     };
-    if type_kind(file, sections, u) != 0 {
-        return refused(10, node);
+    if type_kind(file, frame.sections, u) != 0 {
+        return refused(10, at.node, two.at);
     }
-    typed(rows, node, type_a(file, sections, t), two.next, scope)
+    typed(rows, at.node, type_a(file, frame.sections, t), two.at)
 }
 
 // Length: array, its sort.
 fn length_of(
     file: &[u8],
-    sections: Sections,
+    frame: Frame,
     index: &[u16],
     rows: &mut [u16],
     work: &mut [u16],
     chains: &mut [u16],
-    base: usize,
-    node: usize,
-    scope: usize,
+    at: At,
 ) -> Judged
-    requires { ⌜ Ready (now file) sections (now index) (now rows) (now work) (now chains) base node scope ⌝ }
-    requires { ⌜ nodeAt (tablesOf (now file) sections) node .kind ≡ 20 ⌝ }
-    ensures { λ r. ⌜ Told (now (file .entry)) sections (now (index .entry)) (now (rows .entry)) (now (work .entry)) base node scope (now (rows .exit)) (now (work .exit)) (now (chains .exit)) r ⌝ }
+    requires { ⌜ Ready (now file) (frame .sections) (now index) (now rows) (now work) (now chains) (frame .base) (at .node) (at .scope) ⌝ }
+    requires { ⌜ nodeAt (tablesOf (now file) (frame .sections)) (at .node) .kind ≡ 20 ⌝ }
+    ensures { λ r. ⌜ Told (now (file .entry)) (frame .sections) (now (index .entry)) (now (rows .entry)) (now (work .entry)) (frame .base) (at .node) (at .scope) (now (rows .exit)) (now (work .exit)) (now (chains .exit)) r ⌝ }
 {
     let one = expression(
         file,
-        sections,
+        frame,
         index,
         rows,
         work,
         chains,
-        base,
-        node + 1,
-        scope,
+        At {
+            node: at.node + 1,
+            ..at
+        },
     );
     let judgement = one.judgement;
     let Judgement::Typed(t) = judgement else {
         return one;
     };
-    if type_kind(file, sections, t) != 5 {
-        return refused(10, node);
+    if type_kind(file, frame.sections, t) != 5 {
+        return refused(10, at.node, one.at);
     }
-    typed(rows, node, 0, one.next, scope)
+    typed(rows, at.node, 0, one.at)
 }
 
 // Struct literal: declared struct, names, values, subtypes.
 fn structure(
     file: &[u8],
-    sections: Sections,
+    frame: Frame,
     index: &[u16],
     rows: &mut [u16],
     work: &mut [u16],
     chains: &mut [u16],
-    base: usize,
-    node: usize,
-    scope: usize,
+    at: At,
 ) -> Judged
-    requires { ⌜ Ready (now file) sections (now index) (now rows) (now work) (now chains) base node scope ⌝ }
-    requires { ⌜ nodeAt (tablesOf (now file) sections) node .kind ≡ 21 ⌝ }
-    ensures { λ r. ⌜ Told (now (file .entry)) sections (now (index .entry)) (now (rows .entry)) (now (work .entry)) base node scope (now (rows .exit)) (now (work .exit)) (now (chains .exit)) r ⌝ }
+    requires { ⌜ Ready (now file) (frame .sections) (now index) (now rows) (now work) (now chains) (frame .base) (at .node) (at .scope) ⌝ }
+    requires { ⌜ nodeAt (tablesOf (now file) (frame .sections)) (at .node) .kind ≡ 21 ⌝ }
+    ensures { λ r. ⌜ Told (now (file .entry)) (frame .sections) (now (index .entry)) (now (rows .entry)) (now (work .entry)) (frame .base) (at .node) (at .scope) (now (rows .exit)) (now (work .exit)) (now (chains .exit)) r ⌝ }
 {
-    let t = node_t(file, sections, node);
+    let t = node_t(file, frame.sections, at.node);
     let owner = struct_record(index, t);
-    if sections.structs <= owner {
-        return refused(9, node);
+    if frame.sections.structs <= owner {
+        return refused(9, at.node, at);
     }
     if !names_fit(
         file,
-        sections,
+        frame.sections,
         work,
-        (scope - sections.built_ins) * 2,
-        node,
+        (at.scope - frame.sections.built_ins) * 2,
+        at.node,
         owner,
     ) {
-        return refused(12, node);
+        return refused(12, at.node, at);
     }
     let all = inits(
         file,
-        sections,
+        frame,
         index,
         rows,
         work,
         chains,
-        base,
-        node + 1,
-        scope,
-        node_children(file, sections, node),
+        At {
+            node: at.node + 1,
+            ..at
+        },
+        node_children(file, frame.sections, at.node),
         owner,
-        node,
+        at.node,
     );
     let judgement = all.judgement;
     let Judgement::GoesOn = judgement else {
         return all;
     };
-    typed(rows, node, t, all.next, scope)
+    typed(rows, at.node, t, all.at)
 }
 
 // Field: record, its sort, a field of that name.
 fn field(
     file: &[u8],
-    sections: Sections,
+    frame: Frame,
     index: &[u16],
     rows: &mut [u16],
     work: &mut [u16],
     chains: &mut [u16],
-    base: usize,
-    node: usize,
-    scope: usize,
+    at: At,
 ) -> Judged
-    requires { ⌜ Ready (now file) sections (now index) (now rows) (now work) (now chains) base node scope ⌝ }
-    requires { ⌜ nodeAt (tablesOf (now file) sections) node .kind ≡ 23 ⌝ }
-    ensures { λ r. ⌜ Told (now (file .entry)) sections (now (index .entry)) (now (rows .entry)) (now (work .entry)) base node scope (now (rows .exit)) (now (work .exit)) (now (chains .exit)) r ⌝ }
+    requires { ⌜ Ready (now file) (frame .sections) (now index) (now rows) (now work) (now chains) (frame .base) (at .node) (at .scope) ⌝ }
+    requires { ⌜ nodeAt (tablesOf (now file) (frame .sections)) (at .node) .kind ≡ 23 ⌝ }
+    ensures { λ r. ⌜ Told (now (file .entry)) (frame .sections) (now (index .entry)) (now (rows .entry)) (now (work .entry)) (frame .base) (at .node) (at .scope) (now (rows .exit)) (now (work .exit)) (now (chains .exit)) r ⌝ }
 {
     let one = expression(
         file,
-        sections,
+        frame,
         index,
         rows,
         work,
         chains,
-        base,
-        node + 1,
-        scope,
+        At {
+            node: at.node + 1,
+            ..at
+        },
     );
     let judgement = one.judgement;
     let Judgement::Typed(t) = judgement else {
         return one;
     };
-    if type_kind(file, sections, t) != 4 {
-        return refused(10, node);
+    if type_kind(file, frame.sections, t) != 4 {
+        return refused(10, at.node, one.at);
     }
     let found = field_of(
         file,
-        sections,
+        frame.sections,
         struct_record(index, t),
-        node_x(file, sections, node),
+        node_x(file, frame.sections, at.node),
     );
     let FieldType::Of(u) = found else {
-        return refused(8, node);
+        return refused(8, at.node, one.at);
     };
-    typed(rows, node, u, one.next, scope)
+    typed(rows, at.node, u, one.at)
 }
 
 // Call: callee, sort, void, count, arguments, subtypes.
 fn call(
     file: &[u8],
-    sections: Sections,
+    frame: Frame,
     index: &[u16],
     rows: &mut [u16],
     work: &mut [u16],
     chains: &mut [u16],
-    base: usize,
-    node: usize,
-    scope: usize,
+    at: At,
 ) -> Judged
-    requires { ⌜ Ready (now file) sections (now index) (now rows) (now work) (now chains) base node scope ⌝ }
-    requires { ⌜ nodeAt (tablesOf (now file) sections) node .kind ≡ 24 ⌝ }
-    ensures { λ r. ⌜ Told (now (file .entry)) sections (now (index .entry)) (now (rows .entry)) (now (work .entry)) base node scope (now (rows .exit)) (now (work .exit)) (now (chains .exit)) r ⌝ }
+    requires { ⌜ Ready (now file) (frame .sections) (now index) (now rows) (now work) (now chains) (frame .base) (at .node) (at .scope) ⌝ }
+    requires { ⌜ nodeAt (tablesOf (now file) (frame .sections)) (at .node) .kind ≡ 24 ⌝ }
+    ensures { λ r. ⌜ Told (now (file .entry)) (frame .sections) (now (index .entry)) (now (rows .entry)) (now (work .entry)) (frame .base) (at .node) (at .scope) (now (rows .exit)) (now (work .exit)) (now (chains .exit)) r ⌝ }
 {
     let one = expression(
         file,
-        sections,
+        frame,
         index,
         rows,
         work,
         chains,
-        base,
-        node + 1,
-        scope,
+        At {
+            node: at.node + 1,
+            ..at
+        },
     );
     let first = one.judgement;
     let Judgement::Typed(f) = first else {
         return one;
     };
-    if type_kind(file, sections, f) != 6 {
-        return refused(10, node);
+    if type_kind(file, frame.sections, f) != 6 {
+        return refused(10, at.node, one.at);
     }
-    let result = type_a(file, sections, f);
-    if type_kind(file, sections, result) == 3 {
-        return refused(13, node);
+    let result = type_a(file, frame.sections, f);
+    if type_kind(file, frame.sections, result) == 3 {
+        return refused(13, at.node, one.at);
     }
-    let count = type_c(file, sections, f);
-    if node_children(file, sections, node) != 1 + count {
-        return refused(12, node);
+    let count = type_c(file, frame.sections, f);
+    if node_children(file, frame.sections, at.node) != 1 + count {
+        return refused(12, at.node, one.at);
     }
     let all = list(
         file,
-        sections,
+        frame,
         index,
         rows,
         work,
         chains,
-        base,
-        one.next,
-        scope,
+        one.at,
         count,
-        Expected::Run(type_b(file, sections, f)),
-        node,
+        Expected::Run(type_b(file, frame.sections, f)),
+        at.node,
     );
     let second = all.judgement;
     let Judgement::GoesOn = second else {
         return all;
     };
-    typed(rows, node, result, all.next, scope)
+    typed(rows, at.node, result, all.at)
 }
 
 // Unary operator: operand, its sort.
 fn unary(
     file: &[u8],
-    sections: Sections,
+    frame: Frame,
     index: &[u16],
     rows: &mut [u16],
     work: &mut [u16],
     chains: &mut [u16],
-    base: usize,
-    node: usize,
-    scope: usize,
+    at: At,
 ) -> Judged
-    requires { ⌜ Ready (now file) sections (now index) (now rows) (now work) (now chains) base node scope ⌝ }
-    requires { ⌜ nodeAt (tablesOf (now file) sections) node .kind ≡ 25 ⌝ }
-    ensures { λ r. ⌜ Told (now (file .entry)) sections (now (index .entry)) (now (rows .entry)) (now (work .entry)) base node scope (now (rows .exit)) (now (work .exit)) (now (chains .exit)) r ⌝ }
+    requires { ⌜ Ready (now file) (frame .sections) (now index) (now rows) (now work) (now chains) (frame .base) (at .node) (at .scope) ⌝ }
+    requires { ⌜ nodeAt (tablesOf (now file) (frame .sections)) (at .node) .kind ≡ 25 ⌝ }
+    ensures { λ r. ⌜ Told (now (file .entry)) (frame .sections) (now (index .entry)) (now (rows .entry)) (now (work .entry)) (frame .base) (at .node) (at .scope) (now (rows .exit)) (now (work .exit)) (now (chains .exit)) r ⌝ }
 {
     let one = expression(
         file,
-        sections,
+        frame,
         index,
         rows,
         work,
         chains,
-        base,
-        node + 1,
-        scope,
+        At {
+            node: at.node + 1,
+            ..at
+        },
     );
     let judgement = one.judgement;
     let Judgement::Typed(t) = judgement else {
         return one;
     };
-    let taken = unary_type(node_x(file, sections, node));
-    if type_kind(file, sections, t) != taken {
-        return refused(10, node);
+    let taken = unary_type(node_x(file, frame.sections, at.node));
+    if type_kind(file, frame.sections, t) != taken {
+        return refused(10, at.node, one.at);
     }
-    typed(rows, node, taken, one.next, scope)
+    typed(rows, at.node, taken, one.at)
 }
 
 // Binary operator: ints to int, ints to bool, both subtype directions, bools to bool.
 fn binary(
     file: &[u8],
-    sections: Sections,
+    frame: Frame,
     index: &[u16],
     rows: &mut [u16],
     work: &mut [u16],
     chains: &mut [u16],
-    base: usize,
-    node: usize,
-    scope: usize,
+    at: At,
 ) -> Judged
-    requires { ⌜ Ready (now file) sections (now index) (now rows) (now work) (now chains) base node scope ⌝ }
-    requires { ⌜ nodeAt (tablesOf (now file) sections) node .kind ≡ 26 ⌝ }
-    ensures { λ r. ⌜ Told (now (file .entry)) sections (now (index .entry)) (now (rows .entry)) (now (work .entry)) base node scope (now (rows .exit)) (now (work .exit)) (now (chains .exit)) r ⌝ }
+    requires { ⌜ Ready (now file) (frame .sections) (now index) (now rows) (now work) (now chains) (frame .base) (at .node) (at .scope) ⌝ }
+    requires { ⌜ nodeAt (tablesOf (now file) (frame .sections)) (at .node) .kind ≡ 26 ⌝ }
+    ensures { λ r. ⌜ Told (now (file .entry)) (frame .sections) (now (index .entry)) (now (rows .entry)) (now (work .entry)) (frame .base) (at .node) (at .scope) (now (rows .exit)) (now (work .exit)) (now (chains .exit)) r ⌝ }
 {
-    match node_x(file, sections, node) {
-        0..=5 | 14..=15 => operator(
-            file,
-            sections,
-            index,
-            rows,
-            work,
-            chains,
-            base,
-            node,
-            scope,
-            0,
-            0,
-        ),
-        6..=9 => operator(
-            file,
-            sections,
-            index,
-            rows,
-            work,
-            chains,
-            base,
-            node,
-            scope,
-            0,
-            1,
-        ),
-        10..=11 => equality(file, sections, index, rows, work, chains, base, node, scope),
-        _ => operator(
-            file,
-            sections,
-            index,
-            rows,
-            work,
-            chains,
-            base,
-            node,
-            scope,
-            1,
-            1,
-        ),
+    match node_x(file, frame.sections, at.node) {
+        0..=5 | 14..=15 => operator(file, frame, index, rows, work, chains, at, 0, 0),
+        6..=9 => operator(file, frame, index, rows, work, chains, at, 0, 1),
+        10..=11 => equality(file, frame, index, rows, work, chains, at),
+        _ => operator(file, frame, index, rows, work, chains, at, 1, 1),
     }
 }
 
 // An operator that takes two of one type: left, its sort, right, its sort.
 fn operator(
     file: &[u8],
-    sections: Sections,
+    frame: Frame,
     index: &[u16],
     rows: &mut [u16],
     work: &mut [u16],
     chains: &mut [u16],
-    base: usize,
-    node: usize,
-    scope: usize,
+    at: At,
     taken: usize,
     given: usize,
 ) -> Judged
-    requires { ⌜ Ready (now file) sections (now index) (now rows) (now work) (now chains) base node scope ⌝ }
-    requires { ⌜ nodeAt (tablesOf (now file) sections) node .kind ≡ 26 ⌝ }
-    requires { ⌜ (isEquality (nodeAt (tablesOf (now file) sections) node .x) ≡ false) × (operandType (nodeAt (tablesOf (now file) sections) node .x) ≡ taken) × (resultType (nodeAt (tablesOf (now file) sections) node .x) ≡ given) ⌝ }
-    ensures { λ r. ⌜ Told (now (file .entry)) sections (now (index .entry)) (now (rows .entry)) (now (work .entry)) base node scope (now (rows .exit)) (now (work .exit)) (now (chains .exit)) r ⌝ }
+    requires { ⌜ Ready (now file) (frame .sections) (now index) (now rows) (now work) (now chains) (frame .base) (at .node) (at .scope) ⌝ }
+    requires { ⌜ nodeAt (tablesOf (now file) (frame .sections)) (at .node) .kind ≡ 26 ⌝ }
+    requires { ⌜ (isEquality (nodeAt (tablesOf (now file) (frame .sections)) (at .node) .x) ≡ false) × (operandType (nodeAt (tablesOf (now file) (frame .sections)) (at .node) .x) ≡ taken) × (resultType (nodeAt (tablesOf (now file) (frame .sections)) (at .node) .x) ≡ given) ⌝ }
+    ensures { λ r. ⌜ Told (now (file .entry)) (frame .sections) (now (index .entry)) (now (rows .entry)) (now (work .entry)) (frame .base) (at .node) (at .scope) (now (rows .exit)) (now (work .exit)) (now (chains .exit)) r ⌝ }
 {
     let one = expression(
         file,
-        sections,
+        frame,
         index,
         rows,
         work,
         chains,
-        base,
-        node + 1,
-        scope,
+        At {
+            node: at.node + 1,
+            ..at
+        },
     );
     let first = one.judgement;
     let Judgement::Typed(t) = first else {
         return one;
     };
-    if type_kind(file, sections, t) != taken {
-        return refused(10, node);
+    if type_kind(file, frame.sections, t) != taken {
+        return refused(10, at.node, one.at);
     }
-    let two = expression(
-        file,
-        sections,
-        index,
-        rows,
-        work,
-        chains,
-        base,
-        one.next,
-        scope,
-    );
+    let two = expression(file, frame, index, rows, work, chains, one.at);
     let second = two.judgement;
     let Judgement::Typed(u) = second else {
         return two;
     };
-    if type_kind(file, sections, u) != taken {
-        return refused(10, node);
+    if type_kind(file, frame.sections, u) != taken {
+        return refused(10, at.node, two.at);
     }
-    typed(rows, node, given, two.next, scope)
+    typed(rows, at.node, given, two.at)
 }
 
 // == and !=: both operands, then both subtype directions.
 fn equality(
     file: &[u8],
-    sections: Sections,
+    frame: Frame,
     index: &[u16],
     rows: &mut [u16],
     work: &mut [u16],
     chains: &mut [u16],
-    base: usize,
-    node: usize,
-    scope: usize,
+    at: At,
 ) -> Judged
-    requires { ⌜ Ready (now file) sections (now index) (now rows) (now work) (now chains) base node scope ⌝ }
-    requires { ⌜ nodeAt (tablesOf (now file) sections) node .kind ≡ 26 ⌝ }
-    requires { ⌜ isEquality (nodeAt (tablesOf (now file) sections) node .x) ≡ true ⌝ }
-    ensures { λ r. ⌜ Told (now (file .entry)) sections (now (index .entry)) (now (rows .entry)) (now (work .entry)) base node scope (now (rows .exit)) (now (work .exit)) (now (chains .exit)) r ⌝ }
+    requires { ⌜ Ready (now file) (frame .sections) (now index) (now rows) (now work) (now chains) (frame .base) (at .node) (at .scope) ⌝ }
+    requires { ⌜ nodeAt (tablesOf (now file) (frame .sections)) (at .node) .kind ≡ 26 ⌝ }
+    requires { ⌜ isEquality (nodeAt (tablesOf (now file) (frame .sections)) (at .node) .x) ≡ true ⌝ }
+    ensures { λ r. ⌜ Told (now (file .entry)) (frame .sections) (now (index .entry)) (now (rows .entry)) (now (work .entry)) (frame .base) (at .node) (at .scope) (now (rows .exit)) (now (work .exit)) (now (chains .exit)) r ⌝ }
 {
     let one = expression(
         file,
-        sections,
+        frame,
         index,
         rows,
         work,
         chains,
-        base,
-        node + 1,
-        scope,
+        At {
+            node: at.node + 1,
+            ..at
+        },
     );
     let first = one.judgement;
     let Judgement::Typed(t) = first else {
         return one;
     };
-    let two = expression(
-        file,
-        sections,
-        index,
-        rows,
-        work,
-        chains,
-        base,
-        one.next,
-        scope,
-    );
+    let two = expression(file, frame, index, rows, work, chains, one.at);
     let second = two.judgement;
     let Judgement::Typed(u) = second else {
         return two;
     };
-    if !below(file, sections, index, t, u) {
-        return refused(11, node);
+    if !below(file, frame.sections, index, t, u) {
+        return refused(11, at.node, two.at);
     }
-    if !below(file, sections, index, u, t) {
-        return refused(11, node);
+    if !below(file, frame.sections, index, u, t) {
+        return refused(11, at.node, two.at);
     }
-    typed(rows, node, 1, two.next, scope)
+    typed(rows, at.node, 1, two.at)
 }

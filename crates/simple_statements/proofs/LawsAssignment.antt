@@ -17,7 +17,7 @@ use Rattle.type_index.specs.Index.{declared}
 use Rattle.bindings.specs.Bindings.{scopeOf, Scoped, SomeFrom, Assignability}
 use Rattle.answers.specs.declared.answer.Judgement.the-variants.{Typed, Refused}
 use Rattle.answers.specs.declared.answer.Judged.{Judged}
-use Rattle.answers.specs.Answers.{withRow}
+use Rattle.answers.specs.Answers.{withRow, AnswerIs}
 use Rattle.expressions.specs.Contract.{contextOf, Fine, accepts, Ready, Told}
 use Rattle.expressions.proofs.LawsMeets.{Untyped, stops, passes, child-no, child-ok}
 use Rattle.expressions.proofs.LawsAfter.{ready, typing-of, retell, after-append}
@@ -85,15 +85,15 @@ module _ {F : List ℕ} {S : Sections} {X R W K : List ℕ} {base n s : ℕ} (g 
           }
 
       module _ {t : ℕ} (y₁ : r₁ .judgement ≡ Typed t) where
-        pub assignment-second : Ready F S X R₁ W₁ K₁ base (r₁ .next) s
+        pub assignment-second : Ready F S X R₁ W₁ K₁ base (r₁ .at .node) s
         assignment-second =
-            on-assign (λ z. s + sizeStmt z ≤ S .«built_ins» + S .nodes → Ready F S X R₁ W₁ K₁ base (r₁ .next) s)
+            on-assign (λ z. s + sizeStmt z ≤ S .«built_ins» + S .nodes → Ready F S X R₁ W₁ K₁ base (r₁ .at .node) s)
             (λ i a h l.
             let (L, q, p) = typing-of _ (m₁ .tells (targetExpr i) (h .1)) y₁ in
-            ready (r₁ .next) a (p .after .fine) (subst (λ j. Stands (tablesOf F S) j a) (sym (p .next)) (h .2)) (omega arith)) kind
+            ready (r₁ .at .node) a (p .after .fine) (subst (λ j. Stands (tablesOf F S) j a) (sym (p .next)) (h .2)) (omega arith)) kind
             (g .tree) (g .stands) (g .room)
 
-        module _ {R₂ W₂ K₂ : List ℕ} {r₂ : Judged} (m₂ : Told F S X R₁ W₁ base (r₁ .next) s R₂ W₂ K₂ r₂) where
+        module _ {R₂ W₂ K₂ : List ℕ} {r₂ : Judged} (m₂ : Told F S X R₁ W₁ base (r₁ .at .node) s R₂ W₂ K₂ r₂) where
           pub assignment-no-2 : Untyped r₂ → ToldAny F S X R W base n s R₂ W₂ K₂ r₂
           unfolding execute
           assignment-no-2 u =
@@ -103,7 +103,7 @@ module _ {F : List ℕ} {S : Sections} {X R W K : List ℕ} {base n s : ℕ} (g 
                       (λ i a h.
                       passes _ 15 n _ (allowed i (h .1))
                       (child-ok _ _ t y₁ (m₁ .tells (targetExpr i) (h .1)) λ L q p.
-                      child-no _ _ u (retell (p .after .same) (g .fine .above) (p .next) m₂ a (h .2)))) kind;
+                      child-no _ _ u (retell (p .after .same) (g .fine .above) (p .next) refl m₂ a (h .2)))) kind;
                 };
               }
 
@@ -117,12 +117,12 @@ module _ {F : List ℕ} {S : Sections} {X R W K : List ℕ} {base n s : ℕ} (g 
                         (λ i a h.
                         passes _ 15 n _ (allowed i (h .1))
                         (child-ok _ _ t y₁ (m₁ .tells (targetExpr i) (h .1)) λ L q p.
-                        child-ok _ _ u y₂ (retell (p .after .same) (g .fine .above) (p .next) m₂ a (h .2)) λ M q₂ p₂.
+                        child-ok _ _ u y₂ (retell (p .after .same) (g .fine .above) (p .next) refl m₂ a (h .2)) λ M q₂ p₂.
                         stops _ 11 n _ (sym ed ∙ not-true d f) e)) kind;
                   };
                 }
 
-            pub assignment-ok : {r : Judged} {R′ : List ℕ} → not d ≡ false → r ≡ record { judgement = marked 0; next = r₂ .next; scope = s } → R′ ≡ withRow R₂ n 0 65535
+            pub assignment-ok : {r : Judged} {R′ : List ℕ} → not d ≡ false → AnswerIs (marked 0) (r₂ .at .node) s r → R′ ≡ withRow R₂ n 0 65535
                 → ToldAny F S X R W base n s R′ W₂ K₂ r
             unfolding execute
             assignment-ok {r} {R′} f er eR =
@@ -132,7 +132,7 @@ module _ {F : List ℕ} {S : Sections} {X R W K : List ℕ} {base n s : ℕ} (g 
                         (λ i a h.
                         passes _ 15 n _ (allowed i (h .1))
                         (child-ok _ _ t y₁ (m₁ .tells (targetExpr i) (h .1)) λ L q p.
-                        child-ok _ _ u y₂ (retell (p .after .same) (g .fine .above) (p .next) m₂ a (h .2)) λ M q₂ p₂.
+                        child-ok _ _ u y₂ (retell (p .after .same) (g .fine .above) (p .next) refl m₂ a (h .2)) λ M q₂ p₂.
                         passes _ 11 n _ (sym ed ∙ not-false d f)
                         (accepts _ _ (rule-left (g .within)
                         (after-append (expr-long _ _ (targetExpr i) (n + 1) _ t L q) (expr-closed _ _ (targetExpr i) (n + 1) _ t L q) (p .after) (p₂ .after)) er (p₂ .next ∙ omega arith) (omega arith) eR)))) kind;

@@ -1,5 +1,5 @@
 -- Call statement: the answers of its returns, and what its calls ask. Assumes nothing.
-use mathlib.Core.Path.{_≡_, ap, sym, subst, _∙_}
+use mathlib.Core.Path.{_≡_, refl, ap, sym, subst, _∙_}
 use mathlib.Core.List.{List, _++_}
 use Prim.Native.Nat.{ℕ, _+_, _*_, _≤_, _<_}
 use native.Mathlib.Omega.{arith}
@@ -17,7 +17,7 @@ use Rattle.bindings.specs.Bindings.{scopeOf}
 use Rattle.answers.specs.declared.answer.Judgement.the-variants.{Typed, GoesOn, Refused}
 use Rattle.answers.specs.declared.answer.Judged.{Judged}
 use Rattle.answers.specs.declared.leaves.Expected.the-variants.{Run}
-use Rattle.answers.specs.Answers.{withRow}
+use Rattle.answers.specs.Answers.{withRow, AnswerIs}
 use Rattle.expressions.specs.Contract.{contextOf, Typing, Listing, Meets, accepts, Ready, Told, expectedBelow, ReadyList, ToldList}
 use Rattle.expressions.proofs.LawsMeets.{Untyped, Unlisted, stops, passes, child-no, child-ok, list-no, list-ok}
 use Rattle.expressions.proofs.LawsAfter.{ready, typing-of, after-append}
@@ -98,9 +98,9 @@ module _ {F : List ℕ} {S : Sections} {X R W K : List ℕ} {base n s : ℕ} (g 
               counts : (es : Exprs) → nodeAt (tablesOf F S) n .children ≡ 1 + count es → count es ≡ c
               counts es h = omega (arith, ed, many)
 
-              pub call-list : ReadyList F S X R₁ W₁ K₁ base (r₁ .next) s c (Run b)
+              pub call-list : ReadyList F S X R₁ W₁ K₁ base (r₁ .at .node) s c (Run b)
               call-list =
-                  on-call-stmt (λ z. s + sizeStmt z ≤ S .«built_ins» + S .nodes → ReadyList F S X R₁ W₁ K₁ base (r₁ .next) s c (Run b))
+                  on-call-stmt (λ z. s + sizeStmt z ≤ S .«built_ins» + S .nodes → ReadyList F S X R₁ W₁ K₁ base (r₁ .at .node) s c (Run b))
                   (λ a es h l.
                   let (L, q, p) = typing-of _ (m₁ .tells a (h .1)) y₁ in
                   record {
@@ -114,7 +114,7 @@ module _ {F : List ℕ} {S : Sections} {X R W K : List ℕ} {base n s : ℕ} (g 
                   }) kind
                   (g .tree) (g .stands) (g .room)
 
-              module _ {R₂ W₂ K₂ : List ℕ} {r₂ : Judged} (m₂ : ToldList F S X R₁ W₁ base (r₁ .next) s c (Run b) n R₂ W₂ K₂ r₂) where
+              module _ {R₂ W₂ K₂ : List ℕ} {r₂ : Judged} (m₂ : ToldList F S X R₁ W₁ base (r₁ .at .node) s c (Run b) n R₂ W₂ K₂ r₂) where
                 call-told : {r : Judged} {R′ W′ K′ : List ℕ}
                     → ((a : Expr) (es : Exprs) (L : List (Label ℕ)) → exprIn F S W base s a (n + 1) ≡ ok f L
                     → Typing F S X base (n + 1) (size a) s R W R₁ W₁ K₁ r₁ f L
@@ -138,8 +138,8 @@ module _ {F : List ℕ} {S : Sections} {X R W K : List ℕ} {base n s : ℕ} (g 
                             (λ ts. argumentsBelow (tablesOf F S) (contextOf (tablesOf F S) W base) ts (typeAt (tablesOf F S) f .b)) 11 n
                             (λ ts M. ends 0 (scopeOf (tablesOf F S) W base s) (scopeOf (tablesOf F S) W base s) (L ++ M))
                             (go a es L q p
-                            (retell-list (p .after .same) (g .fine .above) (p .next)
-                            (subst (λ i. ToldList F S X R₁ W₁ base (r₁ .next) s c (Run i) n R₂ W₂ K₂ r₂) eb m₂) es (h .2) (counts es (h .0 .children-is)))))))) kind;
+                            (retell-list (p .after .same) (g .fine .above) (p .next) refl
+                            (subst (λ i. ToldList F S X R₁ W₁ base (r₁ .at .node) s c (Run i) n R₂ W₂ K₂ r₂) eb m₂) es (h .2) (counts es (h .0 .children-is)))))))) kind;
                       };
                     }
 
@@ -149,7 +149,7 @@ module _ {F : List ℕ} {S : Sections} {X R W K : List ℕ} {base n s : ℕ} (g 
                 pub call-row : r₂ .judgement ≡ GoesOn → (n * 2 + 1 < length R₂) × (n < 65536) × (0 ≤ 1)
                 call-row y = mark-fits (listed-fine call-list m₂ y) (g .within) (omega arith)
 
-                pub call-ok : {r : Judged} {R′ : List ℕ} → r₂ .judgement ≡ GoesOn → r ≡ record { judgement = marked 0; next = r₂ .next; scope = s } → R′ ≡ withRow R₂ n 0 65535
+                pub call-ok : {r : Judged} {R′ : List ℕ} → r₂ .judgement ≡ GoesOn → AnswerIs (marked 0) (r₂ .at .node) s r → R′ ≡ withRow R₂ n 0 65535
                     → ToldAny F S X R W base n s R′ W₂ K₂ r
                 call-ok {r} {R′} y er eR =
                     call-told

@@ -15,13 +15,13 @@ use Rattle.file_sections.specs.Layout.{Has, tablesOf}
 use Rattle.bindings.specs.Bindings.{scopeOf}
 use Rattle.answers.specs.declared.answer.Judgement.the-variants.{Typed, GoesOn, Refused}
 use Rattle.answers.specs.declared.answer.Judged.{Judged}
-use Rattle.answers.specs.Answers.{withRow}
-use Rattle.expressions.specs.Contract.{contextOf, Fine, RowsAt, After, Meets, accepts, Ready, Told}
+use Rattle.answers.specs.Answers.{withRow, AnswerIs}
+use Rattle.expressions.specs.Contract.{contextOf, Fine, RowsAt, After, Meets, accepts, Ready, Told, Listing}
 use Rattle.expressions.proofs.LawsMeets.{Untyped, stops, passes, child-no, child-ok}
 use Rattle.expressions.proofs.LawsAfter.{same-none, row-length, row-other, row-result, row-binder, fine-rows, ready}
 use Rattle.expressions.proofs.LawsChild.{has-node, child-type}
 use Rattle.expressions.proofs.LawsShape.{expr-kind}
-use Rattle.simple_statements.specs.Contract.{marked, Testing, ReadyCondition, ToldCondition}
+use Rattle.simple_statements.specs.Contract.{marked, ReadyCondition, ToldCondition}
 use Rattle.simple_statements.proofs.LawsMarks.{mark-fits}
 
 -- the row of a 40
@@ -53,7 +53,7 @@ module _ {T : Tables} {n : ℕ} where
 -- the answer to a condition
 abbrev AnswersCondition : List ℕ → Sections → (X R W : List ℕ) → (base n s parent : ℕ) → (R′ W′ K′ : List ℕ) → Judged → Condition → Type 0
 AnswersCondition F S X R W base n s parent R′ W′ K′ r q =
-    Meets (Testing F S X base n (sizeCondition q) s R W R′ W′ K′ r) r
+    Meets (Listing F S X base n (sizeCondition q) s R W R′ W′ K′ r) r
     (judgeCondition (tablesOf F S) (contextOf (tablesOf F S) W base) q n parent (scopeOf (tablesOf F S) W base s))
 
 module _ {F : List ℕ} {S : Sections} {X R W K : List ℕ} {base n s : ℕ} (g : ReadyCondition F S X R W K base n s) where
@@ -65,15 +65,16 @@ module _ {F : List ℕ} {S : Sections} {X R W K : List ℕ} {base n s : ℕ} (g 
   condition-fits = mark-fits (g .fine) (g .within) (omega arith)
 
   module _ {k : ℕ} (ek : k ≡ nodeAt (tablesOf F S) n .kind) where
-    pub condition-none : {parent : ℕ} {R′ : List ℕ} {r : Judged} → k ≡ 40 → r ≡ record { judgement = marked 0; next = n + 1; scope = s } → R′ ≡ withRow R n 0 65535
+    pub condition-none : {parent : ℕ} {R′ : List ℕ} {r : Judged} → k ≡ 40 → AnswerIs (marked 0) (n + 1) s r → R′ ≡ withRow R n 0 65535
         → ToldCondition F S X R W base n s parent R′ W K r
     unfolding judgeCondition
     condition-none {parent} {R′} {r} z er eR =
         record {
           tells = on-none (AnswersCondition F S X R W base n s parent R′ W K r)
               (λ h. accepts _ _ (record {
-                goes-on = ap (λ x. x .judgement) er;
-                next = ap (λ x. x .next) er;
+                goes-on = er .judged;
+                next = er .next;
+                scope = er .scope;
                 after = subst (λ x. After F S X base (unlabelled ∷ []) n 1 s s R W x W K) (sym eR) (after-nothing (g .within) (g .fine));
               })) (sym ek ∙ z);
         }
@@ -105,7 +106,7 @@ module _ {F : List ℕ} {S : Sections} {X R W K : List ℕ} {base n s : ℕ} (g 
                       (λ a h. child-ok _ _ t y₁ (m₁ .tells a h) λ L q p. stops _ 10 parent _ (ne-eqb _ _ (λ i. f (e₁ ∙ i))) e) (λ e. z (ek ∙ e));
                 }
 
-            pub condition-ok : {parent : ℕ} {r : Judged} → k₁ ≡ 1 → r ≡ record { judgement = GoesOn; next = r₁ .next; scope = s } → ToldCondition F S X R W base n s parent R₁ W₁ K₁ r
+            pub condition-ok : {parent : ℕ} {r : Judged} → k₁ ≡ 1 → AnswerIs GoesOn (r₁ .at .node) (r₁ .at .scope) r → ToldCondition F S X R W base n s parent R₁ W₁ K₁ r
             unfolding judgeCondition
             condition-ok {parent} {r} f er =
                 record {
@@ -113,5 +114,5 @@ module _ {F : List ℕ} {S : Sections} {X R W K : List ℕ} {base n s : ℕ} (g 
                       (λ a h.
                       child-ok _ _ t y₁ (m₁ .tells a h) λ L q p.
                       passes _ 10 parent _ (eq-eqb _ _ (sym e₁ ∙ f))
-                      (accepts _ _ (record { goes-on = ap (λ x. x .judgement) er; next = ap (λ x. x .next) er ∙ p .next; after = p .after }))) (λ e. z (ek ∙ e));
+                      (accepts _ _ (record { goes-on = er .judged; next = er .next ∙ p .next; scope = er .scope ∙ p .scope; after = p .after }))) (λ e. z (ek ∙ e));
                 }

@@ -14,8 +14,9 @@ use Rattle.bindings.specs.Bindings.{scopeOf}
 use Rattle.bindings.proofs.LawsBindings.{scope-same}
 use Rattle.answers.specs.declared.answer.Judgement.{Judgement}
 use Rattle.answers.specs.declared.answer.Judgement.the-variants.{GoesOn, Returns}
+use Rattle.answers.specs.declared.answer.At.{At}
 use Rattle.answers.specs.declared.answer.Judged.{Judged}
-use Rattle.answers.specs.Answers.{withRow}
+use Rattle.answers.specs.Answers.{withRow, AnswerIs}
 use Rattle.expressions.specs.Contract.{Fine, RowsAt, After}
 use Rattle.expressions.proofs.LawsAfter.{rows-kept, row-length, row-other, row-result, row-binder, fine-rows}
 use Rattle.simple_statements.specs.Contract.{marked, Marking}
@@ -27,8 +28,11 @@ returns-marked p h = rw (eq-eqb p 1 h) refl
 pub goes-on-marked : (p : ℕ) → (p ≡ 1 → ⊥) → GoesOn ≡ marked p
 goes-on-marked p h = rw (ne-eqb p 1 h) refl
 
-pub answer-is : {i j : Judgement} (m h : ℕ) → i ≡ j → _≡_ {A = Judged} (record { judgement = i; next = m; scope = h }) (record { judgement = j; next = m; scope = h })
-answer-is m h e = ap (λ x. record { judgement = x; next = m; scope = h }) e
+pub answer-is : {i j : Judgement} (a : At) → i ≡ j → _≡_ {A = Judged} (record { judgement = i; at = a }) (record { judgement = j; at = a })
+answer-is a e = ap (λ x. record { judgement = x; at = a }) e
+
+pub judged-as : {i j : Judgement} {n s : ℕ} {r : Judged} → i ≡ j → AnswerIs i n s r → AnswerIs j n s r
+judged-as {n = n} {s = s} {r = r} e a = subst (λ x. AnswerIs x n s r) e a
 
 module _ {F : List ℕ} {S : Sections} {X : List ℕ} {base : ℕ} where
   -- the row of a node of the file, with a mark, can be written
@@ -59,14 +63,14 @@ module _ {F : List ℕ} {S : Sections} {X : List ℕ} {base : ℕ} where
 
   -- an accepted statement with the mark p, the scope Δ of the height h after it
   pub rule-marked : {L : List (Label ℕ)} {n k j m s h p : ℕ} {R W R₁ W₁ K₁ R′ : List ℕ} {r : Judged} {Γ Δ : Scope ℕ} → n < S .nodes
-      → After F S X base L (n + 1) k s h R W R₁ W₁ K₁ → r ≡ record { judgement = marked p; next = m; scope = h } → m ≡ n + 1 + k → j ≡ 1 + k
+      → After F S X base L (n + 1) k s h R W R₁ W₁ K₁ → AnswerIs (marked p) m h r → m ≡ n + 1 + k → j ≡ 1 + k
       → R′ ≡ withRow R₁ n p 65535 → s ≤ h → h ≤ s + j → scopeOf (tablesOf F S) W₁ base h ≡ Δ
       → Marking F S X base n j s R W R′ W₁ K₁ r (done p Δ) (markedAs p Γ Δ ∷ L)
   rule-marked {L} {n} {k} {j} {m} {s} {h} {p} {R} {W} {R₁} {W₁} {K₁} {R′} {r} {Γ} {Δ} w a er em ej eR low high scoped =
-      let eh : r .scope ≡ h = ap (λ x. x .scope) er in
+      let eh : r .at .scope ≡ h = er .scope in
       record {
-        mark = ap (λ x. x .judgement) er;
-        next = ap (λ x. x .next) er ∙ omega arith;
+        mark = er .judged;
+        next = er .next ∙ omega arith;
         scope = ap (λ i. scopeOf (tablesOf F S) W₁ base i) eh ∙ scoped;
         low = subst (λ i. s ≤ i) (sym eh) low;
         high = subst (λ i. i ≤ s + j) (sym eh) high;
@@ -77,7 +81,7 @@ module _ {F : List ℕ} {S : Sections} {X : List ℕ} {base : ℕ} where
 
   -- where it binds nothing in the scope after it
   pub rule-left : {L : List (Label ℕ)} {n k j m s p : ℕ} {R W R₁ W₁ K₁ R′ : List ℕ} {r : Judged} {Γ : Scope ℕ} → n < S .nodes
-      → After F S X base L (n + 1) k s s R W R₁ W₁ K₁ → r ≡ record { judgement = marked p; next = m; scope = s } → m ≡ n + 1 + k → j ≡ 1 + k
+      → After F S X base L (n + 1) k s s R W R₁ W₁ K₁ → AnswerIs (marked p) m s r → m ≡ n + 1 + k → j ≡ 1 + k
       → R′ ≡ withRow R₁ n p 65535
       → Marking F S X base n j s R W R′ W₁ K₁ r (done p (scopeOf (tablesOf F S) W base s)) (markedAs p Γ (scopeOf (tablesOf F S) W base s) ∷ L)
   rule-left {s = s} w a er em ej eR = rule-marked w a er em ej eR (omega arith) (omega arith) (scope-same (tablesOf F S) s (a .same) base)

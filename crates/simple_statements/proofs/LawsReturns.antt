@@ -15,7 +15,7 @@ use Rattle.file_sections.specs.Layout.{tablesOf}
 use Rattle.type_index.specs.Index.{declared}
 use Rattle.answers.specs.declared.answer.Judgement.the-variants.{Typed, Refused}
 use Rattle.answers.specs.declared.answer.Judged.{Judged}
-use Rattle.answers.specs.Answers.{withRow}
+use Rattle.answers.specs.Answers.{withRow, AnswerIs}
 use Rattle.expressions.specs.Contract.{accepts, Ready, Told}
 use Rattle.expressions.proofs.LawsMeets.{Untyped, stops, passes, child-no, child-ok}
 use Rattle.expressions.proofs.LawsAfter.{ready, after-none}
@@ -59,7 +59,7 @@ module _ {F : List ℕ} {S : Sections} {X R W K : List ℕ} {base n s : ℕ} (g 
                   stops _ 11 n _ (sym ed ∙ not-true d f) e)) kind;
             }
 
-        pub value-ok : {r : Judged} {R′ : List ℕ} → not d ≡ false → r ≡ record { judgement = marked 1; next = r₁ .next; scope = s } → R′ ≡ withRow R₁ n 1 65535
+        pub value-ok : {r : Judged} {R′ : List ℕ} → not d ≡ false → AnswerIs (marked 1) (r₁ .at .node) s r → R′ ≡ withRow R₁ n 1 65535
             → ToldStmt F S X R W base rt n s R′ W₁ K₁ r
         unfolding execute
         value-ok {r} {R′} f er eR =
@@ -80,7 +80,7 @@ module _ {F : List ℕ} {S : Sections} {X R W K : List ℕ} {base n s : ℕ} (g 
   void-no {r} f e =
       record { tells = on-return-void (AnswersStmt F S X R W base rt n s R W K r) (λ h. stops _ 13 n _ (ne-eqb _ _ (λ i. f (ek ∙ i))) e) kind }
 
-  pub void-ok : {r : Judged} {R′ : List ℕ} → k ≡ 3 → r ≡ record { judgement = marked 1; next = n + 1; scope = s } → R′ ≡ withRow R n 1 65535
+  pub void-ok : {r : Judged} {R′ : List ℕ} → k ≡ 3 → AnswerIs (marked 1) (n + 1) s r → R′ ≡ withRow R n 1 65535
       → ToldStmt F S X R W base rt n s R′ W K r
   unfolding execute
   void-ok {r} {R′} three er eR =

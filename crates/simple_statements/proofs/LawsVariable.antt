@@ -16,7 +16,7 @@ use Rattle.bindings.specs.Bindings.{entryOf, scopeOf, Some, Same, Freshness, Bi
 use Rattle.bindings.proofs.LawsBindings.{scope-bound, scope-same, same-trans}
 use Rattle.answers.specs.declared.answer.Judgement.the-variants.{Typed, Refused}
 use Rattle.answers.specs.declared.answer.Judged.{Judged}
-use Rattle.answers.specs.Answers.{withRow}
+use Rattle.answers.specs.Answers.{withRow, AnswerIs}
 use Rattle.expressions.specs.Contract.{Fine, After, accepts, Ready, Told}
 use Rattle.expressions.proofs.LawsMeets.{Untyped, stops, passes, child-no, child-ok}
 use Rattle.expressions.proofs.LawsAfter.{ready}
@@ -97,7 +97,7 @@ module _ {F : List ℕ} {S : Sections} {X R W K : List ℕ} {base n s : ℕ} (g 
             }
 
         pub variable-ok : {W₂ K₂ R′ : List ℕ} {r : Judged} → not b₁ ≡ false → Bound F S W₁ K₁ s n t W₂ K₂
-            → r ≡ record { judgement = marked 0; next = r₁ .next; scope = s + 1 } → R′ ≡ withRow R₁ n 0 65535 → ToldAny F S X R W base n s R′ W₂ K₂ r
+            → AnswerIs (marked 0) (r₁ .at .node) (s + 1) r → R′ ≡ withRow R₁ n 0 65535 → ToldAny F S X R W base n s R′ W₂ K₂ r
         unfolding execute
         variable-ok {W₂} {K₂} {R′} {r} f b er eR =
             record {

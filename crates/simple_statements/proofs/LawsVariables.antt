@@ -20,6 +20,7 @@ use Rattle.bindings.specs.Bindings.{entryOf, scopeOf, Same}
 use Rattle.bindings.proofs.LawsBindings.{names-same, same-trans}
 use Rattle.answers.specs.declared.answer.Judgement.the-variants.{GoesOn}
 use Rattle.answers.specs.declared.answer.Judged.{Judged}
+use Rattle.answers.specs.Answers.{AnswerIs}
 use Rattle.expressions.specs.Contract.{contextOf, RowsAt, After, Meets, accepts, refuses}
 use Rattle.expressions.proofs.LawsMeets.{Unlisted}
 use Rattle.expressions.proofs.LawsAfter.{rows-kept, after-none}
@@ -138,14 +139,14 @@ module _ {F : List ℕ} {S : Sections} {X R W : List ℕ} {base n s left m h i :
       → varsIn F S W W base s vs n ≡ afterThose (p .labels) (varsIn F S W W₁ base h (nextVar x a rs) m)
       → (d : Done) (M : List (Label ℕ)) → execute (tablesOf F S) (contextOf (tablesOf F S) W base) 0 (var x a) m (scopeOf (tablesOf F S) W₁ base h) ≡ ok d M
       → Marking F S X base m (sizeStmt (var x a)) h R₁ W₁ R₂ W₂ K₂ r d M
-      → PrefixVars F S X base n s R W left (r .next) (r .scope) (i + 1) R₂ W₂ K₂ vs
+      → PrefixVars F S X base n s R W left (r .at .node) (r .at .scope) (i + 1) R₂ W₂ K₂ vs
   part-more {R₂} {W₂} {K₂} {r} x a rs st c z j d M q v =
       let T : Tables = tablesOf F S in
       let C : Context ℕ = contextOf (tablesOf F S) W base in
       let Γ : Scope ℕ = scopeOf (tablesOf F S) W₁ base h in
       let long : length M ≡ sizeStmt (var x a) = stmt-long T C 0 (var x a) m Γ d M q in
       let both : length (p .labels ++ M) ≡ length (p .labels) + sizeStmt (var x a) = length-append (p .labels) M ∙ ap (λ k. length (p .labels) + k) long in
-      let there : m + 1 + size a ≡ r .next = omega (arith, v .next) in
+      let there : m + 1 + size a ≡ r .at .node = omega (arith, v .next) in
       record {
         labels = p .labels ++ M;
         rest = rs;
@@ -156,14 +157,14 @@ module _ {F : List ℕ} {S : Sections} {X R W : List ℕ} {base n s left m h i :
         sized = omega (arith, z, both);
         low = omega (arith, p .low, v .low);
         high = omega (arith, p .high, v .high, both);
-        after = subst (λ k. After F S X base (p .labels ++ M) n k s (r .scope) R W R₂ W₂ K₂) (sym both)
-            (after-both refl (p .closed) (p .low) (p .after) (subst (λ k. After F S X base M k (sizeStmt (var x a)) h (r .scope) R₁ W₁ R₂ W₂ K₂) (p .reached) (v .after)));
+        after = subst (λ k. After F S X base (p .labels ++ M) n k s (r .at .scope) R W R₂ W₂ K₂) (sym both)
+            (after-both refl (p .closed) (p .low) (p .after) (subst (λ k. After F S X base M k (sizeStmt (var x a)) h (r .at .scope) R₁ W₁ R₂ W₂ K₂) (p .reached) (v .after)));
         executed = j
             ∙ ap (afterThose (p .labels)) (vars-next T C 0 x a rs m Γ
             ∙ ap (λ o. andThen o λ e L. andThen (executeVars T C rs (m + 1 + size a) (e .scope)) λ Δ N. ok Δ (L ++ N)) q)
             ∙ those-more (p .labels) M (executeVars T C rs (m + 1 + size a) (d .scope))
             ∙ ap (λ k. afterThose (p .labels ++ M) (executeVars T C rs k (d .scope))) there
-            ∙ ap (λ E. afterThose (p .labels ++ M) (executeVars T C rs (r .next) E)) (sym (v .scope));
+            ∙ ap (λ E. afterThose (p .labels ++ M) (executeVars T C rs (r .at .node) E)) (sym (v .scope));
       }
 
   module _ (done : left ≤ i) where
@@ -177,13 +178,13 @@ module _ {F : List ℕ} {S : Sections} {X R W : List ℕ} {base n s left m h i :
     all-sized : sizeVars vs ≡ length (p .labels)
     all-sized = p .sized ∙ on-none (λ rs. length (p .labels) + sizeVars rs ≡ length (p .labels)) (omega arith) (p .rest) (omega (arith, p .counted))
 
-    part-declared : {r : Judged} → r ≡ record { judgement = GoesOn; next = m; scope = h }
+    part-declared : {r : Judged} → AnswerIs GoesOn m h r
         → Declaring F S X base n (sizeVars vs) s R W R₁ W₁ K₁ r (scopeOf (tablesOf F S) W₁ base h) (p .labels)
     part-declared {r} e =
-        let eh : r .scope ≡ h = ap (λ q. q .scope) e in
+        let eh : r .at .scope ≡ h = e .scope in
         record {
-          goes-on = ap (λ q. q .judgement) e;
-          next = ap (λ q. q .next) e ∙ omega (arith, p .reached, all-sized);
+          goes-on = e .judged;
+          next = e .next ∙ omega (arith, p .reached, all-sized);
           scope = ap (λ k. scopeOf (tablesOf F S) W₁ base k) eh;
           low = omega (arith, eh, p .low);
           high = omega (arith, eh, p .high, all-sized);
@@ -248,21 +249,21 @@ module _ {F : List ℕ} {S : Sections} {X R W K : List ℕ} {base n s left : ℕ
                 (retell-var (p .after .same) (g .fine .above) m₁ x a (st .0, st .1))))
                 (p .rest) (omega (arith, p .counted, more)) (p .stand))
 
-        pub vars-again : r₁ .judgement ≡ GoesOn → WalkedVars F S X base n s R W left (r₁ .next) (r₁ .scope) (i + 1) R₂ W₂ K₂
+        pub vars-again : r₁ .judgement ≡ GoesOn → WalkedVars F S X base n s R W left (r₁ .at .node) (r₁ .at .scope) (i + 1) R₂ W₂ K₂
         vars-again y = record { part = λ vs st c. go vs (w .part vs st c) }
           where
-            go : (vs : Vars) → PrefixVars F S X base n s R W left m h i R₁ W₁ K₁ vs → PrefixVars F S X base n s R W left (r₁ .next) (r₁ .scope) (i + 1) R₂ W₂ K₂ vs
+            go : (vs : Vars) → PrefixVars F S X base n s R W left m h i R₁ W₁ K₁ vs → PrefixVars F S X base n s R W left (r₁ .at .node) (r₁ .at .scope) (i + 1) R₂ W₂ K₂ vs
             go vs p =
                 on-some
                 (λ rs. VarsStand (tablesOf F S) m rs → countVars rs + i ≡ left → sizeVars vs ≡ length (p .labels) + sizeVars rs
                 → varsIn F S W W base s vs n ≡ afterThose (p .labels) (varsIn F S W W₁ base h rs m)
-                → PrefixVars F S X base n s R W left (r₁ .next) (r₁ .scope) (i + 1) R₂ W₂ K₂ vs)
+                → PrefixVars F S X base n s R W left (r₁ .at .node) (r₁ .at .scope) (i + 1) R₂ W₂ K₂ vs)
                 (λ x a rs st c z j.
                 let (d, M, q, v) = marking-of _ (retell-var (p .after .same) (g .fine .above) m₁ x a (st .0, st .1)) y in
                 part-more p x a rs st c z j d M q v)
                 (p .rest) (omega (arith, p .counted, more)) (p .stand) (p .counted) (p .sized) (p .executed)
 
-    pub vars-done : left ≤ i → {r : Judged} → r ≡ record { judgement = GoesOn; next = m; scope = h } → ToldVars F S X R W base n s left R₁ W₁ K₁ r
+    pub vars-done : left ≤ i → {r : Judged} → AnswerIs GoesOn m h r → ToldVars F S X R W base n s left R₁ W₁ K₁ r
     vars-done done {r} e =
         record {
           tells = λ vs st c.

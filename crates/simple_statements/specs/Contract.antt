@@ -19,7 +19,7 @@ use Rattle.bindings.specs.Bindings.{scopeOf, Scoped}
 use Rattle.answers.specs.declared.answer.Judgement.{Judgement}
 use Rattle.answers.specs.declared.answer.Judgement.the-variants.{Typed, GoesOn, Returns, Refused}
 use Rattle.answers.specs.declared.answer.Judged.{Judged}
-use Rattle.expressions.specs.Contract.{contextOf, Fine, After, Meets}
+use Rattle.expressions.specs.Contract.{contextOf, Fine, After, Listing, Meets}
 
 -- the mark of a judgement, and the judgement of a mark
 abbrev pub markOf : Judgement → ℕ
@@ -34,25 +34,20 @@ marked p = pick (eqb p 1) Returns GoesOn
 -- the answer to an accepted statement, with its mark and the scope after it
 pub record Marking (F : List ℕ) (S : Sections) (X : List ℕ) (base n k s : ℕ) (R W R′ W′ K′ : List ℕ) (r : Judged) (d : Done) (L : List (Label ℕ)) : Type 0 where
   pub mark : r .judgement ≡ marked (d .mark)
-  pub next : r .next ≡ n + k
-  pub scope : scopeOf (tablesOf F S) W′ base (r .scope) ≡ d .scope
-  pub low : s ≤ r .scope
-  pub high : r .scope ≤ s + k
-  pub after : After F S X base L n k s (r .scope) R W R′ W′ K′
+  pub next : r .at .node ≡ n + k
+  pub scope : scopeOf (tablesOf F S) W′ base (r .at .scope) ≡ d .scope
+  pub low : s ≤ r .at .scope
+  pub high : r .at .scope ≤ s + k
+  pub after : After F S X base L n k s (r .at .scope) R W R′ W′ K′
 
--- to accepted vars, with the scope after them, and to an accepted condition
+-- to accepted vars, with the scope after them
 pub record Declaring (F : List ℕ) (S : Sections) (X : List ℕ) (base n k s : ℕ) (R W R′ W′ K′ : List ℕ) (r : Judged) (Δ : Scope ℕ) (L : List (Label ℕ)) : Type 0 where
   pub goes-on : r .judgement ≡ GoesOn
-  pub next : r .next ≡ n + k
-  pub scope : scopeOf (tablesOf F S) W′ base (r .scope) ≡ Δ
-  pub low : s ≤ r .scope
-  pub high : r .scope ≤ s + k
-  pub after : After F S X base L n k s (r .scope) R W R′ W′ K′
-
-pub record Testing (F : List ℕ) (S : Sections) (X : List ℕ) (base n k s : ℕ) (R W R′ W′ K′ : List ℕ) (r : Judged) (Δ : Scope ℕ) (L : List (Label ℕ)) : Type 0 where
-  pub goes-on : r .judgement ≡ GoesOn
-  pub next : r .next ≡ n + k
-  pub after : After F S X base L n k s s R W R′ W′ K′
+  pub next : r .at .node ≡ n + k
+  pub scope : scopeOf (tablesOf F S) W′ base (r .at .scope) ≡ Δ
+  pub low : s ≤ r .at .scope
+  pub high : r .at .scope ≤ s + k
+  pub after : After F S X base L n k s (r .at .scope) R W R′ W′ K′
 
 -- a statement stands at n, and there is room for what it binds
 pub record ReadyStmt (F : List ℕ) (S : Sections) (X R W K : List ℕ) (base n s : ℕ) : Type 0 where
@@ -99,7 +94,7 @@ pub record ReadyCondition (F : List ℕ) (S : Sections) (X R W K : List ℕ) (ba
 
 pub record ToldCondition (F : List ℕ) (S : Sections) (X R W : List ℕ) (base n s parent : ℕ) (R′ W′ K′ : List ℕ) (r : Judged) : Type 0 where
   pub tells : (q : Condition) → ConditionStands (tablesOf F S) n q
-      → Meets (Testing F S X base n (sizeCondition q) s R W R′ W′ K′ r) r
+      → Meets (Listing F S X base n (sizeCondition q) s R W R′ W′ K′ r) r
       (judgeCondition (tablesOf F S) (contextOf (tablesOf F S) W base) q n parent (scopeOf (tablesOf F S) W base s))
 
 -- the left side of the assignment at n is tested as the definition has it

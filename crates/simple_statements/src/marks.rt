@@ -1,4 +1,5 @@
 // Return marks.
+use answers::answer::At;
 use answers::answer::Judged;
 use answers::answer::Judgement;
 use answers::answer::row;
@@ -21,7 +22,7 @@ pub fn mark_of(judgement: Judgement) -> usize
 }
 
 // The judgement of a mark.
-pub fn judgement_of(mark: usize) -> Judgement
+fn judgement_of(mark: usize) -> Judgement
     ensures { λ r. ⌜ r ≡ marked mark ⌝ }
 {
     if mark == 1 {
@@ -30,16 +31,22 @@ pub fn judgement_of(mark: usize) -> Judgement
     Judgement::GoesOn
 }
 
+// The answer with a mark.
+pub fn with_mark(mark: usize, at: At) -> Judged
+    ensures { λ r. ⌜ r ≡ record { judgement = marked mark; at = at } ⌝ }
+{
+    Judged {
+        judgement: judgement_of(mark),
+        at: at,
+    }
+}
+
 // A statement or block with the mark: its row and its answer.
-pub fn ends(rows: &mut [u16], node: usize, mark: usize, next: usize, scope: usize) -> Judged
+pub fn ends(rows: &mut [u16], node: usize, mark: usize, after: At) -> Judged
     requires { ⌜ (node * 2 + 1 < length (now rows)) × (node < 65536) × (mark ≤ 1) ⌝ }
-    ensures { λ r. ⌜ r ≡ record { judgement = marked mark; next = next; scope = scope } ⌝ }
+    ensures { λ r. ⌜ r ≡ record { judgement = marked mark; at = after } ⌝ }
     ensures { λ _. ⌜ now (rows .exit) ≡ withRow (now (rows .entry)) node mark 65535 ⌝ }
 {
     row(rows, node, mark, 65535);
-    Judged {
-        judgement: judgement_of(mark),
-        next: next,
-        scope: scope,
-    }
+    with_mark(mark, after)
 }

@@ -1,7 +1,10 @@
 // Statements without statements in them, and a for's vars and condition.
 use crate::marks::ends;
+use answers::answer::At;
+use answers::answer::Frame;
 use answers::answer::Judged;
 use answers::answer::Judgement;
+use answers::answer::goes_on;
 use answers::answer::refused;
 use answers::answer::row;
 use answers::leaves::Expected;
@@ -55,32 +58,38 @@ fn assigns(
 // Assignment: not to a function, left, right, subtype.
 pub fn assignment(
     file: &[u8],
-    sections: Sections,
+    frame: Frame,
     index: &[u16],
     rows: &mut [u16],
     work: &mut [u16],
     chains: &mut [u16],
-    base: usize,
-    node: usize,
-    scope: usize,
+    at: At,
 ) -> Judged
-    requires { ⌜ ReadyStmt (now file) sections (now index) (now rows) (now work) (now chains) base node scope ⌝ }
-    requires { ⌜ nodeAt (tablesOf (now file) sections) node .kind ≡ 30 ⌝ }
-    ensures { λ r. ⌜ ToldAny (now (file .entry)) sections (now (index .entry)) (now (rows .entry)) (now (work .entry)) base node scope (now (rows .exit)) (now (work .exit)) (now (chains .exit)) r ⌝ }
+    requires { ⌜ ReadyStmt (now file) (frame .sections) (now index) (now rows) (now work) (now chains) (frame .base) (at .node) (at .scope) ⌝ }
+    requires { ⌜ nodeAt (tablesOf (now file) (frame .sections)) (at .node) .kind ≡ 30 ⌝ }
+    ensures { λ r. ⌜ ToldAny (now (file .entry)) (frame .sections) (now (index .entry)) (now (rows .entry)) (now (work .entry)) (frame .base) (at .node) (at .scope) (now (rows .exit)) (now (work .exit)) (now (chains .exit)) r ⌝ }
 {
-    if !assigns(file, sections, &*work, &*chains, base, node + 1) {
-        return refused(15, node);
+    if !assigns(
+        file,
+        frame.sections,
+        &*work,
+        &*chains,
+        frame.base,
+        at.node + 1,
+    ) {
+        return refused(15, at.node, at);
     }
     let one = expression(
         file,
-        sections,
+        frame,
         index,
         rows,
         work,
         chains,
-        base,
-        node + 1,
-        scope,
+        At {
+            node: at.node + 1,
+            ..at
+        },
     );
     let first = one.judgement;
     let Judgement::Typed(t) = first else {
@@ -88,51 +97,59 @@ pub fn assignment(
     };
     let two = expression(
         file,
-        sections,
+        frame,
         index,
         rows,
         work,
         chains,
-        base,
-        one.next,
-        scope,
+        At {
+            scope: at.scope,
+            ..one.at
+        },
     );
     let second = two.judgement;
     let Judgement::Typed(u) = second else {
         return two;
     };
-    if !below(file, sections, index, u, t) {
-        return refused(11, node);
+    if !below(file, frame.sections, index, u, t) {
+        return refused(11, at.node, two.at);
     }
-    ends(rows, node, 0, two.next, scope)
+    ends(
+        rows,
+        at.node,
+        0,
+        At {
+            scope: at.scope,
+            ..two.at
+        },
+    )
 }
 
 // Var: value, fresh name.
 pub fn variable(
     file: &[u8],
-    sections: Sections,
+    frame: Frame,
     index: &[u16],
     rows: &mut [u16],
     work: &mut [u16],
     chains: &mut [u16],
-    base: usize,
-    node: usize,
-    scope: usize,
+    at: At,
 ) -> Judged
-    requires { ⌜ ReadyStmt (now file) sections (now index) (now rows) (now work) (now chains) base node scope ⌝ }
-    requires { ⌜ nodeAt (tablesOf (now file) sections) node .kind ≡ 31 ⌝ }
-    ensures { λ r. ⌜ ToldAny (now (file .entry)) sections (now (index .entry)) (now (rows .entry)) (now (work .entry)) base node scope (now (rows .exit)) (now (work .exit)) (now (chains .exit)) r ⌝ }
+    requires { ⌜ ReadyStmt (now file) (frame .sections) (now index) (now rows) (now work) (now chains) (frame .base) (at .node) (at .scope) ⌝ }
+    requires { ⌜ nodeAt (tablesOf (now file) (frame .sections)) (at .node) .kind ≡ 31 ⌝ }
+    ensures { λ r. ⌜ ToldAny (now (file .entry)) (frame .sections) (now (index .entry)) (now (rows .entry)) (now (work .entry)) (frame .base) (at .node) (at .scope) (now (rows .exit)) (now (work .exit)) (now (chains .exit)) r ⌝ }
 {
     let one = expression(
         file,
-        sections,
+        frame,
         index,
         rows,
         work,
         chains,
-        base,
-        node + 1,
-        scope,
+        At {
+            node: at.node + 1,
+            ..at
+        },
     );
     let judgement = one.judgement;
     let Judgement::Typed(t) = judgement else {
@@ -140,210 +157,231 @@ pub fn variable(
     };
     if !is_fresh(
         file,
-        sections,
+        frame.sections,
         &*work,
         &*chains,
-        base,
-        node_x(file, sections, node),
+        frame.base,
+        node_x(file, frame.sections, at.node),
     ) {
-        return refused(7, node);
+        return refused(7, at.node, one.at);
     }
-    bind(file, sections, work, chains, scope, node, t);
-    ends(rows, node, 0, one.next, scope + 1)
+    bind(file, frame.sections, work, chains, at.scope, at.node, t);
+    ends(
+        rows,
+        at.node,
+        0,
+        At {
+            scope: at.scope + 1,
+            ..one.at
+        },
+    )
 }
 
 // `count` vars of a for, from `node` on.
 pub fn variables(
     file: &[u8],
-    sections: Sections,
+    frame: Frame,
     index: &[u16],
     rows: &mut [u16],
     work: &mut [u16],
     chains: &mut [u16],
-    base: usize,
-    node: usize,
-    scope: usize,
+    at: At,
     count: usize,
 ) -> Judged
-    requires { ⌜ ReadyVars (now file) sections (now index) (now rows) (now work) (now chains) base node scope count ⌝ }
-    ensures { λ r. ⌜ ToldVars (now (file .entry)) sections (now (index .entry)) (now (rows .entry)) (now (work .entry)) base node scope count (now (rows .exit)) (now (work .exit)) (now (chains .exit)) r ⌝ }
+    requires { ⌜ ReadyVars (now file) (frame .sections) (now index) (now rows) (now work) (now chains) (frame .base) (at .node) (at .scope) count ⌝ }
+    ensures { λ r. ⌜ ToldVars (now (file .entry)) (frame .sections) (now (index .entry)) (now (rows .entry)) (now (work .entry)) (frame .base) (at .node) (at .scope) count (now (rows .exit)) (now (work .exit)) (now (chains .exit)) r ⌝ }
 {
-    let mut at = node;
-    let mut height = scope;
+    let mut here = at;
     let mut i = 0;
     while i < count {
-        let one = variable(file, sections, index, rows, work, chains, base, at, height);
+        let one = variable(file, frame, index, rows, work, chains, here);
         let judgement = one.judgement;
         let Judgement::GoesOn = judgement else {
             return one;
         };
-        at = one.next;
-        height = one.scope;
+        here = one.at;
         i += 1;
     }
-    Judged {
-        judgement: Judgement::GoesOn,
-        next: at,
-        scope: height,
-    }
+    goes_on(here)
 }
 
 // The condition at `node` of the for at `parent`, or 40.
 pub fn condition(
     file: &[u8],
-    sections: Sections,
+    frame: Frame,
     index: &[u16],
     rows: &mut [u16],
     work: &mut [u16],
     chains: &mut [u16],
-    base: usize,
-    node: usize,
-    scope: usize,
+    at: At,
     parent: usize,
 ) -> Judged
-    requires { ⌜ ReadyCondition (now file) sections (now index) (now rows) (now work) (now chains) base node scope ⌝ }
-    ensures { λ r. ⌜ ToldCondition (now (file .entry)) sections (now (index .entry)) (now (rows .entry)) (now (work .entry)) base node scope parent (now (rows .exit)) (now (work .exit)) (now (chains .exit)) r ⌝ }
+    requires { ⌜ ReadyCondition (now file) (frame .sections) (now index) (now rows) (now work) (now chains) (frame .base) (at .node) (at .scope) ⌝ }
+    ensures { λ r. ⌜ ToldCondition (now (file .entry)) (frame .sections) (now (index .entry)) (now (rows .entry)) (now (work .entry)) (frame .base) (at .node) (at .scope) parent (now (rows .exit)) (now (work .exit)) (now (chains .exit)) r ⌝ }
 {
-    if node_kind(file, sections, node) == 40 {
-        return ends(rows, node, 0, node + 1, scope);
+    if node_kind(file, frame.sections, at.node) == 40 {
+        return ends(
+            rows,
+            at.node,
+            0,
+            At {
+                node: at.node + 1,
+                ..at
+            },
+        );
     }
-    let one = expression(file, sections, index, rows, work, chains, base, node, scope);
+    let one = expression(file, frame, index, rows, work, chains, at);
     let judgement = one.judgement;
     let Judgement::Typed(t) = judgement else {
         return one;
     };
-    if type_kind(file, sections, t) != 1 {
-        return refused(10, parent);
+    if type_kind(file, frame.sections, t) != 1 {
+        return refused(10, parent, one.at);
     }
-    Judged {
-        judgement: Judgement::GoesOn,
-        next: one.next,
-        scope: scope,
-    }
+    goes_on(one.at)
 }
 
 // Return with value: not void, value, subtype.
 pub fn return_value(
     file: &[u8],
-    sections: Sections,
+    frame: Frame,
     index: &[u16],
     rows: &mut [u16],
     work: &mut [u16],
     chains: &mut [u16],
-    base: usize,
-    result: usize,
-    node: usize,
-    scope: usize,
+    at: At,
 ) -> Judged
-    requires { ⌜ ReadyStmt (now file) sections (now index) (now rows) (now work) (now chains) base node scope × (result < sections .types) ⌝ }
-    requires { ⌜ nodeAt (tablesOf (now file) sections) node .kind ≡ 32 ⌝ }
-    ensures { λ r. ⌜ ToldStmt (now (file .entry)) sections (now (index .entry)) (now (rows .entry)) (now (work .entry)) base result node scope (now (rows .exit)) (now (work .exit)) (now (chains .exit)) r ⌝ }
+    requires { ⌜ ReadyStmt (now file) (frame .sections) (now index) (now rows) (now work) (now chains) (frame .base) (at .node) (at .scope) × ((frame .result) < (frame .sections) .types) ⌝ }
+    requires { ⌜ nodeAt (tablesOf (now file) (frame .sections)) (at .node) .kind ≡ 32 ⌝ }
+    ensures { λ r. ⌜ ToldStmt (now (file .entry)) (frame .sections) (now (index .entry)) (now (rows .entry)) (now (work .entry)) (frame .base) (frame .result) (at .node) (at .scope) (now (rows .exit)) (now (work .exit)) (now (chains .exit)) r ⌝ }
 {
-    if type_kind(file, sections, result) == 3 {
-        return refused(13, node);
+    if type_kind(file, frame.sections, frame.result) == 3 {
+        return refused(13, at.node, at);
     }
     let one = expression(
         file,
-        sections,
+        frame,
         index,
         rows,
         work,
         chains,
-        base,
-        node + 1,
-        scope,
+        At {
+            node: at.node + 1,
+            ..at
+        },
     );
     let judgement = one.judgement;
     let Judgement::Typed(t) = judgement else {
         return one;
     };
-    if !below(file, sections, index, t, result) {
-        return refused(11, node);
+    if !below(file, frame.sections, index, t, frame.result) {
+        return refused(11, at.node, one.at);
     }
-    ends(rows, node, 1, one.next, scope)
+    ends(
+        rows,
+        at.node,
+        1,
+        At {
+            scope: at.scope,
+            ..one.at
+        },
+    )
 }
 
 // Return: void.
 pub fn return_void(
     file: &[u8],
-    sections: Sections,
+    frame: Frame,
     index: &[u16],
     rows: &mut [u16],
     work: &mut [u16],
     chains: &mut [u16],
-    base: usize,
-    result: usize,
-    node: usize,
-    scope: usize,
+    at: At,
 ) -> Judged
-    requires { ⌜ ReadyStmt (now file) sections (now index) (now rows) (now work) (now chains) base node scope × (result < sections .types) ⌝ }
-    requires { ⌜ nodeAt (tablesOf (now file) sections) node .kind ≡ 33 ⌝ }
-    ensures { λ r. ⌜ ToldStmt (now (file .entry)) sections (now (index .entry)) (now (rows .entry)) (now (work .entry)) base result node scope (now (rows .exit)) (now (work .exit)) (now (chains .exit)) r ⌝ }
+    requires { ⌜ ReadyStmt (now file) (frame .sections) (now index) (now rows) (now work) (now chains) (frame .base) (at .node) (at .scope) × ((frame .result) < (frame .sections) .types) ⌝ }
+    requires { ⌜ nodeAt (tablesOf (now file) (frame .sections)) (at .node) .kind ≡ 33 ⌝ }
+    ensures { λ r. ⌜ ToldStmt (now (file .entry)) (frame .sections) (now (index .entry)) (now (rows .entry)) (now (work .entry)) (frame .base) (frame .result) (at .node) (at .scope) (now (rows .exit)) (now (work .exit)) (now (chains .exit)) r ⌝ }
 {
-    if type_kind(file, sections, result) != 3 {
-        return refused(13, node);
+    if type_kind(file, frame.sections, frame.result) != 3 {
+        return refused(13, at.node, at);
     }
-    ends(rows, node, 1, node + 1, scope)
+    ends(
+        rows,
+        at.node,
+        1,
+        At {
+            node: at.node + 1,
+            ..at
+        },
+    )
 }
 
 // Call statement: callee, sort, void, count, arguments, subtypes.
 pub fn call_statement(
     file: &[u8],
-    sections: Sections,
+    frame: Frame,
     index: &[u16],
     rows: &mut [u16],
     work: &mut [u16],
     chains: &mut [u16],
-    base: usize,
-    node: usize,
-    scope: usize,
+    at: At,
 ) -> Judged
-    requires { ⌜ ReadyStmt (now file) sections (now index) (now rows) (now work) (now chains) base node scope ⌝ }
-    requires { ⌜ nodeAt (tablesOf (now file) sections) node .kind ≡ 34 ⌝ }
-    ensures { λ r. ⌜ ToldAny (now (file .entry)) sections (now (index .entry)) (now (rows .entry)) (now (work .entry)) base node scope (now (rows .exit)) (now (work .exit)) (now (chains .exit)) r ⌝ }
+    requires { ⌜ ReadyStmt (now file) (frame .sections) (now index) (now rows) (now work) (now chains) (frame .base) (at .node) (at .scope) ⌝ }
+    requires { ⌜ nodeAt (tablesOf (now file) (frame .sections)) (at .node) .kind ≡ 34 ⌝ }
+    ensures { λ r. ⌜ ToldAny (now (file .entry)) (frame .sections) (now (index .entry)) (now (rows .entry)) (now (work .entry)) (frame .base) (at .node) (at .scope) (now (rows .exit)) (now (work .exit)) (now (chains .exit)) r ⌝ }
 {
     let one = expression(
         file,
-        sections,
+        frame,
         index,
         rows,
         work,
         chains,
-        base,
-        node + 1,
-        scope,
+        At {
+            node: at.node + 1,
+            ..at
+        },
     );
     let first = one.judgement;
     let Judgement::Typed(f) = first else {
         return one;
     };
-    if type_kind(file, sections, f) != 6 {
-        return refused(10, node);
+    if type_kind(file, frame.sections, f) != 6 {
+        return refused(10, at.node, one.at);
     }
-    if type_kind(file, sections, type_a(file, sections, f)) != 3 {
-        return refused(13, node);
+    if type_kind(file, frame.sections, type_a(file, frame.sections, f)) != 3 {
+        return refused(13, at.node, one.at);
     }
-    let count = type_c(file, sections, f);
-    if node_children(file, sections, node) != 1 + count {
-        return refused(12, node);
+    let count = type_c(file, frame.sections, f);
+    if node_children(file, frame.sections, at.node) != 1 + count {
+        return refused(12, at.node, one.at);
     }
     let all = list(
         file,
-        sections,
+        frame,
         index,
         rows,
         work,
         chains,
-        base,
-        one.next,
-        scope,
+        At {
+            scope: at.scope,
+            ..one.at
+        },
         count,
-        Expected::Run(type_b(file, sections, f)),
-        node,
+        Expected::Run(type_b(file, frame.sections, f)),
+        at.node,
     );
     let second = all.judgement;
     let Judgement::GoesOn = second else {
         return all;
     };
-    ends(rows, node, 0, all.next, scope)
+    ends(
+        rows,
+        at.node,
+        0,
+        At {
+            scope: at.scope,
+            ..all.at
+        },
+    )
 }

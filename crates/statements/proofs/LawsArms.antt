@@ -20,6 +20,7 @@ use Rattle.file_sections.specs.Layout.{tablesOf}
 use Rattle.bindings.specs.Bindings.{scopeOf, Scoped}
 use Rattle.answers.specs.declared.answer.Judgement.the-variants.{GoesOn, Refused}
 use Rattle.answers.specs.declared.answer.Judged.{Judged}
+use Rattle.answers.specs.Answers.{AnswerIs}
 use Rattle.expressions.specs.Contract.{contextOf, Fine, After, accepts}
 use Rattle.expressions.proofs.LawsAfter.{after-append}
 use Rattle.simple_statements.specs.Contract.{markOf, marked}
@@ -74,7 +75,7 @@ module _ {F : List ℕ} {S : Sections} {X R W K : List ℕ} {base rt n s inner :
       pub arms-left : Scoped F S W₁ K₁ inner × (s ≤ inner)
       arms-left = (first-said .3 .after .fine .scoped, g .higher)
 
-      pub arms-next : n < r₁ .next
+      pub arms-next : n < r₁ .at .node
       arms-next = omega (arith, first-said .3 .next, size-block-one (g .first))
 
       module _ {K₂ : List ℕ} (c₁ : Scoped F S W₁ K₂ s) where
@@ -82,15 +83,15 @@ module _ {F : List ℕ} {S : Sections} {X R W K : List ℕ} {base rt n s inner :
         lowered : {L : List (Label ℕ)} {k : ℕ} → After F S X base L n k inner inner R W R₁ W₁ K₁ → After F S X base L n k s s R W R₁ W₁ K₂
         lowered a = after-left (g .lower) (after-lower (g .higher) a) c₁
 
-        pub arms-second : ReadyBlock F S X R₁ W₁ K₂ base rt (r₁ .next) s
+        pub arms-second : ReadyBlock F S X R₁ W₁ K₂ base rt (r₁ .at .node) s
         arms-second =
-            ready-block (r₁ .next) (g .second) (lowered (first-said .3 .after) .fine) (g .returned)
+            ready-block (r₁ .at .node) (g .second) (lowered (first-said .3 .after) .fine) (g .returned)
             (subst (λ i. BlockStands (tablesOf F S) i (g .second)) (sym (first-said .3 .next)) (g .stands-too)) (omega (arith, g .room, g .higher))
 
-        pub arms-asked : (n < r₁ .next) × ReadyBlock F S X R₁ W₁ K₂ base rt (r₁ .next) s
+        pub arms-asked : (n < r₁ .at .node) × ReadyBlock F S X R₁ W₁ K₂ base rt (r₁ .at .node) s
         arms-asked = (arms-next, arms-second)
 
-        module _ {R₂ W₂ K₃ : List ℕ} {r₂ : Judged} (m₂ : ToldBlock F S X R₁ W₁ base rt (r₁ .next) s R₂ W₂ K₃ r₂) where
+        module _ {R₂ W₂ K₃ : List ℕ} {r₂ : Judged} (m₂ : ToldBlock F S X R₁ W₁ base rt (r₁ .at .node) s R₂ W₂ K₃ r₂) where
           pub arms-no-2 : {p q : ℕ} → r₂ .judgement ≡ Refused p q → ToldArms F S X R W base rt n s inner R₂ W₂ K₃ r₂
           arms-no-2 e =
               record {
@@ -101,9 +102,9 @@ module _ {F : List ℕ} {S : Sections} {X R W K : List ℕ} {base rt n s inner :
 
           module _ (u₂ : Unrefused r₂) {m : ℕ} (em : m ≡ markOf (r₁ .judgement)) where
             -- any answer with the mark of both
-            answered : {r : Judged} → r .next ≡ r₂ .next → ((p q : ℕ) → m ≡ p → r₂ .judgement ≡ marked q → r .judgement ≡ marked (both p q))
+            both-said : {r : Judged} → r .at .node ≡ r₂ .at .node → r .at .scope ≡ r₂ .at .scope → ((p q : ℕ) → m ≡ p → r₂ .judgement ≡ marked q → r .judgement ≡ marked (both p q))
                 → ToldArms F S X R W base rt n s inner R₂ W₂ K₃ r
-            answered {r} en f =
+            both-said {r} en es f =
                 record {
                   tells = λ b c h h₂.
                       part-ok _ _ u (m₁ .tells b h) λ p L q v.
@@ -111,17 +112,18 @@ module _ {F : List ℕ} {S : Sections} {X R W K : List ℕ} {base rt n s inner :
                       accepts (both p i) (L ++ M) (record {
                         mark = f p i (em ∙ mark-is (r₁ .judgement) p (block-mark _ _ rt b n _ p L q) (v .mark)) (v₂ .mark);
                         next = en ∙ v₂ .next ∙ omega arith;
+                        scope = es ∙ v₂ .scope;
                         after = after-append (block-long _ _ rt b n _ p L q) (block-closed _ _ rt b n _ p L q) (lowered (v .after)) (v₂ .after);
                       });
                 }
 
-            pub arms-goes : {r : Judged} → m ≡ 0 → r ≡ record { judgement = GoesOn; next = r₂ .next; scope = s } → ToldArms F S X R W base rt n s inner R₂ W₂ K₃ r
+            pub arms-goes : {r : Judged} → m ≡ 0 → AnswerIs GoesOn (r₂ .at .node) (r₂ .at .scope) r → ToldArms F S X R W base rt n s inner R₂ W₂ K₃ r
             arms-goes z er =
-                answered (ap (λ x. x .next) er)
-                (λ p q e y. ap (λ x. x .judgement) er ∙ ap marked (sym (both-goes p q (sym e ∙ z))))
+                both-said (er .next) (er .scope)
+                (λ p q e y. er .judged ∙ ap marked (sym (both-goes p q (sym e ∙ z))))
 
             pub arms-ok : (m ≡ 0 → ⊥) → ToldArms F S X R W base rt n s inner R₂ W₂ K₃ r₂
-            arms-ok f = answered refl (λ p q e y. y ∙ ap marked (sym (both-second p q (λ z. f (e ∙ z)))))
+            arms-ok f = both-said refl refl (λ p q e y. y ∙ ap marked (sym (both-second p q (λ z. f (e ∙ z)))))
 
   -- what accepted blocks say
   module _ {R₁ W₁ K₁ : List ℕ} {r : Judged} (told : ToldArms F S X R W base rt n s inner R₁ W₁ K₁ r) (u : Unrefused r) where

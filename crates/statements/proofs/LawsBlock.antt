@@ -15,7 +15,7 @@ use Rattle.file_sections.proofs.LawsRecords.{nodes-long}
 use Rattle.bindings.specs.Bindings.{scopeOf, Scoped}
 use Rattle.answers.specs.declared.answer.Judgement.the-variants.{Refused}
 use Rattle.answers.specs.declared.answer.Judged.{Judged}
-use Rattle.answers.specs.Answers.{withRow}
+use Rattle.answers.specs.Answers.{withRow, AnswerIs}
 use Rattle.expressions.specs.Contract.{contextOf, Fine, After, Meets, accepts}
 use Rattle.expressions.proofs.LawsChild.{has-node}
 use Rattle.simple_statements.specs.Contract.{markOf, marked}
@@ -44,13 +44,14 @@ module _ {F : List ℕ} {S : Sections} {X : List ℕ} {base : ℕ} where
 
   -- an accepted block: its own row over its statements'
   block-row : {L : List (Label ℕ)} {n k m s h p q : ℕ} {R W R₁ W₁ K₁ K₂ R′ : List ℕ} {r : Judged} → n < S .nodes → base ≤ s
-      → After F S X base L (n + 1) k s h R W R₁ W₁ K₁ → Scoped F S W₁ K₂ s → q ≡ p → r ≡ record { judgement = marked q; next = m; scope = s } → m ≡ n + 1 + k
+      → After F S X base L (n + 1) k s h R W R₁ W₁ K₁ → Scoped F S W₁ K₂ s → q ≡ p → AnswerIs (marked q) m s r → m ≡ n + 1 + k
       → R′ ≡ withRow R₁ n q 65535
       → Blocking F S X base n (1 + k) s R W R′ W₁ K₂ r p (markedAs p (scopeOf (tablesOf F S) W base s) (scopeOf (tablesOf F S) W base s) ∷ L)
   block-row {L} {n} {k} {m} {s} {h} {p} {q} {R} {W} {R₁} {W₁} {K₁} {K₂} {R′} {r} w l a c e er em eR =
       record {
-        mark = ap (λ x. x .judgement) er ∙ ap marked e;
-        next = ap (λ x. x .next) er ∙ omega arith;
+        mark = er .judged ∙ ap marked e;
+        next = er .next ∙ omega arith;
+        scope = er .scope;
         after = subst (λ x. After F S X base (markedAs p (scopeOf (tablesOf F S) W base s) (scopeOf (tablesOf F S) W base s) ∷ L) n (1 + k) s s R W x W₁ K₂)
             (sym (eR ∙ ap (λ i. withRow R₁ n i 65535) e)) (after-mark w (after-left l a c));
       }
@@ -84,14 +85,14 @@ module _ {F : List ℕ} {S : Sections} {X R W K : List ℕ} {base rt n s : ℕ} 
 
     module _ (u : Unrefused r₁) where
       -- for `leave` and for `ends`
-      pub block-left : Scoped F S W₁ K₁ (r₁ .scope) × (s ≤ r₁ .scope)
+      pub block-left : Scoped F S W₁ K₁ (r₁ .at .scope) × (s ≤ r₁ .at .scope)
       block-left = (run-scoped (block-call e) m₁ u, run-higher (block-call e) m₁ u)
 
       pub block-ends : {m : ℕ} → m ≤ 1 → (n * 2 + 1 < length R₁) × (n < 65536) × (m ≤ 1)
       block-ends h = mark-fits (run-fine (block-call e) m₁ u) (g .within) h
 
       pub block-ok : {m : ℕ} {K₂ R′ : List ℕ} {r : Judged} → Scoped F S W₁ K₂ s → m ≡ markOf (r₁ .judgement)
-          → r ≡ record { judgement = marked m; next = r₁ .next; scope = s } → R′ ≡ withRow R₁ n m 65535 → ToldBlock F S X R W base rt n s R′ W₁ K₂ r
+          → AnswerIs (marked m) (r₁ .at .node) s r → R′ ≡ withRow R₁ n m 65535 → ToldBlock F S X R W base rt n s R′ W₁ K₂ r
       unfolding executeBlock
       block-ok {m} {K₂} {R′} {r} c em er eR =
           record {
@@ -109,5 +110,5 @@ module _ {F : List ℕ} {S : Sections} {X R W K : List ℕ} {base rt n s : ℕ} 
         × Blocking F S X base n (sizeBlock (g .tree)) s R W R₁ W₁ K₁ r p L
     blocked = part-of _ (told .tells (g .tree) (g .stands)) u
 
-    pub block-next : r .next ≡ n + sizeBlock (g .tree)
+    pub block-next : r .at .node ≡ n + sizeBlock (g .tree)
     block-next = blocked .3 .next

@@ -20,11 +20,11 @@ use Rattle.bindings.specs.Bindings.{entryOf, scopeOf, Scoped, Same}
 use Rattle.bindings.proofs.LawsBindings.{scope-same, names-same, same-less}
 use Rattle.answers.specs.declared.answer.Judgement.the-variants.{GoesOn, Refused}
 use Rattle.answers.specs.declared.answer.Judged.{Judged}
-use Rattle.answers.specs.Answers.{withRow}
-use Rattle.expressions.specs.Contract.{contextOf, Fine, After, Meets, accepts}
+use Rattle.answers.specs.Answers.{withRow, AnswerIs}
+use Rattle.expressions.specs.Contract.{contextOf, Fine, After, Meets, accepts, Listing}
 use Rattle.expressions.proofs.LawsMeets.{Unlisted}
 use Rattle.expressions.proofs.LawsAfter.{same-more}
-use Rattle.simple_statements.specs.Contract.{marked, Declaring, Testing, AnswersStmt, ReadyStmt, ToldStmt, ReadyVars, ToldVars, ReadyCondition, ToldCondition}
+use Rattle.simple_statements.specs.Contract.{marked, Declaring, AnswersStmt, ReadyStmt, ToldStmt, ReadyVars, ToldVars, ReadyCondition, ToldCondition}
 use Rattle.simple_statements.proofs.LawsLabels.{on-for, vars-long, vars-closed, condition-long, step-head, condition-within, step-within}
 use Rattle.simple_statements.proofs.LawsMarks.{mark-fits, rule-left}
 use Rattle.statements.specs.Contract.{Blocking, turnOf, ReadyTurn, ToldTurn}
@@ -85,7 +85,7 @@ module _ {F : List ℕ} {S : Sections} {X R W K : List ℕ} {base n s : ℕ} (g 
               (λ vs q z b h. part-never _ _ (λ Δ L e p. u .never (p .goes-on)) (m₁ .tells vs (h .1) (counts vs (h .0)))) kind;
         }
 
-    module _ (y₁ : r₁ .judgement ≡ GoesOn) {h : ℕ} (eh : h ≡ r₁ .scope) where
+    module _ (y₁ : r₁ .judgement ≡ GoesOn) {h : ℕ} (eh : h ≡ r₁ .at .scope) where
       -- the vars, at the height h
       vars-after : {m k : ℕ} {Δ : Scope ℕ} {L : List (Label ℕ)} → Declaring F S X base m k s R W R₁ W₁ K₁ r₁ Δ L → After F S X base L m k s h R W R₁ W₁ K₁
       vars-after {m} {k} {Δ} {L} p = subst (λ i. After F S X base L m k s i R W R₁ W₁ K₁) (sym eh) (p .after)
@@ -93,29 +93,29 @@ module _ {F : List ℕ} {S : Sections} {X R W K : List ℕ} {base n s : ℕ} (g 
       vars-scope : {m k : ℕ} {Δ : Scope ℕ} {L : List (Label ℕ)} → Declaring F S X base m k s R W R₁ W₁ K₁ r₁ Δ L → scopeOf (tablesOf F S) W₁ base h ≡ Δ
       vars-scope p = ap (λ i. scopeOf (tablesOf F S) W₁ base i) eh ∙ p .scope
 
-      pub for-second : ReadyCondition F S X R₁ W₁ K₁ base (r₁ .next) h
+      pub for-second : ReadyCondition F S X R₁ W₁ K₁ base (r₁ .at .node) h
       for-second =
-          on-for (λ z. s + sizeStmt z ≤ S .«built_ins» + S .nodes → ReadyCondition F S X R₁ W₁ K₁ base (r₁ .next) h)
+          on-for (λ z. s + sizeStmt z ≤ S .«built_ins» + S .nodes → ReadyCondition F S X R₁ W₁ K₁ base (r₁ .at .node) h)
           (λ vs q z b i l.
           let (Δ, L, e, p) = part-of _ (m₁ .tells vs (i .1) (counts vs (i .0))) (goes-unrefused y₁) in
-          let there : ConditionStands (tablesOf F S) (r₁ .next) q = subst (λ j. ConditionStands (tablesOf F S) j q) (sym (p .next)) (i .2) in
+          let there : ConditionStands (tablesOf F S) (r₁ .at .node) q = subst (λ j. ConditionStands (tablesOf F S) j q) (sym (p .next)) (i .2) in
           record {
             fine = vars-after p .fine;
-            within = subst (λ j. r₁ .next < j) (nodes-long F S) (condition-within (tablesOf F S) (r₁ .next) q there);
+            within = subst (λ j. r₁ .at .node < j) (nodes-long F S) (condition-within (tablesOf F S) (r₁ .at .node) q there);
             tree = q;
             stands = there;
             room = omega (arith, eh, p .high);
           }) kind (g .tree) (g .stands) (g .room)
 
-      module _ {R₂ W₂ K₂ : List ℕ} {r₂ : Judged} (m₂ : ToldCondition F S X R₁ W₁ base (r₁ .next) h n R₂ W₂ K₂ r₂) where
+      module _ {R₂ W₂ K₂ : List ℕ} {r₂ : Judged} (m₂ : ToldCondition F S X R₁ W₁ base (r₁ .at .node) h n R₂ W₂ K₂ r₂) where
         -- what the condition's answer says of the definition
         condition-met : {m k : ℕ} {Δ : Scope ℕ} {L : List (Label ℕ)} → Declaring F S X base m k s R W R₁ W₁ K₁ r₁ Δ L
             → (q : Condition) → ConditionStands (tablesOf F S) (m + k) q
-            → Meets (Testing F S X base (m + k) (sizeCondition q) h R₁ W₁ R₂ W₂ K₂ r₂) r₂
+            → Meets (Listing F S X base (m + k) (sizeCondition q) h R₁ W₁ R₂ W₂ K₂ r₂) r₂
             (judgeCondition (tablesOf F S) (contextOf (tablesOf F S) W base) q (m + k) n Δ)
         condition-met {m} {k} p q i =
             seen-on F S base s h (p .after .same) (g .fine .above) (vars-scope p)
-            (λ C Γ. Meets (Testing F S X base (m + k) (sizeCondition q) h R₁ W₁ R₂ W₂ K₂ r₂) r₂ (judgeCondition (tablesOf F S) C q (m + k) n Γ))
+            (λ C Γ. Meets (Listing F S X base (m + k) (sizeCondition q) h R₁ W₁ R₂ W₂ K₂ r₂) r₂ (judgeCondition (tablesOf F S) C q (m + k) n Γ))
             (subst (λ j. ToldCondition F S X R₁ W₁ base j h n R₂ W₂ K₂ r₂) (p .next) m₂ .tells q i)
 
         pub for-no-2 : {rt : ℕ} → Unlisted r₂ → ToldStmt F S X R W base rt n s R₂ W₂ K₂ r₂
@@ -129,17 +129,17 @@ module _ {F : List ℕ} {S : Sections} {X R W K : List ℕ} {base n s : ℕ} (g 
             }
 
         module _ (y₂ : r₂ .judgement ≡ GoesOn) where
-          pub for-third : {rt : ℕ} → rt < S .types → (n < r₂ .next) × ReadyTurn F S X R₂ W₂ K₂ base rt (r₂ .next) h
+          pub for-third : {rt : ℕ} → rt < S .types → (n < r₂ .at .node) × ReadyTurn F S X R₂ W₂ K₂ base rt (r₂ .at .node) h
           for-third {rt} w =
-              on-for (λ z. s + sizeStmt z ≤ S .«built_ins» + S .nodes → (n < r₂ .next) × ReadyTurn F S X R₂ W₂ K₂ base rt (r₂ .next) h)
+              on-for (λ z. s + sizeStmt z ≤ S .«built_ins» + S .nodes → (n < r₂ .at .node) × ReadyTurn F S X R₂ W₂ K₂ base rt (r₂ .at .node) h)
               (λ vs q z b i l.
               let (Δ, L, e, p) = part-of _ (m₁ .tells vs (i .1) (counts vs (i .0))) (goes-unrefused y₁) in
               let (Δ₁, M, e₂, p₂) = part-of _ (condition-met p q (i .2)) (goes-unrefused y₂) in
-              let there : StepStands (tablesOf F S) (r₂ .next) z = subst (λ j. StepStands (tablesOf F S) j z) (sym (p₂ .next)) (i .3) in (
+              let there : StepStands (tablesOf F S) (r₂ .at .node) z = subst (λ j. StepStands (tablesOf F S) j z) (sym (p₂ .next)) (i .3) in (
                 omega (arith, p₂ .next),
                 record {
                   fine = p₂ .after .fine;
-                  within = subst (λ j. r₂ .next < j) (nodes-long F S) (step-within (tablesOf F S) (r₂ .next) z there);
+                  within = subst (λ j. r₂ .at .node < j) (nodes-long F S) (step-within (tablesOf F S) (r₂ .at .node) z there);
                   returned = w;
                   tree = z;
                   body = b;
@@ -149,10 +149,10 @@ module _ {F : List ℕ} {S : Sections} {X R W K : List ℕ} {base n s : ℕ} (g 
                 },
               )) kind (g .tree) (g .stands) (g .room)
 
-          module _ {rt : ℕ} {R₃ W₃ K₃ : List ℕ} {r₃ : Judged} (m₃ : ToldTurn F S X R₂ W₂ base rt (r₂ .next) h R₃ W₃ K₃ r₃) where
+          module _ {rt : ℕ} {R₃ W₃ K₃ : List ℕ} {r₃ : Judged} (m₃ : ToldTurn F S X R₂ W₂ base rt (r₂ .at .node) h R₃ W₃ K₃ r₃) where
             -- what the turn's answer says of the definition
             turn-met : {m k j : ℕ} {Δ Δ₁ : Scope ℕ} {L M : List (Label ℕ)} → Declaring F S X base m k s R W R₁ W₁ K₁ r₁ Δ L
-                → Testing F S X base (m + k) j h R₁ W₁ R₂ W₂ K₂ r₂ Δ₁ M → (z : Step) (b : Block) → StepStands (tablesOf F S) (m + k + j) z
+                → Listing F S X base (m + k) j h R₁ W₁ R₂ W₂ K₂ r₂ Δ₁ M → (z : Step) (b : Block) → StepStands (tablesOf F S) (m + k + j) z
                 → BlockStands (tablesOf F S) (m + k + j + sizeStep z) b
                 → Meets (Blocking F S X base (m + k + j) (sizeStep z + sizeBlock b) h R₂ W₂ R₃ W₃ K₃ r₃) r₃
                 (turnOf (tablesOf F S) (contextOf (tablesOf F S) W base) rt z b (m + k + j) Δ)
@@ -194,7 +194,7 @@ module _ {F : List ℕ} {S : Sections} {X R W K : List ℕ} {base n s : ℕ} (g 
               for-ends = mark-fits (ended .0) (g .within) (omega arith)
 
               pub for-ok : {r : Judged} {R′ K₄ : List ℕ} → Scoped F S W₃ K₄ s
-                  → r ≡ record { judgement = marked 0; next = r₃ .next; scope = s } → R′ ≡ withRow R₃ n 0 65535
+                  → AnswerIs (marked 0) (r₃ .at .node) s r → R′ ≡ withRow R₃ n 0 65535
                   → ToldStmt F S X R W base rt n s R′ W₃ K₄ r
               unfolding execute
               for-ok {r} {R′} {K₄} left er eR =

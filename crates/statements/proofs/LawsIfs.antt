@@ -23,7 +23,7 @@ use Rattle.bindings.specs.Bindings.{entryOf, scopeOf, Same, Bindable, Bound}
 use Rattle.bindings.proofs.LawsBindings.{scope-bound, scope-same, names-same}
 use Rattle.answers.specs.declared.answer.Judgement.the-variants.{Typed, Refused}
 use Rattle.answers.specs.declared.answer.Judged.{Judged}
-use Rattle.answers.specs.Answers.{withRow}
+use Rattle.answers.specs.Answers.{withRow, AnswerIs}
 use Rattle.expressions.specs.Contract.{contextOf, Fine, After, Typing, Meets, accepts, Ready, Told}
 use Rattle.expressions.proofs.LawsMeets.{Untyped, stops, passes, child-no, child-ok}
 use Rattle.expressions.proofs.LawsAfter.{ready, typing-of, same-more, after-append}
@@ -32,7 +32,7 @@ use Rattle.expressions.proofs.LawsShape.{size-one}
 use Rattle.expressions.proofs.LawsChild.{has-node, child-within, child-type, child-fine, reference-within}
 use Rattle.simple_statements.specs.Contract.{markOf, marked, Marking, AnswersStmt, ReadyStmt, ToldStmt}
 use Rattle.simple_statements.proofs.LawsLabels.{on-if, on-if-null, block-within}
-use Rattle.simple_statements.proofs.LawsMarks.{mark-fits, rule-left}
+use Rattle.simple_statements.proofs.LawsMarks.{mark-fits, rule-left, judged-as}
 use Rattle.statements.specs.Contract.{Blocking, eitherOf, ReadyArms, ToldArms}
 use Rattle.statements.proofs.LawsBlocks.{Unrefused, mark-is, part-no, part-ok}
 use Rattle.statements.proofs.LawsThen.{after-stack}
@@ -105,10 +105,10 @@ module _ (F : List ℕ) (S : Sections) (W : List ℕ) (base rt s : ℕ) (b c : B
 -- an accepted if: its own row over those of its test and of its blocks
 if-row : {F : List ℕ} {S : Sections} {X R W R₂ W₂ K₂ R′ : List ℕ} {base n k x e s m p : ℕ} {r : Judged} {M : List (Label ℕ)} → n < S .nodes
     → After F S X base M (n + 1) k s s R W R₂ W₂ K₂ → m ≡ p → e ≡ n + 1 + k → x ≡ 1 + k
-    → r ≡ record { judgement = marked m; next = e; scope = s } → R′ ≡ withRow R₂ n m 65535
+    → AnswerIs (marked m) e s r → R′ ≡ withRow R₂ n m 65535
     → Meets (Marking F S X base n x s R W R′ W₂ K₂ r) r (ends p (scopeOf (tablesOf F S) W base s) (scopeOf (tablesOf F S) W base s) M)
 if-row {R₂ = R₂} {n = n} {e = e} {s = s} w a em en ex er eR =
-    accepts _ _ (rule-left w a (er ∙ ap (λ i. record { judgement = marked i; next = e; scope = s }) em) en ex (eR ∙ ap (λ i. withRow R₂ n i 65535) em))
+    accepts _ _ (rule-left w a (judged-as (ap marked em) er) en ex (eR ∙ ap (λ i. withRow R₂ n i 65535) em))
 
 -- if
 module _ {F : List ℕ} {S : Sections} {X R W K : List ℕ} {base rt n s : ℕ} (asked : ReadyStmt F S X R W K base n s × (rt < S .types)) (kind : nodeAt (tablesOf F S) n .kind ≡ 35) where
@@ -127,9 +127,9 @@ module _ {F : List ℕ} {S : Sections} {X R W K : List ℕ} {base rt n s : ℕ} 
       pub if-type : Has F S t (S .types)
       if-type = child-type if-first m₁ y₁
 
-      pub if-second : (n < r₁ .next) × ReadyArms F S X R₁ W₁ K₁ base rt (r₁ .next) s s
+      pub if-second : (n < r₁ .at .node) × ReadyArms F S X R₁ W₁ K₁ base rt (r₁ .at .node) s s
       if-second =
-          on-if (λ z. s + sizeStmt z ≤ S .«built_ins» + S .nodes → (n < r₁ .next) × ReadyArms F S X R₁ W₁ K₁ base rt (r₁ .next) s s)
+          on-if (λ z. s + sizeStmt z ≤ S .«built_ins» + S .nodes → (n < r₁ .at .node) × ReadyArms F S X R₁ W₁ K₁ base rt (r₁ .at .node) s s)
           (λ a b c h l.
           let (L, q, p) = typing-of _ (m₁ .tells a (h .1)) y₁ in
           (omega (arith, p .next), ready-arms b c (p .after .fine) (asked .1) (asked .0 .fine .above) (omega arith) (p .next) (h .2) (h .3) (omega arith))) kind
@@ -144,7 +144,7 @@ module _ {F : List ℕ} {S : Sections} {X R W K : List ℕ} {base rt n s : ℕ} 
                   (λ a b c h. child-ok _ _ t y₁ (m₁ .tells a (h .1)) λ L q p. stops _ 10 n _ (ne-eqb _ _ (λ i. f (e₁ ∙ i))) e) kind;
             }
 
-        module _ (z₁ : k₁ ≡ 1) {R₂ W₂ K₂ : List ℕ} {r₂ : Judged} (m₂ : ToldArms F S X R₁ W₁ base rt (r₁ .next) s s R₂ W₂ K₂ r₂) where
+        module _ (z₁ : k₁ ≡ 1) {R₂ W₂ K₂ : List ℕ} {r₂ : Judged} (m₂ : ToldArms F S X R₁ W₁ base rt (r₁ .at .node) s s R₂ W₂ K₂ r₂) where
           arms-in : {L : List (Label ℕ)} {k : ℕ} → Typing F S X base (n + 1) k s R W R₁ W₁ K₁ r₁ t L → (b c : Block)
               → BlockStands (tablesOf F S) (n + 1 + k) b → BlockStands (tablesOf F S) (n + 1 + k + sizeBlock b) c
               → Meets (Blocking F S X base (n + 1 + k) (sizeBlock b + sizeBlock c) s R₁ W₁ R₂ W₂ K₂ r₂) r₂
@@ -168,7 +168,7 @@ module _ {F : List ℕ} {S : Sections} {X R W K : List ℕ} {base rt n s : ℕ} 
             pub if-ends : {m : ℕ} → m ≤ 1 → (n * 2 + 1 < length R₂) × (n < 65536) × (m ≤ 1)
             if-ends h = mark-fits (arms-fine (if-second .1) m₂ u₂) (asked .0 .within) h
 
-            pub if-ok : {m : ℕ} {R′ : List ℕ} {r : Judged} → m ≡ markOf (r₂ .judgement) → r ≡ record { judgement = marked m; next = r₂ .next; scope = s }
+            pub if-ok : {m : ℕ} {R′ : List ℕ} {r : Judged} → m ≡ markOf (r₂ .judgement) → AnswerIs (marked m) (r₂ .at .node) s r
                 → R′ ≡ withRow R₂ n m 65535 → ToldStmt F S X R W base rt n s R′ W₂ K₂ r
             unfolding execute
             if-ok {m} {R′} {r} em er eR =
@@ -231,9 +231,9 @@ module _ {F : List ℕ} {S : Sections} {X R W K : List ℕ} {base rt n s : ℕ} 
             above = omega (arith, f .above);
           }
 
-          pub null-second : (n < r₁ .next) × ReadyArms F S X R₁ W₂ K₂ base rt (r₁ .next) s (s + 1)
+          pub null-second : (n < r₁ .at .node) × ReadyArms F S X R₁ W₂ K₂ base rt (r₁ .at .node) s (s + 1)
           null-second =
-              on-if-null (λ z. s + sizeStmt z ≤ S .«built_ins» + S .nodes → (n < r₁ .next) × ReadyArms F S X R₁ W₂ K₂ base rt (r₁ .next) s (s + 1))
+              on-if-null (λ z. s + sizeStmt z ≤ S .«built_ins» + S .nodes → (n < r₁ .at .node) × ReadyArms F S X R₁ W₂ K₂ base rt (r₁ .at .node) s (s + 1))
               (λ x t a b c h l.
               let (L, q, p) = typing-of _ (m₁ .tells a (h .2)) y₁ in
               (omega (arith, p .next), ready-arms b c (bound-fine (p .after .fine)) (asked .1) (asked .0 .fine .above) (omega arith) (p .next) (h .3) (h .4) (omega (arith, size-one a)))) kind
@@ -276,7 +276,7 @@ module _ {F : List ℕ} {S : Sections} {X R W K : List ℕ} {base rt n s : ℕ} 
                 }
 
             module _ (f₁ : not b₁ ≡ false) {W₂ K₂ : List ℕ} (bound : Bound F S W₁ K₁ s n t₁ W₂ K₂) where
-              module _ {R₂ W₃ K₃ : List ℕ} {r₂ : Judged} (m₂ : ToldArms F S X R₁ W₂ base rt (r₁ .next) s (s + 1) R₂ W₃ K₃ r₂) where
+              module _ {R₂ W₃ K₃ : List ℕ} {r₂ : Judged} (m₂ : ToldArms F S X R₁ W₂ base rt (r₁ .at .node) s (s + 1) R₂ W₃ K₃ r₂) where
                 -- the scope with the name
                 named-is : (x t : ℕ) → nodeAt (tablesOf F S) n .x ≡ x → nodeAt (tablesOf F S) n .t ≡ t → Same (entryOf (tablesOf F S) s) W W₁
                     → scopeOf (tablesOf F S) W₂ base (s + 1) ≡ binds (scopeOf (tablesOf F S) W base s) x t n
@@ -312,7 +312,7 @@ module _ {F : List ℕ} {S : Sections} {X R W K : List ℕ} {base rt n s : ℕ} 
                   pub null-ends : {m : ℕ} → m ≤ 1 → (n * 2 + 1 < length R₂) × (n < 65536) × (m ≤ 1)
                   null-ends h = mark-fits (arms-fine (null-second et bound .1) m₂ u₂) (asked .0 .within) h
 
-                  pub null-ok : {m : ℕ} {R′ : List ℕ} {r : Judged} → m ≡ markOf (r₂ .judgement) → r ≡ record { judgement = marked m; next = r₂ .next; scope = s }
+                  pub null-ok : {m : ℕ} {R′ : List ℕ} {r : Judged} → m ≡ markOf (r₂ .judgement) → AnswerIs (marked m) (r₂ .at .node) s r
                       → R′ ≡ withRow R₂ n m 65535 → ToldStmt F S X R W base rt n s R′ W₃ K₃ r
                   unfolding execute
                   null-ok {m} {R′} {r} em er eR =

@@ -18,6 +18,7 @@ use Rattle.bindings.specs.Bindings.{scopeOf, Scoped}
 use Rattle.answers.specs.declared.answer.Judgement.{Judgement}
 use Rattle.answers.specs.declared.answer.Judgement.the-variants.{Refused}
 use Rattle.answers.specs.declared.answer.Judged.{Judged}
+use Rattle.answers.specs.Answers.{AnswerIs}
 use Rattle.expressions.specs.Contract.{contextOf, Fine, After, Meets, accepts, refuses}
 use Rattle.expressions.proofs.LawsAfter.{after-none}
 use Rattle.expressions.proofs.LawsLabels.{Closed, closed-none, closed-append}
@@ -103,7 +104,7 @@ module _ {F : List ℕ} {S : Sections} {X R W : List ℕ} {base rt n s left pare
       → allIn F S W W base rt s ss n parent 0 ≡ afterRun (p .labels) (allIn F S W W₁ base rt height (then z zs) at last mark)
       → (d : Done) (M : List (Label ℕ)) → stmtIn F S W W₁ base rt height z at ≡ ok d M
       → Marking F S X base at (sizeStmt z) height R₁ W₁ R₂ W₂ K₂ r d M → m ≡ markOf (r .judgement)
-      → RunPart F S X base rt n s R W left parent (r .next) (r .scope) at m (i + 1) R₂ W₂ K₂ ss
+      → RunPart F S X base rt n s R W left parent (r .at .node) (r .at .scope) at m (i + 1) R₂ W₂ K₂ ss
   part-more {R₂} {W₂} {K₂} {r} {m} e0 z zs h c sz j d M q v em =
       let T : Tables = tablesOf F S in
       let C : Context ℕ = contextOf (tablesOf F S) W base in
@@ -123,14 +124,14 @@ module _ {F : List ℕ} {S : Sections} {X R W : List ℕ} {base rt n s left pare
         low = omega (arith, p .low, v .low);
         high = omega (arith, p .high, v .high, both);
         small = omega (arith, is, most);
-        after = subst (λ k. After F S X base (p .labels ++ M) n k s (r .scope) R W R₂ W₂ K₂) (sym both)
+        after = subst (λ k. After F S X base (p .labels ++ M) n k s (r .at .scope) R W R₂ W₂ K₂) (sym both)
             (after-then refl (p .closed) (p .low) (p .after)
-            (subst (λ k. After F S X base M k (sizeStmt z) height (r .scope) R₁ W₁ R₂ W₂ K₂) (p .reached) (v .after)));
+            (subst (λ k. After F S X base M k (sizeStmt z) height (r .at .scope) R₁ W₁ R₂ W₂ K₂) (p .reached) (v .after)));
         ran = j ∙ ap (afterRun (p .labels)) (all-ok T C rt z zs at last mark Γ d M e0 q)
             ∙ run-more (p .labels) M (executeAll T C rt zs (at + sizeStmt z) at (d .mark) (d .scope))
             ∙ ap (λ k. afterRun (p .labels ++ M) (executeAll T C rt zs k at (d .mark) (d .scope))) (sym (v .next))
-            ∙ ap (λ k. afterRun (p .labels ++ M) (executeAll T C rt zs (r .next) at k (d .scope))) (sym is)
-            ∙ ap (λ Δ. afterRun (p .labels ++ M) (executeAll T C rt zs (r .next) at m Δ)) (sym (v .scope));
+            ∙ ap (λ k. afterRun (p .labels ++ M) (executeAll T C rt zs (r .at .node) at k (d .scope))) (sym is)
+            ∙ ap (λ Δ. afterRun (p .labels ++ M) (executeAll T C rt zs (r .at .node) at m Δ)) (sym (v .scope));
       }
 
   module _ (finished : left ≤ i) where
@@ -144,13 +145,13 @@ module _ {F : List ℕ} {S : Sections} {X R W : List ℕ} {base rt n s left pare
     all-sized : sizeStmts ss ≡ length (p .labels)
     all-sized = p .sized ∙ on-none (λ zs. length (p .labels) + sizeStmts zs ≡ length (p .labels)) (omega arith) (p .rest) (omega (arith, p .counted))
 
-    part-running : {r : Judged} → r ≡ record { judgement = marked mark; next = at; scope = height }
+    part-running : {r : Judged} → AnswerIs (marked mark) at height r
         → Running F S X base n (sizeStmts ss) s R W R₁ W₁ K₁ r mark (p .labels)
     part-running {r} e =
-        let eh : r .scope ≡ height = ap (λ q. q .scope) e in
+        let eh : r .at .scope ≡ height = e .scope in
         record {
-          mark = ap (λ q. q .judgement) e;
-          next = ap (λ q. q .next) e ∙ omega (arith, p .reached, all-sized);
+          mark = e .judged;
+          next = e .next ∙ omega (arith, p .reached, all-sized);
           low = subst (λ k. s ≤ k) (sym eh) (p .low);
           after = subst (λ k. After F S X base (p .labels) n (sizeStmts ss) s k R W R₁ W₁ K₁) (sym eh)
               (subst (λ k. After F S X base (p .labels) n k s height R W R₁ W₁ K₁) (sym all-sized) (p .after));
@@ -239,23 +240,23 @@ module _ {F : List ℕ} {S : Sections} {X R W K : List ℕ} {base rt n s left pa
                 (p .rest) (omega (arith, p .counted, more)) (p .stand))
 
         pub run-again : {m : ℕ} → Unrefused r₁ → m ≡ markOf (r₁ .judgement)
-            → WalkedStmts F S X base rt n s R W left parent (r₁ .next) (r₁ .scope) at m (i + 1) R₂ W₂ K₂
+            → WalkedStmts F S X base rt n s R W left parent (r₁ .at .node) (r₁ .at .scope) at m (i + 1) R₂ W₂ K₂
         run-again {m} u em = record { part = λ ss h c. go ss (w .part ss h c) }
           where
             go : (ss : Stmts) → RunPart F S X base rt n s R W left parent at height last mark i R₁ W₁ K₁ ss
-                → RunPart F S X base rt n s R W left parent (r₁ .next) (r₁ .scope) at m (i + 1) R₂ W₂ K₂ ss
+                → RunPart F S X base rt n s R W left parent (r₁ .at .node) (r₁ .at .scope) at m (i + 1) R₂ W₂ K₂ ss
             go ss p =
                 on-some
                 (λ zs. StmtsStand (tablesOf F S) at zs → countStmts zs + i ≡ left → sizeStmts ss ≡ length (p .labels) + sizeStmts zs
                 → allIn F S W W base rt s ss n parent 0 ≡ afterRun (p .labels) (allIn F S W W₁ base rt height zs at last mark)
-                → RunPart F S X base rt n s R W left parent (r₁ .next) (r₁ .scope) at m (i + 1) R₂ W₂ K₂ ss)
+                → RunPart F S X base rt n s R W left parent (r₁ .at .node) (r₁ .at .scope) at m (i + 1) R₂ W₂ K₂ ss)
                 (λ z zs h c sz j.
                 let (d, M, q, v) = part-of _ (retell-stmt (p .after .same) (g .fine .above) m₁ z (h .0)) u in
                 part-more p goes z zs h c sz j d M q v em)
                 (p .rest) (omega (arith, p .counted, more)) (p .stand) (p .counted) (p .sized) (p .ran)
 
     module _ (finished : left ≤ i) {r : Judged} where
-      pub run-done : r ≡ record { judgement = marked mark; next = at; scope = height } → ToldStmts F S X R W base rt n s left parent R₁ W₁ K₁ r
+      pub run-done : AnswerIs (marked mark) at height r → ToldStmts F S X R W base rt n s left parent R₁ W₁ K₁ r
       run-done e =
           record {
             tells = λ ss h c.
@@ -263,21 +264,17 @@ module _ {F : List ℕ} {S : Sections} {X R W K : List ℕ} {base rt n s left pa
                 subst (Meets (Running F S X base n (sizeStmts ss) s R W R₁ W₁ K₁ r) r) (sym (all-ran p finished)) (accepts mark (p .labels) (part-running p finished e));
           }
 
-      pub run-told : {j : Judgement} → j ≡ marked mark → r ≡ record { judgement = j; next = at; scope = height }
-          → ToldStmts F S X R W base rt n s left parent R₁ W₁ K₁ r
-      run-told e er = run-done (er ∙ ap (λ j. record { judgement = j; next = at; scope = height }) e)
-
   -- what accepted statements say
   module _ {R₁ W₁ K₁ : List ℕ} {r : Judged} (told : ToldStmts F S X R W base rt n s left parent R₁ W₁ K₁ r) (u : Unrefused r) where
     all-run : (p : ℕ) × (L : List (Label ℕ)) × (allIn F S W W base rt s (g .trees) n parent 0 ≡ ok p L)
         × Running F S X base n (sizeStmts (g .trees)) s R W R₁ W₁ K₁ r p L
     all-run = part-of _ (told .tells (g .trees) (g .stand) (g .counted)) u
 
-    pub run-fine : Fine F S X R₁ W₁ K₁ base (r .scope)
+    pub run-fine : Fine F S X R₁ W₁ K₁ base (r .at .scope)
     run-fine = all-run .3 .after .fine
 
-    pub run-higher : s ≤ r .scope
+    pub run-higher : s ≤ r .at .scope
     run-higher = all-run .3 .low
 
-    pub run-scoped : Scoped F S W₁ K₁ (r .scope)
+    pub run-scoped : Scoped F S W₁ K₁ (r .at .scope)
     run-scoped = run-fine .scoped

@@ -15,7 +15,7 @@ use Rattle.file_sections.specs.Layout.{Has, tablesOf}
 use Rattle.bindings.specs.Bindings.{scopeOf, Scoped}
 use Rattle.answers.specs.declared.answer.Judgement.the-variants.{GoesOn, Refused}
 use Rattle.answers.specs.declared.answer.Judged.{Judged}
-use Rattle.answers.specs.Answers.{withRow}
+use Rattle.answers.specs.Answers.{withRow, AnswerIs}
 use Rattle.expressions.specs.Contract.{contextOf, Fine, RowsAt, After, Meets, accepts}
 use Rattle.expressions.proofs.LawsMeets.{stops, passes}
 use Rattle.expressions.proofs.LawsAfter.{same-none, row-length, row-other, row-result, row-binder, fine-rows}
@@ -67,7 +67,7 @@ module _ {F : List ℕ} {S : Sections} {X R W K : List ℕ} {base rt n s : ℕ} 
 
   module _ {k : ℕ} (ek : k ≡ nodeAt (tablesOf F S) n .kind) where
     -- 40
-    pub step-absent : {r : Judged} {R′ : List ℕ} → k ≡ 40 → r ≡ record { judgement = marked 0; next = n + 1; scope = s } → R′ ≡ withRow R n 0 65535
+    pub step-absent : {r : Judged} {R′ : List ℕ} → k ≡ 40 → AnswerIs (marked 0) (n + 1) s r → R′ ≡ withRow R n 0 65535
         → ToldStep F S X R W base rt n s R′ W K r
     unfolding executeStep
     step-absent {r} {R′} e er eR =
@@ -75,8 +75,9 @@ module _ {F : List ℕ} {S : Sections} {X R W K : List ℕ} {base rt n s : ℕ} 
           tells = on-no-step (AnswersStep F S X R W base rt n s R′ W K r)
               (λ h. accepts _ _
               (record {
-                mark = ap (λ x. x .judgement) er;
-                next = ap (λ x. x .next) er;
+                mark = er .judged;
+                next = er .next;
+                scope = er .scope;
                 after = subst (λ x. After F S X base (unlabelled ∷ []) n 1 s s R W x W K) (sym eR) (after-plain (g .within) (g .fine));
               })) (sym ek ∙ e);
         }
@@ -114,13 +115,13 @@ module _ {F : List ℕ} {S : Sections} {X R W K : List ℕ} {base rt n s : ℕ} 
                     stops _ 14 n _ (ne-eqb _ _ (λ i. z (em ∙ mark-is _ _ (stmt-mark _ _ rt y n _ d L q) (p .mark) ∙ i))) e) not-absent;
               }
 
-          pub step-leaves : Scoped F S W₁ K₁ (r₁ .scope) × (s ≤ r₁ .scope)
+          pub step-leaves : Scoped F S W₁ K₁ (r₁ .at .scope) × (s ≤ r₁ .at .scope)
           step-leaves =
-              on-step (λ z. Scoped F S W₁ K₁ (r₁ .scope) × (s ≤ r₁ .scope))
+              on-step (λ z. Scoped F S W₁ K₁ (r₁ .at .scope) × (s ≤ r₁ .at .scope))
               (λ y h. let (d, L, q, p) = part-of _ (m₁ .tells y h) u in (p .after .fine .scoped, p .low)) not-absent (g .tree) (g .stands)
 
           pub step-ok : {r : Judged} {K₂ : List ℕ} {m : ℕ} → m ≡ markOf (r₁ .judgement) → m ≡ 0 → Scoped F S W₁ K₂ s
-              → r ≡ record { judgement = GoesOn; next = r₁ .next; scope = s } → ToldStep F S X R W base rt n s R₁ W₁ K₂ r
+              → AnswerIs GoesOn (r₁ .at .node) s r → ToldStep F S X R W base rt n s R₁ W₁ K₂ r
           unfolding executeStep
           step-ok {r} {K₂} em z c er =
               record {
@@ -130,8 +131,9 @@ module _ {F : List ℕ} {S : Sections} {X R W K : List ℕ} {base rt n s : ℕ} 
                     passes _ 14 n _ (eq-eqb _ _ (sym (mark-is _ _ (stmt-mark _ _ rt y n _ d L q) (p .mark)) ∙ sym em ∙ z))
                     (accepts _ _
                     (record {
-                      mark = ap (λ x. x .judgement) er;
-                      next = ap (λ x. x .next) er ∙ p .next;
+                      mark = er .judged;
+                      next = er .next ∙ p .next;
+                      scope = er .scope;
                       after = after-left (g .fine .above) (p .after) c;
                     }))) not-absent;
               }

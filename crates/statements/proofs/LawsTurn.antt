@@ -48,15 +48,15 @@ module _ {F : List ℕ} {S : Sections} {X R W K : List ℕ} {base rt n s : ℕ} 
         }
 
     module _ (y₁ : r₁ .judgement ≡ GoesOn) where
-      pub turn-second : (n < r₁ .next) × ReadyBlock F S X R₁ W₁ K₁ base rt (r₁ .next) s
+      pub turn-second : (n < r₁ .at .node) × ReadyBlock F S X R₁ W₁ K₁ base rt (r₁ .at .node) s
       turn-second =
           let (p, L, q, d) = part-of _ (m₁ .tells (g .tree) (g .stands)) (goes-unrefused y₁) in (
             omega (arith, d .next, size-step-one (g .tree)),
-            ready-block (r₁ .next) (g .body) (d .after .fine) (g .returned) (subst (λ i. BlockStands (tablesOf F S) i (g .body)) (sym (d .next)) (g .stands-too))
+            ready-block (r₁ .at .node) (g .body) (d .after .fine) (g .returned) (subst (λ i. BlockStands (tablesOf F S) i (g .body)) (sym (d .next)) (g .stands-too))
                 (omega (arith, g .room)),
           )
 
-      pub turn-told : {R₂ W₂ K₂ : List ℕ} {r₂ : Judged} → ToldBlock F S X R₁ W₁ base rt (r₁ .next) s R₂ W₂ K₂ r₂
+      pub turn-told : {R₂ W₂ K₂ : List ℕ} {r₂ : Judged} → ToldBlock F S X R₁ W₁ base rt (r₁ .at .node) s R₂ W₂ K₂ r₂
           → ToldTurn F S X R W base rt n s R₂ W₂ K₂ r₂
       turn-told m₂ =
           record {
@@ -67,6 +67,7 @@ module _ {F : List ℕ} {S : Sections} {X R W K : List ℕ} {base rt n s : ℕ} 
                 (record {
                   mark = d₂ .mark;
                   next = d₂ .next ∙ omega arith;
+                  scope = d₂ .scope;
                   after = after-plain-then (step-long _ _ rt z n _ p L q) (head-plain M (block-head _ _ rt b _ _ p₂ M q₂ []))
                       (omega arith) (d .after) (d₂ .after);
                 });

@@ -13,7 +13,7 @@ use Rattle.file_sections.specs.declared.Sections.{Sections}
 use Rattle.file_sections.specs.Layout.{tablesOf}
 use Rattle.answers.specs.declared.answer.Judgement.the-variants.{Typed, Refused}
 use Rattle.answers.specs.declared.answer.Judged.{Judged}
-use Rattle.answers.specs.Answers.{withRow}
+use Rattle.answers.specs.Answers.{withRow, AnswerIs}
 use Rattle.expressions.specs.Contract.{accepts, Ready, Told}
 use Rattle.expressions.proofs.LawsMeets.{Untyped, stops, passes, child-no, child-ok}
 use Rattle.expressions.proofs.LawsAfter.{ready, typing-of, after-append}
@@ -45,15 +45,15 @@ module _ {F : List ℕ} {S : Sections} {X R W K : List ℕ} {base n s : ℕ} (g 
                 (λ a b h. child-ok _ _ t y₁ (m₁ .tells a (h .1)) λ L q p. stops _ 10 n _ (ne-eqb _ _ (λ i. f (e₁ ∙ i))) e) kind;
           }
 
-      pub while-second : {rt : ℕ} → rt < S .types → (n < r₁ .next) × ReadyBlock F S X R₁ W₁ K₁ base rt (r₁ .next) s
+      pub while-second : {rt : ℕ} → rt < S .types → (n < r₁ .at .node) × ReadyBlock F S X R₁ W₁ K₁ base rt (r₁ .at .node) s
       while-second {rt} w =
-          on-while (λ z. s + sizeStmt z ≤ S .«built_ins» + S .nodes → (n < r₁ .next) × ReadyBlock F S X R₁ W₁ K₁ base rt (r₁ .next) s)
+          on-while (λ z. s + sizeStmt z ≤ S .«built_ins» + S .nodes → (n < r₁ .at .node) × ReadyBlock F S X R₁ W₁ K₁ base rt (r₁ .at .node) s)
           (λ a b h l.
           let (L, q, p) = typing-of _ (m₁ .tells a (h .1)) y₁ in
-          (omega (arith, p .next), ready-block (r₁ .next) b (p .after .fine) w (subst (λ i. BlockStands (tablesOf F S) i b) (sym (p .next)) (h .2)) (omega arith))) kind
+          (omega (arith, p .next), ready-block (r₁ .at .node) b (p .after .fine) w (subst (λ i. BlockStands (tablesOf F S) i b) (sym (p .next)) (h .2)) (omega arith))) kind
           (g .tree) (g .stands) (g .room)
 
-      module _ (z₁ : k₁ ≡ 1) {rt : ℕ} {R₂ W₂ K₂ : List ℕ} {r₂ : Judged} (m₂ : ToldBlock F S X R₁ W₁ base rt (r₁ .next) s R₂ W₂ K₂ r₂) where
+      module _ (z₁ : k₁ ≡ 1) {rt : ℕ} {R₂ W₂ K₂ : List ℕ} {r₂ : Judged} (m₂ : ToldBlock F S X R₁ W₁ base rt (r₁ .at .node) s R₂ W₂ K₂ r₂) where
         pub while-no-2 : {p q : ℕ} → r₂ .judgement ≡ Refused p q → ToldStmt F S X R W base rt n s R₂ W₂ K₂ r₂
         unfolding execute
         while-no-2 e =
@@ -74,7 +74,7 @@ module _ {F : List ℕ} {S : Sections} {X R W K : List ℕ} {base n s : ℕ} (g 
               let (i, M, q₂, d) = part-of _ (retell-block (p .after .same) (g .fine .above) (p .next) m₂ b (h .2)) u in
               mark-fits (d .after .fine) (g .within) (omega arith)) kind (g .tree) (g .stands)
 
-          pub while-ok : {r : Judged} {R′ : List ℕ} → r ≡ record { judgement = marked 0; next = r₂ .next; scope = s } → R′ ≡ withRow R₂ n 0 65535
+          pub while-ok : {r : Judged} {R′ : List ℕ} → AnswerIs (marked 0) (r₂ .at .node) s r → R′ ≡ withRow R₂ n 0 65535
               → ToldStmt F S X R W base rt n s R′ W₂ K₂ r
           unfolding execute
           while-ok {r} {R′} er eR =

@@ -20,15 +20,16 @@ use Rattle.simple_statements.specs.Contract.{marked}
 -- the answer to an accepted part with the mark p, whose bindings are gone after it
 pub record Blocking (F : List ℕ) (S : Sections) (X : List ℕ) (base n k s : ℕ) (R W R′ W′ K′ : List ℕ) (r : Judged) (p : ℕ) (L : List (Label ℕ)) : Type 0 where
   pub mark : r .judgement ≡ marked p
-  pub next : r .next ≡ n + k
+  pub next : r .at .node ≡ n + k
+  pub scope : r .at .scope ≡ s
   pub after : After F S X base L n k s s R W R′ W′ K′
 
 -- to accepted statements, whose bindings are still there
 pub record Running (F : List ℕ) (S : Sections) (X : List ℕ) (base n k s : ℕ) (R W R′ W′ K′ : List ℕ) (r : Judged) (p : ℕ) (L : List (Label ℕ)) : Type 0 where
   pub mark : r .judgement ≡ marked p
-  pub next : r .next ≡ n + k
-  pub low : s ≤ r .scope
-  pub after : After F S X base L n k s (r .scope) R W R′ W′ K′
+  pub next : r .at .node ≡ n + k
+  pub low : s ≤ r .at .scope
+  pub after : After F S X base L n k s (r .at .scope) R W R′ W′ K′
 
 -- a block stands at n, and there is room for what it binds
 pub record ReadyBlock (F : List ℕ) (S : Sections) (X R W K : List ℕ) (base rt n s : ℕ) : Type 0 where

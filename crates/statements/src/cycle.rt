@@ -1,20 +1,22 @@
 // The cycle of statements: a dispatcher by node kind, a function for each rule with blocks in it, and those for blocks. The
 // remaining nodes fall. `result` is the return type.
+use answers::answer::At;
+use answers::answer::Frame;
 use answers::answer::Judged;
 use answers::answer::Judgement;
+use answers::answer::goes_on;
 use answers::answer::refused;
 use bindings::bind;
 use bindings::leave;
 use expressions::cycle::expression;
-use file_sections::Sections;
 use file_sections::records::node_children;
 use file_sections::records::node_kind;
 use file_sections::records::node_t;
 use file_sections::records::type_a;
 use file_sections::records::type_kind;
 use simple_statements::marks::ends;
-use simple_statements::marks::judgement_of;
 use simple_statements::marks::mark_of;
+use simple_statements::marks::with_mark;
 use simple_statements::simple::assignment;
 use simple_statements::simple::call_statement;
 use simple_statements::simple::condition;
@@ -33,248 +35,154 @@ ghost use Rattle.statements.specs.Contract.{ReadyBlock, ToldBlock, Ready
 // The statement at `node`.
 fn statement(
     file: &[u8],
-    sections: Sections,
+    frame: Frame,
     index: &[u16],
     rows: &mut [u16],
     work: &mut [u16],
     chains: &mut [u16],
-    base: usize,
-    result: usize,
-    node: usize,
-    scope: usize,
+    at: At,
 ) -> Judged
-    requires { ⌜ ReadyStmt (now file) sections (now index) (now rows) (now work) (now chains) base node scope × (result < sections .types) ⌝ }
-    ensures { λ r. ⌜ ToldStmt (now (file .entry)) sections (now (index .entry)) (now (rows .entry)) (now (work .entry)) base result node scope (now (rows .exit)) (now (work .exit)) (now (chains .exit)) r ⌝ }
+    requires { ⌜ ReadyStmt (now file) (frame .sections) (now index) (now rows) (now work) (now chains) (frame .base) (at .node) (at .scope) × ((frame .result) < (frame .sections) .types) ⌝ }
+    ensures { λ r. ⌜ ToldStmt (now (file .entry)) (frame .sections) (now (index .entry)) (now (rows .entry)) (now (work .entry)) (frame .base) (frame .result) (at .node) (at .scope) (now (rows .exit)) (now (work .exit)) (now (chains .exit)) r ⌝ }
 {
-    match node_kind(file, sections, node) {
-        30 => assignment(file, sections, index, rows, work, chains, base, node, scope),
-        31 => variable(file, sections, index, rows, work, chains, base, node, scope),
-        32 => return_value(
-            file,
-            sections,
-            index,
-            rows,
-            work,
-            chains,
-            base,
-            result,
-            node,
-            scope,
-        ),
-        33 => return_void(
-            file,
-            sections,
-            index,
-            rows,
-            work,
-            chains,
-            base,
-            result,
-            node,
-            scope,
-        ),
-        34 => call_statement(file, sections, index, rows, work, chains, base, node, scope),
-        35 => if_else(
-            file,
-            sections,
-            index,
-            rows,
-            work,
-            chains,
-            base,
-            result,
-            node,
-            scope,
-        ),
-        36 => if_null(
-            file,
-            sections,
-            index,
-            rows,
-            work,
-            chains,
-            base,
-            result,
-            node,
-            scope,
-        ),
-        37 => for_loop(
-            file,
-            sections,
-            index,
-            rows,
-            work,
-            chains,
-            base,
-            result,
-            node,
-            scope,
-        ),
-        _ => while_loop(
-            file,
-            sections,
-            index,
-            rows,
-            work,
-            chains,
-            base,
-            result,
-            node,
-            scope,
-        ),
+    match node_kind(file, frame.sections, at.node) {
+        30 => assignment(file, frame, index, rows, work, chains, at),
+        31 => variable(file, frame, index, rows, work, chains, at),
+        32 => return_value(file, frame, index, rows, work, chains, at),
+        33 => return_void(file, frame, index, rows, work, chains, at),
+        34 => call_statement(file, frame, index, rows, work, chains, at),
+        35 => if_else(file, frame, index, rows, work, chains, at),
+        36 => if_null(file, frame, index, rows, work, chains, at),
+        37 => for_loop(file, frame, index, rows, work, chains, at),
+        _ => while_loop(file, frame, index, rows, work, chains, at),
     }
 }
 
 // `count` statements from `node` on, in the block at `parent`: all but the last go on. The mark is the last one's.
 fn statements(
     file: &[u8],
-    sections: Sections,
+    frame: Frame,
     index: &[u16],
     rows: &mut [u16],
     work: &mut [u16],
     chains: &mut [u16],
-    base: usize,
-    result: usize,
-    node: usize,
-    scope: usize,
+    at: At,
     count: usize,
     parent: usize,
 ) -> Judged
-    requires { ⌜ ReadyStmts (now file) sections (now index) (now rows) (now work) (now chains) base result node scope count ⌝ }
-    ensures { λ r. ⌜ ToldStmts (now (file .entry)) sections (now (index .entry)) (now (rows .entry)) (now (work .entry)) base result node scope count parent (now (rows .exit)) (now (work .exit)) (now (chains .exit)) r ⌝ }
+    requires { ⌜ ReadyStmts (now file) (frame .sections) (now index) (now rows) (now work) (now chains) (frame .base) (frame .result) (at .node) (at .scope) count ⌝ }
+    ensures { λ r. ⌜ ToldStmts (now (file .entry)) (frame .sections) (now (index .entry)) (now (rows .entry)) (now (work .entry)) (frame .base) (frame .result) (at .node) (at .scope) count parent (now (rows .exit)) (now (work .exit)) (now (chains .exit)) r ⌝ }
 {
-    let mut at = node;
-    let mut height = scope;
+    let mut here = at;
     let mut last = parent;
     let mut mark = 0;
     let mut i = 0;
     while i < count {
         if mark != 0 {
-            return refused(14, last);
+            return refused(14, last, here);
         }
-        let one = statement(
-            file,
-            sections,
-            index,
-            rows,
-            work,
-            chains,
-            base,
-            result,
-            at,
-            height,
-        );
+        let one = statement(file, frame, index, rows, work, chains, here);
         let judgement = one.judgement;
         if let Judgement::Refused(_, _) = judgement {
             return one;
         }
         mark = mark_of(judgement);
-        last = at;
-        at = one.next;
-        height = one.scope;
+        last = here.node;
+        here = one.at;
         i += 1;
     }
-    Judged {
-        judgement: judgement_of(mark),
-        next: at,
-        scope: height,
-    }
+    with_mark(mark, here)
 }
 
 // The block at `node`: what it binds is gone after it.
 pub fn block(
     file: &[u8],
-    sections: Sections,
+    frame: Frame,
     index: &[u16],
     rows: &mut [u16],
     work: &mut [u16],
     chains: &mut [u16],
-    base: usize,
-    result: usize,
-    node: usize,
-    scope: usize,
+    at: At,
 ) -> Judged
-    requires { ⌜ ReadyBlock (now file) sections (now index) (now rows) (now work) (now chains) base result node scope ⌝ }
-    ensures { λ r. ⌜ ToldBlock (now (file .entry)) sections (now (index .entry)) (now (rows .entry)) (now (work .entry)) base result node scope (now (rows .exit)) (now (work .exit)) (now (chains .exit)) r ⌝ }
+    requires { ⌜ ReadyBlock (now file) (frame .sections) (now index) (now rows) (now work) (now chains) (frame .base) (frame .result) (at .node) (at .scope) ⌝ }
+    ensures { λ r. ⌜ ToldBlock (now (file .entry)) (frame .sections) (now (index .entry)) (now (rows .entry)) (now (work .entry)) (frame .base) (frame .result) (at .node) (at .scope) (now (rows .exit)) (now (work .exit)) (now (chains .exit)) r ⌝ }
 {
     let all = statements(
         file,
-        sections,
+        frame,
         index,
         rows,
         work,
         chains,
-        base,
-        result,
-        node + 1,
-        scope,
-        node_children(file, sections, node),
-        node,
+        At {
+            node: at.node + 1,
+            ..at
+        },
+        node_children(file, frame.sections, at.node),
+        at.node,
     );
     let judgement = all.judgement;
     if let Judgement::Refused(_, _) = judgement {
         return all;
     }
-    leave(file, sections, &*work, chains, all.scope, scope);
-    ends(rows, node, mark_of(judgement), all.next, scope)
+    leave(file, frame.sections, &*work, chains, all.at.scope, at.scope);
+    ends(
+        rows,
+        at.node,
+        mark_of(judgement),
+        At {
+            scope: at.scope,
+            ..all.at
+        },
+    )
 }
 
 // Two blocks, the first at `node` in the scope `inner`, which is left after it. The mark is 1 where both return.
 fn arms(
     file: &[u8],
-    sections: Sections,
+    frame: Frame,
     index: &[u16],
     rows: &mut [u16],
     work: &mut [u16],
     chains: &mut [u16],
-    base: usize,
-    result: usize,
-    node: usize,
-    scope: usize,
+    at: At,
     inner: usize,
 ) -> Judged
-    requires { ⌜ ReadyArms (now file) sections (now index) (now rows) (now work) (now chains) base result node scope inner ⌝ }
-    ensures { λ r. ⌜ ToldArms (now (file .entry)) sections (now (index .entry)) (now (rows .entry)) (now (work .entry)) base result node scope inner (now (rows .exit)) (now (work .exit)) (now (chains .exit)) r ⌝ }
+    requires { ⌜ ReadyArms (now file) (frame .sections) (now index) (now rows) (now work) (now chains) (frame .base) (frame .result) (at .node) (at .scope) inner ⌝ }
+    ensures { λ r. ⌜ ToldArms (now (file .entry)) (frame .sections) (now (index .entry)) (now (rows .entry)) (now (work .entry)) (frame .base) (frame .result) (at .node) (at .scope) inner (now (rows .exit)) (now (work .exit)) (now (chains .exit)) r ⌝ }
 {
     let one = block(
         file,
-        sections,
+        frame,
         index,
         rows,
         work,
         chains,
-        base,
-        result,
-        node,
-        inner,
+        At { scope: inner, ..at },
     );
     let first = one.judgement;
     if let Judgement::Refused(_, _) = first {
         return one;
     }
-    leave(file, sections, &*work, chains, inner, scope);
+    leave(file, frame.sections, &*work, chains, inner, at.scope);
     let two = block(
         file,
-        sections,
+        frame,
         index,
         rows,
         work,
         chains,
-        base,
-        result,
-        one.next,
-        scope,
+        At {
+            scope: at.scope,
+            ..one.at
+        },
     );
     let second = two.judgement;
     if let Judgement::Refused(_, _) = second {
         return two;
     }
     if mark_of(first) == 0 {
-        return Judged {
-            judgement: Judgement::GoesOn,
-            next: two.next,
-            scope: scope,
-        };
+        return goes_on(two.at);
     }
     two
 }
@@ -282,163 +190,180 @@ fn arms(
 // If: condition, its sort, blocks.
 fn if_else(
     file: &[u8],
-    sections: Sections,
+    frame: Frame,
     index: &[u16],
     rows: &mut [u16],
     work: &mut [u16],
     chains: &mut [u16],
-    base: usize,
-    result: usize,
-    node: usize,
-    scope: usize,
+    at: At,
 ) -> Judged
-    requires { ⌜ ReadyStmt (now file) sections (now index) (now rows) (now work) (now chains) base node scope × (result < sections .types) ⌝ }
-    requires { ⌜ nodeAt (tablesOf (now file) sections) node .kind ≡ 35 ⌝ }
-    ensures { λ r. ⌜ ToldStmt (now (file .entry)) sections (now (index .entry)) (now (rows .entry)) (now (work .entry)) base result node scope (now (rows .exit)) (now (work .exit)) (now (chains .exit)) r ⌝ }
+    requires { ⌜ ReadyStmt (now file) (frame .sections) (now index) (now rows) (now work) (now chains) (frame .base) (at .node) (at .scope) × ((frame .result) < (frame .sections) .types) ⌝ }
+    requires { ⌜ nodeAt (tablesOf (now file) (frame .sections)) (at .node) .kind ≡ 35 ⌝ }
+    ensures { λ r. ⌜ ToldStmt (now (file .entry)) (frame .sections) (now (index .entry)) (now (rows .entry)) (now (work .entry)) (frame .base) (frame .result) (at .node) (at .scope) (now (rows .exit)) (now (work .exit)) (now (chains .exit)) r ⌝ }
 {
     let one = expression(
         file,
-        sections,
+        frame,
         index,
         rows,
         work,
         chains,
-        base,
-        node + 1,
-        scope,
+        At {
+            node: at.node + 1,
+            ..at
+        },
     );
     let first = one.judgement;
     let Judgement::Typed(t) = first else {
         return one;
     };
-    if type_kind(file, sections, t) != 1 {
-        return refused(10, node);
+    if type_kind(file, frame.sections, t) != 1 {
+        return refused(10, at.node, one.at);
     }
     let both = arms(
         file,
-        sections,
+        frame,
         index,
         rows,
         work,
         chains,
-        base,
-        result,
-        one.next,
-        scope,
-        scope,
+        At {
+            scope: at.scope,
+            ..one.at
+        },
+        at.scope,
     );
     let second = both.judgement;
     if let Judgement::Refused(_, _) = second {
         return both;
     }
-    ends(rows, node, mark_of(second), both.next, scope)
+    ends(
+        rows,
+        at.node,
+        mark_of(second),
+        At {
+            scope: at.scope,
+            ..both.at
+        },
+    )
 }
 
 // If?: value, its sort, subtype, blocks, the name bound in the first.
 fn if_null(
     file: &[u8],
-    sections: Sections,
+    frame: Frame,
     index: &[u16],
     rows: &mut [u16],
     work: &mut [u16],
     chains: &mut [u16],
-    base: usize,
-    result: usize,
-    node: usize,
-    scope: usize,
+    at: At,
 ) -> Judged
-    requires { ⌜ ReadyStmt (now file) sections (now index) (now rows) (now work) (now chains) base node scope × (result < sections .types) ⌝ }
-    requires { ⌜ nodeAt (tablesOf (now file) sections) node .kind ≡ 36 ⌝ }
-    ensures { λ r. ⌜ ToldStmt (now (file .entry)) sections (now (index .entry)) (now (rows .entry)) (now (work .entry)) base result node scope (now (rows .exit)) (now (work .exit)) (now (chains .exit)) r ⌝ }
+    requires { ⌜ ReadyStmt (now file) (frame .sections) (now index) (now rows) (now work) (now chains) (frame .base) (at .node) (at .scope) × ((frame .result) < (frame .sections) .types) ⌝ }
+    requires { ⌜ nodeAt (tablesOf (now file) (frame .sections)) (at .node) .kind ≡ 36 ⌝ }
+    ensures { λ r. ⌜ ToldStmt (now (file .entry)) (frame .sections) (now (index .entry)) (now (rows .entry)) (now (work .entry)) (frame .base) (frame .result) (at .node) (at .scope) (now (rows .exit)) (now (work .exit)) (now (chains .exit)) r ⌝ }
 {
     let one = expression(
         file,
-        sections,
+        frame,
         index,
         rows,
         work,
         chains,
-        base,
-        node + 1,
-        scope,
+        At {
+            node: at.node + 1,
+            ..at
+        },
     );
     let first = one.judgement;
     let Judgement::Typed(u) = first else {
         return one;
     };
-    if type_kind(file, sections, u) != 7 {
-        return refused(10, node);
+    if type_kind(file, frame.sections, u) != 7 {
+        return refused(10, at.node, one.at);
     }
-    let t = node_t(file, sections, node);
-    if !below(file, sections, index, type_a(file, sections, u), t) {
-        return refused(11, node);
+    let t = node_t(file, frame.sections, at.node);
+    if !below(
+        file,
+        frame.sections,
+        index,
+        type_a(file, frame.sections, u),
+        t,
+    ) {
+        return refused(11, at.node, one.at);
     }
-    bind(file, sections, work, chains, scope, node, t);
+    bind(file, frame.sections, work, chains, at.scope, at.node, t);
     let both = arms(
         file,
-        sections,
+        frame,
         index,
         rows,
         work,
         chains,
-        base,
-        result,
-        one.next,
-        scope,
-        scope + 1,
+        At {
+            scope: at.scope,
+            ..one.at
+        },
+        at.scope + 1,
     );
     let second = both.judgement;
     if let Judgement::Refused(_, _) = second {
         return both;
     }
-    ends(rows, node, mark_of(second), both.next, scope)
+    ends(
+        rows,
+        at.node,
+        mark_of(second),
+        At {
+            scope: at.scope,
+            ..both.at
+        },
+    )
 }
 
 // For: vars, condition, step, block; what it binds is gone after it.
 fn for_loop(
     file: &[u8],
-    sections: Sections,
+    frame: Frame,
     index: &[u16],
     rows: &mut [u16],
     work: &mut [u16],
     chains: &mut [u16],
-    base: usize,
-    result: usize,
-    node: usize,
-    scope: usize,
+    at: At,
 ) -> Judged
-    requires { ⌜ ReadyStmt (now file) sections (now index) (now rows) (now work) (now chains) base node scope × (result < sections .types) ⌝ }
-    requires { ⌜ nodeAt (tablesOf (now file) sections) node .kind ≡ 37 ⌝ }
-    ensures { λ r. ⌜ ToldStmt (now (file .entry)) sections (now (index .entry)) (now (rows .entry)) (now (work .entry)) base result node scope (now (rows .exit)) (now (work .exit)) (now (chains .exit)) r ⌝ }
+    requires { ⌜ ReadyStmt (now file) (frame .sections) (now index) (now rows) (now work) (now chains) (frame .base) (at .node) (at .scope) × ((frame .result) < (frame .sections) .types) ⌝ }
+    requires { ⌜ nodeAt (tablesOf (now file) (frame .sections)) (at .node) .kind ≡ 37 ⌝ }
+    ensures { λ r. ⌜ ToldStmt (now (file .entry)) (frame .sections) (now (index .entry)) (now (rows .entry)) (now (work .entry)) (frame .base) (frame .result) (at .node) (at .scope) (now (rows .exit)) (now (work .exit)) (now (chains .exit)) r ⌝ }
 {
     let one = variables(
         file,
-        sections,
+        frame,
         index,
         rows,
         work,
         chains,
-        base,
-        node + 1,
-        scope,
-        node_children(file, sections, node) - 3,
+        At {
+            node: at.node + 1,
+            ..at
+        },
+        node_children(file, frame.sections, at.node) - 3,
     );
     let first = one.judgement;
     let Judgement::GoesOn = first else {
         return one;
     };
-    let height = one.scope;
+    let height = one.at.scope;
     let two = condition(
         file,
-        sections,
+        frame,
         index,
         rows,
         work,
         chains,
-        base,
-        one.next,
-        height,
-        node,
+        At {
+            scope: height,
+            ..one.at
+        },
+        at.node,
     );
     let second = two.judgement;
     let Judgement::GoesOn = second else {
@@ -446,166 +371,159 @@ fn for_loop(
     };
     let three = turn(
         file,
-        sections,
+        frame,
         index,
         rows,
         work,
         chains,
-        base,
-        result,
-        two.next,
-        height,
+        At {
+            scope: height,
+            ..two.at
+        },
     );
     let third = three.judgement;
     if let Judgement::Refused(_, _) = third {
         return three;
     }
-    leave(file, sections, &*work, chains, height, scope);
-    ends(rows, node, 0, three.next, scope)
+    leave(file, frame.sections, &*work, chains, height, at.scope);
+    ends(
+        rows,
+        at.node,
+        0,
+        At {
+            scope: at.scope,
+            ..three.at
+        },
+    )
 }
 
 // The step and the block of a for.
 fn turn(
     file: &[u8],
-    sections: Sections,
+    frame: Frame,
     index: &[u16],
     rows: &mut [u16],
     work: &mut [u16],
     chains: &mut [u16],
-    base: usize,
-    result: usize,
-    node: usize,
-    scope: usize,
+    at: At,
 ) -> Judged
-    requires { ⌜ ReadyTurn (now file) sections (now index) (now rows) (now work) (now chains) base result node scope ⌝ }
-    ensures { λ r. ⌜ ToldTurn (now (file .entry)) sections (now (index .entry)) (now (rows .entry)) (now (work .entry)) base result node scope (now (rows .exit)) (now (work .exit)) (now (chains .exit)) r ⌝ }
+    requires { ⌜ ReadyTurn (now file) (frame .sections) (now index) (now rows) (now work) (now chains) (frame .base) (frame .result) (at .node) (at .scope) ⌝ }
+    ensures { λ r. ⌜ ToldTurn (now (file .entry)) (frame .sections) (now (index .entry)) (now (rows .entry)) (now (work .entry)) (frame .base) (frame .result) (at .node) (at .scope) (now (rows .exit)) (now (work .exit)) (now (chains .exit)) r ⌝ }
 {
-    let one = step(
-        file,
-        sections,
-        index,
-        rows,
-        work,
-        chains,
-        base,
-        result,
-        node,
-        scope,
-    );
+    let one = step(file, frame, index, rows, work, chains, at);
     let judgement = one.judgement;
     let Judgement::GoesOn = judgement else {
         return one;
     };
     block(
         file,
-        sections,
+        frame,
         index,
         rows,
         work,
         chains,
-        base,
-        result,
-        one.next,
-        scope,
+        At {
+            scope: at.scope,
+            ..one.at
+        },
     )
 }
 
 // The step of a for, or 40: a returning one breaks at itself, and what it binds is gone.
 fn step(
     file: &[u8],
-    sections: Sections,
+    frame: Frame,
     index: &[u16],
     rows: &mut [u16],
     work: &mut [u16],
     chains: &mut [u16],
-    base: usize,
-    result: usize,
-    node: usize,
-    scope: usize,
+    at: At,
 ) -> Judged
-    requires { ⌜ ReadyStep (now file) sections (now index) (now rows) (now work) (now chains) base result node scope ⌝ }
-    ensures { λ r. ⌜ ToldStep (now (file .entry)) sections (now (index .entry)) (now (rows .entry)) (now (work .entry)) base result node scope (now (rows .exit)) (now (work .exit)) (now (chains .exit)) r ⌝ }
+    requires { ⌜ ReadyStep (now file) (frame .sections) (now index) (now rows) (now work) (now chains) (frame .base) (frame .result) (at .node) (at .scope) ⌝ }
+    ensures { λ r. ⌜ ToldStep (now (file .entry)) (frame .sections) (now (index .entry)) (now (rows .entry)) (now (work .entry)) (frame .base) (frame .result) (at .node) (at .scope) (now (rows .exit)) (now (work .exit)) (now (chains .exit)) r ⌝ }
 {
-    if node_kind(file, sections, node) == 40 {
-        return ends(rows, node, 0, node + 1, scope);
+    if node_kind(file, frame.sections, at.node) == 40 {
+        return ends(
+            rows,
+            at.node,
+            0,
+            At {
+                node: at.node + 1,
+                ..at
+            },
+        );
     }
-    let one = statement(
-        file,
-        sections,
-        index,
-        rows,
-        work,
-        chains,
-        base,
-        result,
-        node,
-        scope,
-    );
+    let one = statement(file, frame, index, rows, work, chains, at);
     let judgement = one.judgement;
     if let Judgement::Refused(_, _) = judgement {
         return one;
     }
     if mark_of(judgement) != 0 {
-        return refused(14, node);
+        return refused(14, at.node, one.at);
     }
-    leave(file, sections, &*work, chains, one.scope, scope);
-    Judged {
-        judgement: Judgement::GoesOn,
-        next: one.next,
-        scope: scope,
-    }
+    leave(file, frame.sections, &*work, chains, one.at.scope, at.scope);
+    goes_on(At {
+        scope: at.scope,
+        ..one.at
+    })
 }
 
 // While: condition, its sort, block. It may always go on.
 fn while_loop(
     file: &[u8],
-    sections: Sections,
+    frame: Frame,
     index: &[u16],
     rows: &mut [u16],
     work: &mut [u16],
     chains: &mut [u16],
-    base: usize,
-    result: usize,
-    node: usize,
-    scope: usize,
+    at: At,
 ) -> Judged
-    requires { ⌜ ReadyStmt (now file) sections (now index) (now rows) (now work) (now chains) base node scope × (result < sections .types) ⌝ }
-    requires { ⌜ nodeAt (tablesOf (now file) sections) node .kind ≡ 38 ⌝ }
-    ensures { λ r. ⌜ ToldStmt (now (file .entry)) sections (now (index .entry)) (now (rows .entry)) (now (work .entry)) base result node scope (now (rows .exit)) (now (work .exit)) (now (chains .exit)) r ⌝ }
+    requires { ⌜ ReadyStmt (now file) (frame .sections) (now index) (now rows) (now work) (now chains) (frame .base) (at .node) (at .scope) × ((frame .result) < (frame .sections) .types) ⌝ }
+    requires { ⌜ nodeAt (tablesOf (now file) (frame .sections)) (at .node) .kind ≡ 38 ⌝ }
+    ensures { λ r. ⌜ ToldStmt (now (file .entry)) (frame .sections) (now (index .entry)) (now (rows .entry)) (now (work .entry)) (frame .base) (frame .result) (at .node) (at .scope) (now (rows .exit)) (now (work .exit)) (now (chains .exit)) r ⌝ }
 {
     let one = expression(
         file,
-        sections,
+        frame,
         index,
         rows,
         work,
         chains,
-        base,
-        node + 1,
-        scope,
+        At {
+            node: at.node + 1,
+            ..at
+        },
     );
     let first = one.judgement;
     let Judgement::Typed(t) = first else {
         return one;
     };
-    if type_kind(file, sections, t) != 1 {
-        return refused(10, node);
+    if type_kind(file, frame.sections, t) != 1 {
+        return refused(10, at.node, one.at);
     }
     let two = block(
         file,
-        sections,
+        frame,
         index,
         rows,
         work,
         chains,
-        base,
-        result,
-        one.next,
-        scope,
+        At {
+            scope: at.scope,
+            ..one.at
+        },
     );
     let second = two.judgement;
     if let Judgement::Refused(_, _) = second {
         return two;
     }
-    ends(rows, node, 0, two.next, scope)
+    ends(
+        rows,
+        at.node,
+        0,
+        At {
+            scope: at.scope,
+            ..two.at
+        },
+    )
 }

@@ -3,6 +3,8 @@ use crate::names::all_new;
 use crate::names::is_new;
 use crate::names::types_formed;
 use crate::parameters::parameters;
+use answers::answer::At;
+use answers::answer::Frame;
 use answers::answer::Judgement;
 use answers::answer::row;
 use bindings::bind;
@@ -183,14 +185,19 @@ impl Context {
     {
         let value = expression(
             file,
-            sections,
+            Frame {
+                sections: sections,
+                base: self.names,
+                result: 0,
+            },
             index,
             rows,
             work,
             chains,
-            self.names,
-            node + 1,
-            self.names,
+            At {
+                node: node + 1,
+                scope: self.names,
+            },
         );
         let judgement = value.judgement;
         let Judgement::Typed(t) = judgement else {
@@ -264,15 +271,19 @@ impl Context {
         let result = type_a(file, sections, t);
         let body = block(
             file,
-            sections,
+            Frame {
+                sections: sections,
+                base: self.names,
+                result: result,
+            },
             index,
             rows,
             work,
             chains,
-            self.names,
-            result,
-            node + 1 + count,
-            scope,
+            At {
+                node: node + 1 + count,
+                scope: scope,
+            },
         );
         let judgement = body.judgement;
         if let Judgement::Refused(_, _) = judgement {

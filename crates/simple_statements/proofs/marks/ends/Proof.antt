@@ -1,11 +1,10 @@
 -- `ends` meets its contract. Assumes nothing.
 use borrow.Author.Needs.{needs}
-use Rattle.simple_statements.proofs.LawsMarks.{answer-is}
 use Rattle.simple_statements.proofs.marks.ends.Statement.{statement}
 use Rattle.simple_statements.proofs.marks.ends.Tie as tie
 
 returns : tie.Need-returns
-returns c = (answer-is _ _ (c .judgement-of .ensures), search needs)
+returns c = (c .with-mark .ensures, search needs)
 
 pub ends-spec : {M : Type 1} → statement M
 ends-spec =

@@ -13,9 +13,4 @@ returns-2 c = assigns-name (c .before .before .before .node-kind .ensures .0) (c
 pub assigns-spec : {M : Type 1} → statement M
 assigns-spec =
     tie.close
-    (tie.spec
-    (λ c κs. search needs)
-    returns
-    (λ c κs. search needs)
-    (λ c κs. search needs)
-    returns-2)
+    (tie.spec (λ c κs. search needs) returns (λ c κs. search needs) (λ c κs. search needs) returns-2)

@@ -4,17 +4,18 @@ use native.Mathlib.Omega.{arith}
 use mathlib.Core.Path.{_≡_, refl}
 use Prim.Native.Nat.{_-_}
 use lib.ListN.{length}
+use Rattle.answers.proofs.LawsAnswers.{answered}
 use Rattle.expressions.proofs.LawsMeets.{unlisted}
 use Rattle.simple_statements.proofs.LawsVariables.{WalkedVars, vars-start, vars-kind, vars-ready, vars-no, vars-again, vars-done}
 use Rattle.simple_statements.proofs.simple.variables.Statement.{statement}
 use Rattle.simple_statements.proofs.simple.variables.Tie as tie
 
 abbrev Inv-loop : tie.InvT-loop
-Inv-loop file sections index rows₀ work₀ chains₀ base node scope count at₀ height₀ i₀ rows work chains at height i =
-    WalkedVars file sections index base node scope rows₀ work₀ count at height i rows work chains × (length rows ≡ length rows₀) × (length work ≡ length work₀) × (length chains ≡ length chains₀)
+Inv-loop file frame index rows₀ work₀ chains₀ count here₀ i₀ rows work chains here i =
+    WalkedVars file (frame .sections) index (frame .base) (here₀ .node) (here₀ .scope) rows₀ work₀ count (here .node) (here .scope) i rows work chains × (length rows ≡ length rows₀) × (length work ≡ length work₀) × (length chains ≡ length chains₀)
 
 abbrev μ-loop : tie.MeasureT-loop
-μ-loop file sections index rows₀ work₀ chains₀ base node scope count at₀ height₀ i₀ rows work chains at height i = count - i
+μ-loop file frame index rows₀ work₀ chains₀ count here₀ i₀ rows work chains here i = count - i
 
 loop-holds : tie.Need-loop-holds Inv-loop μ-loop
 loop-holds c = (vars-start (c .before .before .before .before .before .pre), refl, refl, refl)
@@ -26,16 +27,16 @@ returns : tie.Need-returns Inv-loop μ-loop
 returns c = vars-no (c .before .before .before .before .before .before .before .before .before .before .before .before .before .before .before .before .before .before .pre) (c .before .before .before .before .before .before .before .before .before .before .before .before .loop .inv .0) (c .before .before .before .before .before .before .before .before .before .before .before .loop-test .taken) (c .before .before .before .before .before .before .before .variable .ensures) (unlisted _ (c .match .keys2))
 
 add-i : tie.Need-add-i Inv-loop μ-loop
-add-i c = omega (arith, c .before .before .before .before .before .before .before .before .before .before .before .before .loop-test .taken, c .before .before .before .before .before .before .before .before .before .before .before .before .before .before .before .before .before .before .before .fits .count)
+add-i c = omega (arith, c .before .before .before .before .before .before .before .before .before .before .before .before .before .loop-test .taken, c .before .before .before .before .before .before .before .before .before .before .before .before .before .before .before .before .before .before .before .before .fits .count)
 
 loop-less : tie.Need-loop-less Inv-loop μ-loop
-loop-less c = omega (arith, c .before .before .before .before .before .before .before .before .before .before .before .before .loop-test .taken)
+loop-less c = omega (arith, c .before .before .before .before .before .before .before .before .before .before .before .before .before .loop-test .taken)
 
 loop-again : tie.Need-loop-again Inv-loop μ-loop
-loop-again c = (vars-again (c .before .before .before .before .before .before .before .before .before .before .before .before .before .before .before .before .before .before .before .pre) (c .before .before .before .before .before .before .before .before .before .before .before .before .before .loop .inv .0) (c .before .before .before .before .before .before .before .before .before .before .before .before .loop-test .taken) (c .before .before .before .before .before .before .before .before .variable .ensures) (c .enum-told .given .1), search needs, search needs, search needs)
+loop-again c = (vars-again (c .before .before .before .before .before .before .before .before .before .before .before .before .before .before .before .before .before .before .before .before .pre) (c .before .before .before .before .before .before .before .before .before .before .before .before .before .before .loop .inv .0) (c .before .before .before .before .before .before .before .before .before .before .before .before .before .loop-test .taken) (c .before .before .before .before .before .before .before .before .before .variable .ensures) (c .before .enum-told .given .1), search needs, search needs, search needs)
 
 returns-2 : tie.Need-returns-2 Inv-loop μ-loop
-returns-2 c = vars-done (c .before .before .before .before .before .before .before .pre) (c .before .loop .inv .0) (c .loop-test .left) refl
+returns-2 c = vars-done (c .before .before .before .before .before .before .before .before .pre) (c .before .before .loop .inv .0) (c .before .loop-test .left) (answered (c .goes-on .ensures) refl refl)
 
 pub variables-spec : {M : Type 1} → statement M
-variables-spec = tie.close (tie.spec Inv-loop μ-loop loop-holds variable-requires (λ c. search needs) (λ c. search needs) (λ c. search needs) (λ c. search needs) returns add-i loop-less loop-again (λ c. search needs) (λ c. search needs) (λ c. search needs) returns-2)
+variables-spec = tie.close (tie.spec Inv-loop μ-loop loop-holds variable-requires (λ c. search needs) (λ c. search needs) (λ c. search needs) (λ c. search needs) returns add-i loop-less loop-again (λ c κs. search needs) (λ c. search needs) (λ c. search needs) (λ c. search needs) returns-2)

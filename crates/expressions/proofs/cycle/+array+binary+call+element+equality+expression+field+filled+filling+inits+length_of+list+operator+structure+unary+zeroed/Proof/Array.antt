@@ -30,22 +30,22 @@ is-formed-requires : (t : ℕ) → array-lts.Need-is-formed-requires (claims t) 
 is-formed-requires t c κs = array-entered (c .before .before .before .before .before .before .before .pre .1 .0) (c .before .before .before .before .before .before .before .pre .1 .1) (c .before .node-t .ensures .0) (c .type-a .ensures .0)
 
 returns : (t : ℕ) → array-lts.Need-returns (claims t) (array-at t) array.Post
-returns t c = array-unformed (c .before .before .before .before .before .before .before .before .before .before .pre .1 .0) (c .before .before .before .before .before .before .before .before .before .before .pre .1 .1) (c .before .before .before .before .node-t .ensures .0) (c .before .before .before .type-a .ensures .0) (c .before .before .is-formed .ensures) (c .before .if1 .taken) (c .refused .ensures)
+returns t c = array-unformed (c .before .before .before .before .before .before .before .before .before .before .pre .1 .0) (c .before .before .before .before .before .before .before .before .before .before .pre .1 .1) (c .before .before .before .before .node-t .ensures .0) (c .before .before .before .type-a .ensures .0) (c .before .before .is-formed .ensures) (c .before .if1 .taken) (c .refused .ensures .0)
 
-add-list : (t : ℕ) → array-lts.Need-add-list (claims t) (array-at t) array.Post
-add-list t c = omega (arith, (c .before .before .before .before .before .before .before .before .before .before .before .before .pre .1 .0) .within, (c .before .before .before .before .before .before .before .before .before .before .before .before .pre .1 .0) .fine .good-tables .laid .nodes-most)
+add-t20 : (t : ℕ) → array-lts.Need-add-t20 (claims t) (array-at t) array.Post
+add-t20 t c = omega (arith, (c .before .before .before .before .before .before .before .before .before .before .before .before .before .pre .1 .0) .within, (c .before .before .before .before .before .before .before .before .before .before .before .before .before .pre .1 .0) .fine .good-tables .laid .nodes-most)
 
 node-children-requires : (t : ℕ) → array-lts.Need-node-children-requires (claims t) (array-at t) array.Post
-node-children-requires t c κs = has-node ((c .before .before .before .before .before .before .before .before .before .before .before .before .pre .1 .0) .fine .good-tables) ((c .before .before .before .before .before .before .before .before .before .before .before .before .pre .1 .0) .within)
+node-children-requires t c κs = has-node ((c .before .before .before .before .before .before .before .before .before .before .before .before .before .pre .1 .0) .fine .good-tables) ((c .before .before .before .before .before .before .before .before .before .before .before .before .before .pre .1 .0) .within)
 
 list-requires : (t : ℕ) → array-lts.Need-list-requires (claims t) (array-at t) array.Post
-list-requires t c κs = (omega (arith, c .before .before .before .before .before .before .before .before .before .before .before .before .before .pre .0, (c .before .before .before .before .before .before .before .before .before .before .before .before .before .pre .1 .0) .within), array-list (c .before .before .before .before .before .before .before .before .before .before .before .before .before .pre .1 .0) (c .before .before .before .before .before .before .before .before .before .before .before .before .before .pre .1 .1) (c .before .before .before .before .before .before .before .node-t .ensures .0) (c .before .before .before .before .before .before .type-a .ensures .0) (c .node-children .ensures .0))
+list-requires t c κs = (omega (arith, c .before .before .before .before .before .before .before .before .before .before .before .before .before .before .pre .0, (c .before .before .before .before .before .before .before .before .before .before .before .before .before .before .pre .1 .0) .within), array-list (c .before .before .before .before .before .before .before .before .before .before .before .before .before .before .pre .1 .0) (c .before .before .before .before .before .before .before .before .before .before .before .before .before .before .pre .1 .1) (c .before .before .before .before .before .before .before .before .node-t .ensures .0) (c .before .before .before .before .before .before .before .type-a .ensures .0) (c .node-children .ensures .0))
 
 returns-2 : (t : ℕ) → array-lts.Need-returns-2 (claims t) (array-at t) array.Post
-returns-2 t c = array-no (c .before .before .before .before .before .before .before .before .before .before .before .before .before .before .before .before .before .before .before .before .before .pre .1 .0) (c .before .before .before .before .before .before .before .before .before .before .before .before .before .before .before .before .before .before .before .before .before .pre .1 .1) (c .before .before .before .before .before .before .before .before .before .before .before .before .before .before .before .node-t .ensures .0) (c .before .before .before .before .before .before .before .before .before .before .before .before .before .before .type-a .ensures .0) (c .before .before .before .before .before .before .before .before .before .before .before .before .before .is-formed .ensures) (c .before .before .before .before .before .before .before .before .before .before .before .before .if1 .left) (c .before .before .before .before .before .before .before .before .node-children .ensures .0) (c .before .before .before .before .before .before .before .list .ensures) (unlisted _ (c .match .keys2))
+returns-2 t c = array-no (c .before .before .before .before .before .before .before .before .before .before .before .before .before .before .before .before .before .before .before .before .before .before .pre .1 .0) (c .before .before .before .before .before .before .before .before .before .before .before .before .before .before .before .before .before .before .before .before .before .before .pre .1 .1) (c .before .before .before .before .before .before .before .before .before .before .before .before .before .before .before .before .node-t .ensures .0) (c .before .before .before .before .before .before .before .before .before .before .before .before .before .before .before .type-a .ensures .0) (c .before .before .before .before .before .before .before .before .before .before .before .before .before .before .is-formed .ensures) (c .before .before .before .before .before .before .before .before .before .before .before .before .before .if1 .left) (c .before .before .before .before .before .before .before .before .node-children .ensures .0) (c .before .before .before .before .before .before .before .list .ensures) (unlisted _ (c .match .keys2))
 
 typed-requires : (t : ℕ) → array-lts.Need-typed-requires (claims t) (array-at t) array.Post
-typed-requires t c κs = array-row (c .before .before .before .before .before .before .before .before .before .before .before .before .before .before .before .before .before .before .before .before .before .before .before .pre .1 .0) (c .before .before .before .before .before .before .before .before .before .before .before .before .before .before .before .before .before .before .before .before .before .before .before .pre .1 .1) (c .before .before .before .before .before .before .before .before .before .before .before .before .before .before .before .before .before .node-t .ensures .0) (c .before .before .before .before .before .before .before .before .before .before .before .before .before .before .before .before .type-a .ensures .0) (c .before .before .before .before .before .before .before .before .before .before .before .before .before .before .before .is-formed .ensures) (c .before .before .before .before .before .before .before .before .before .before .before .before .before .before .if1 .left) (c .before .before .before .before .before .before .before .before .before .before .node-children .ensures .0) (c .before .before .before .before .before .before .before .before .before .list .ensures) (c .before .enum-told .given .1)
+typed-requires t c κs = array-row (c .before .before .before .before .before .before .before .before .before .before .before .before .before .before .before .before .before .before .before .before .before .before .before .before .pre .1 .0) (c .before .before .before .before .before .before .before .before .before .before .before .before .before .before .before .before .before .before .before .before .before .before .before .before .pre .1 .1) (c .before .before .before .before .before .before .before .before .before .before .before .before .before .before .before .before .before .before .node-t .ensures .0) (c .before .before .before .before .before .before .before .before .before .before .before .before .before .before .before .before .before .type-a .ensures .0) (c .before .before .before .before .before .before .before .before .before .before .before .before .before .before .before .before .is-formed .ensures) (c .before .before .before .before .before .before .before .before .before .before .before .before .before .before .before .if1 .left) (c .before .before .before .before .before .before .before .before .before .before .node-children .ensures .0) (c .before .before .before .before .before .before .before .before .before .list .ensures) (c .before .enum-told .given .1)
 
 same-length-4 : (t : ℕ) → array-lts.Need-same-length-4 (claims t) (array-at t) array.Post
 same-length-4 t c = omega (arith, c .before .before .before .before .before .before .before .before .before .before .before .before .list, c .before .before .typed)
@@ -57,7 +57,7 @@ same-length-6 : (t : ℕ) → array-lts.Need-same-length-6 (claims t) (array-at 
 same-length-6 t c = omega (arith, c .before .before .before .before .before .before .before .before .before .before .before .before .list, c .before .before .typed)
 
 returns-3 : (t : ℕ) → array-lts.Need-returns-3 (claims t) (array-at t) array.Post
-returns-3 t c = array-ok (c .before .before .before .before .before .before .before .before .before .before .before .before .before .before .before .before .before .before .before .before .before .before .before .before .before .before .pre .1 .0) (c .before .before .before .before .before .before .before .before .before .before .before .before .before .before .before .before .before .before .before .before .before .before .before .before .before .before .pre .1 .1) (c .before .before .before .before .before .before .before .before .before .before .before .before .before .before .before .before .before .before .before .before .node-t .ensures .0) (c .before .before .before .before .before .before .before .before .before .before .before .before .before .before .before .before .before .before .before .type-a .ensures .0) (c .before .before .before .before .before .before .before .before .before .before .before .before .before .before .before .before .before .before .is-formed .ensures) (c .before .before .before .before .before .before .before .before .before .before .before .before .before .before .before .before .before .if1 .left) (c .before .before .before .before .before .before .before .before .before .before .before .before .before .node-children .ensures .0) (c .before .before .before .before .before .before .before .before .before .before .before .before .list .ensures) (c .before .before .before .before .enum-told .given .1) (c .before .before .typed .ensures .0) (c .before .before .typed .ensures .1)
+returns-3 t c = array-ok (c .before .before .before .before .before .before .before .before .before .before .before .before .before .before .before .before .before .before .before .before .before .before .before .before .before .before .before .pre .1 .0) (c .before .before .before .before .before .before .before .before .before .before .before .before .before .before .before .before .before .before .before .before .before .before .before .before .before .before .before .pre .1 .1) (c .before .before .before .before .before .before .before .before .before .before .before .before .before .before .before .before .before .before .before .before .before .node-t .ensures .0) (c .before .before .before .before .before .before .before .before .before .before .before .before .before .before .before .before .before .before .before .before .type-a .ensures .0) (c .before .before .before .before .before .before .before .before .before .before .before .before .before .before .before .before .before .before .before .is-formed .ensures) (c .before .before .before .before .before .before .before .before .before .before .before .before .before .before .before .before .before .before .if1 .left) (c .before .before .before .before .before .before .before .before .before .before .before .before .before .node-children .ensures .0) (c .before .before .before .before .before .before .before .before .before .before .before .before .list .ensures) (c .before .before .before .before .enum-told .given .1) (c .before .before .typed .ensures .0) (c .before .before .typed .ensures .1)
 
 pub closed : {M : Type 1} (t : ℕ) → array-lts.Closed (claims t) (array-at t) array.Post M
-closed t = array-lts.spec (claims t) (array-at t) array.Post (node-t-requires t) (type-a-requires t) (is-formed-requires t) (λ c κs. search needs) (returns t) (add-list t) (node-children-requires t) (list-requires t) (λ c. search needs) (λ c. search needs) (λ c. search needs) (λ c. search needs) (returns-2 t) (typed-requires t) (same-length-4 t) (same-length-5 t) (same-length-6 t) (returns-3 t)
+closed t = array-lts.spec (claims t) (array-at t) array.Post (node-t-requires t) (type-a-requires t) (is-formed-requires t) (λ c κs. search needs) (returns t) (add-t20 t) (node-children-requires t) (list-requires t) (λ c. search needs) (λ c. search needs) (λ c. search needs) (λ c. search needs) (returns-2 t) (typed-requires t) (same-length-4 t) (same-length-5 t) (same-length-6 t) (returns-3 t)

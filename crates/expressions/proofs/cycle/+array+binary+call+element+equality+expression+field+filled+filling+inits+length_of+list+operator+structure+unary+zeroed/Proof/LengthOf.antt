@@ -18,23 +18,23 @@ use Rattle.expressions.proofs.LawsLists.{row-fits}
 abbrev claims : ℕ → length-of-lts.Claims
 claims t = (expression-below t, expression.Post, type-kind-reads.Asked, type-kind-reads.Learnt, refused-reads.Asked, refused-reads.Learnt, typed-reads.Asked, typed-reads.Learnt)
 
-add-expression : (t : ℕ) → length-of-lts.Need-add-expression (claims t) (length-of-at t) length-of.Post
-add-expression t c = omega (arith, (c .before .before .before .before .before .before .before .before .pre .1 .0) .within, (c .before .before .before .before .before .before .before .before .pre .1 .0) .fine .good-tables .laid .nodes-most)
+add-if1 : (t : ℕ) → length-of-lts.Need-add-if1 (claims t) (length-of-at t) length-of.Post
+add-if1 t c = omega (arith, (c .before .before .before .before .before .before .before .before .before .pre .1 .0) .within, (c .before .before .before .before .before .before .before .before .before .pre .1 .0) .fine .good-tables .laid .nodes-most)
 
 expression-requires : (t : ℕ) → length-of-lts.Need-expression-requires (claims t) (length-of-at t) length-of.Post
-expression-requires t c κs = (omega (arith, c .before .before .before .before .before .before .before .before .pre .0, (c .before .before .before .before .before .before .before .before .pre .1 .0) .within), length-first (c .before .before .before .before .before .before .before .before .pre .1 .0) (c .before .before .before .before .before .before .before .before .pre .1 .1))
+expression-requires t c κs = (omega (arith, c .before .before .before .before .before .before .before .before .before .pre .0, (c .before .before .before .before .before .before .before .before .before .pre .1 .0) .within), length-first (c .before .before .before .before .before .before .before .before .before .pre .1 .0) (c .before .before .before .before .before .before .before .before .before .pre .1 .1))
 
 returns : (t : ℕ) → length-of-lts.Need-returns (claims t) (length-of-at t) length-of.Post
-returns t c = length-no (c .before .before .before .before .before .before .before .before .before .before .before .before .before .before .before .before .pre .1 .0) (c .before .before .before .before .before .before .before .before .before .before .before .before .before .before .before .before .pre .1 .1) (c .before .before .before .before .before .before .before .expression .ensures) (untyped _ (c .match .keys2))
+returns t c = length-no (c .before .before .before .before .before .before .before .before .before .before .before .before .before .before .before .before .before .pre .1 .0) (c .before .before .before .before .before .before .before .before .before .before .before .before .before .before .before .before .before .pre .1 .1) (c .before .before .before .before .before .before .before .expression .ensures) (untyped _ (c .match .keys2))
 
 type-kind-requires : (t : ℕ) → length-of-lts.Need-type-kind-requires (claims t) (length-of-at t) length-of.Post
-type-kind-requires t c κs = child-type (length-first (c .before .before .before .before .before .before .before .before .before .before .before .before .before .before .before .before .before .before .pre .1 .0) (c .before .before .before .before .before .before .before .before .before .before .before .before .before .before .before .before .before .before .pre .1 .1)) (c .before .before .before .before .before .before .before .before .before .expression .ensures) (c .before .judgement .given .1)
+type-kind-requires t c κs = child-type (length-first (c .before .before .before .before .before .before .before .before .before .before .before .before .before .before .before .before .before .before .before .pre .1 .0) (c .before .before .before .before .before .before .before .before .before .before .before .before .before .before .before .before .before .before .before .pre .1 .1)) (c .before .before .before .before .before .before .before .before .before .expression .ensures) (c .before .judgement .given .1)
 
 returns-2 : (t : ℕ) → length-of-lts.Need-returns-2 (claims t) (length-of-at t) length-of.Post
-returns-2 t c = length-sort (c .before .before .before .before .before .before .before .before .before .before .before .before .before .before .before .before .before .before .before .before .before .pre .1 .0) (c .before .before .before .before .before .before .before .before .before .before .before .before .before .before .before .before .before .before .before .before .before .pre .1 .1) (c .before .before .before .before .before .before .before .before .before .before .before .before .expression .ensures) (c .before .before .before .before .judgement .given .1) (c .before .before .type-kind .ensures .0) (c .before .if1 .taken) (c .refused .ensures)
+returns-2 t c = length-sort (c .before .before .before .before .before .before .before .before .before .before .before .before .before .before .before .before .before .before .before .before .before .before .pre .1 .0) (c .before .before .before .before .before .before .before .before .before .before .before .before .before .before .before .before .before .before .before .before .before .before .pre .1 .1) (c .before .before .before .before .before .before .before .before .before .before .before .before .expression .ensures) (c .before .before .before .before .judgement .given .1) (c .before .before .type-kind .ensures .0) (c .before .if1 .taken) (c .refused .ensures .0)
 
 typed-requires : (t : ℕ) → length-of-lts.Need-typed-requires (claims t) (length-of-at t) length-of.Post
-typed-requires t c κs = row-fits (child-fine (length-first (c .before .before .before .before .before .before .before .before .before .before .before .before .before .before .before .before .before .before .before .before .before .pre .1 .0) (c .before .before .before .before .before .before .before .before .before .before .before .before .before .before .before .before .before .before .before .before .before .pre .1 .1)) (c .before .before .before .before .before .before .before .before .before .before .before .before .expression .ensures) (c .before .before .before .before .judgement .given .1)) ((c .before .before .before .before .before .before .before .before .before .before .before .before .before .before .before .before .before .before .before .before .before .pre .1 .0) .within) (base-within ((c .before .before .before .before .before .before .before .before .before .before .before .before .before .before .before .before .before .before .before .before .before .pre .1 .0) .fine .good-tables) (omega arith))
+typed-requires t c κs = row-fits (child-fine (length-first (c .before .before .before .before .before .before .before .before .before .before .before .before .before .before .before .before .before .before .before .before .before .before .pre .1 .0) (c .before .before .before .before .before .before .before .before .before .before .before .before .before .before .before .before .before .before .before .before .before .before .pre .1 .1)) (c .before .before .before .before .before .before .before .before .before .before .before .before .expression .ensures) (c .before .before .before .before .judgement .given .1)) ((c .before .before .before .before .before .before .before .before .before .before .before .before .before .before .before .before .before .before .before .before .before .before .pre .1 .0) .within) (base-within ((c .before .before .before .before .before .before .before .before .before .before .before .before .before .before .before .before .before .before .before .before .before .before .pre .1 .0) .fine .good-tables) (omega arith))
 
 same-length-7 : (t : ℕ) → length-of-lts.Need-same-length-7 (claims t) (length-of-at t) length-of.Post
 same-length-7 t c = omega (arith, c .before .before .before .before .before .before .before .before .before .before .before .before .before .before .before .expression, c .before .before .typed)
@@ -46,7 +46,7 @@ same-length-9 : (t : ℕ) → length-of-lts.Need-same-length-9 (claims t) (lengt
 same-length-9 t c = omega (arith, c .before .before .before .before .before .before .before .before .before .before .before .before .before .before .before .expression, c .before .before .typed)
 
 returns-3 : (t : ℕ) → length-of-lts.Need-returns-3 (claims t) (length-of-at t) length-of.Post
-returns-3 t c = length-ok (c .before .before .before .before .before .before .before .before .before .before .before .before .before .before .before .before .before .before .before .before .before .before .before .before .pre .1 .0) (c .before .before .before .before .before .before .before .before .before .before .before .before .before .before .before .before .before .before .before .before .before .before .before .before .pre .1 .1) (c .before .before .before .before .before .before .before .before .before .before .before .before .before .before .before .expression .ensures) (c .before .before .before .before .before .before .before .judgement .given .1) (c .before .before .before .before .before .type-kind .ensures .0) (c .before .before .before .before .if1 .left) (c .before .before .typed .ensures .0) (c .before .before .typed .ensures .1)
+returns-3 t c = length-ok (c .before .before .before .before .before .before .before .before .before .before .before .before .before .before .before .before .before .before .before .before .before .before .before .before .before .pre .1 .0) (c .before .before .before .before .before .before .before .before .before .before .before .before .before .before .before .before .before .before .before .before .before .before .before .before .before .pre .1 .1) (c .before .before .before .before .before .before .before .before .before .before .before .before .before .before .before .expression .ensures) (c .before .before .before .before .before .before .before .judgement .given .1) (c .before .before .before .before .before .type-kind .ensures .0) (c .before .before .before .before .if1 .left) (c .before .before .typed .ensures .0) (c .before .before .typed .ensures .1)
 
 pub closed : {M : Type 1} (t : ℕ) → length-of-lts.Closed (claims t) (length-of-at t) length-of.Post M
-closed t = length-of-lts.spec (claims t) (length-of-at t) length-of.Post (add-expression t) (expression-requires t) (λ c. search needs) (λ c. search needs) (λ c. search needs) (λ c. search needs) (returns t) (type-kind-requires t) (λ c κs. search needs) (λ c. search needs) (λ c. search needs) (λ c. search needs) (returns-2 t) (typed-requires t) (same-length-7 t) (same-length-8 t) (same-length-9 t) (returns-3 t)
+closed t = length-of-lts.spec (claims t) (length-of-at t) length-of.Post (add-if1 t) (expression-requires t) (λ c. search needs) (λ c. search needs) (λ c. search needs) (λ c. search needs) (returns t) (type-kind-requires t) (λ c κs. search needs) (λ c. search needs) (λ c. search needs) (λ c. search needs) (returns-2 t) (typed-requires t) (same-length-7 t) (same-length-8 t) (same-length-9 t) (returns-3 t)

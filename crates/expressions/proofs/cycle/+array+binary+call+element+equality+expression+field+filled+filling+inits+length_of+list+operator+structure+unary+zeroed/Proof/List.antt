@@ -6,48 +6,49 @@ use mathlib.Core.Path.{_≡_, refl, sym, _∙_}
 use Rattle.expressions.proofs.cycle.+array+binary+call+element+equality+expression+field+filled+filling+inits+length_of+list+operator+structure+unary+zeroed.Lts-list as list-lts
 use Rattle.expressions.proofs.cycle.expression.Reads as expression
 use Rattle.expressions.proofs.cycle.list.Reads as list
+use Rattle.answers.proofs.answer.goes_on.Reads as goes-on-reads
 use Rattle.answers.proofs.answer.refused.Reads as refused-reads
 use Rattle.answers.proofs.leaves.still_below.Reads as still-below-reads
 use Rattle.expressions.proofs.cycle.+array+binary+call+element+equality+expression+field+filled+filling+inits+length_of+list+operator+structure+unary+zeroed.Proof.Measures.{list-at, expression-below}
 use Rattle.expressions.proofs.LawsMeets.{untyped}
-use Rattle.expressions.proofs.LawsList.{Walked, list-start, list-forward, list-ready, list-child-no, list-tested, list-again, list-unfit, list-done}
+use Rattle.expressions.proofs.LawsList.{list-level, Walked, list-start, list-forward, list-ready, list-child-no, list-tested, list-again, list-unfit, list-done}
 use lib.ListN.{length}
 
 abbrev claims : ℕ → list-lts.Claims
-claims t = (expression-below t, expression.Post, still-below-reads.Asked, still-below-reads.Learnt, refused-reads.Asked, refused-reads.Learnt)
+claims t = (expression-below t, expression.Post, still-below-reads.Asked, still-below-reads.Learnt, refused-reads.Asked, refused-reads.Learnt, goes-on-reads.Asked, goes-on-reads.Learnt)
 
 abbrev Inv-loop : list-lts.InvT-loop
-Inv-loop = λ file sections index rows₀ work₀ chains₀ base node scope count expected parent at₀ fits₀ i₀ rows work chains at fits i. Walked file sections index base node scope rows₀ work₀ count expected at i fits rows work chains × (length rows ≡ length rows₀) × (length work ≡ length work₀) × (length chains ≡ length chains₀)
+Inv-loop = λ file frame index rows₀ work₀ chains₀ count expected parent here₀ fits₀ i₀ rows work chains here fits i. Walked file (frame .sections) index (frame .base) (here₀ .node) (here₀ .scope) rows₀ work₀ count expected (here .node) i fits rows work chains × (here .scope ≡ here₀ .scope) × (length rows ≡ length rows₀) × (length work ≡ length work₀) × (length chains ≡ length chains₀)
 
 abbrev μ-loop : list-lts.MeasureT-loop
-μ-loop = λ file sections index rows₀ work₀ chains₀ base node scope count expected parent at₀ fits₀ i₀ rows work chains at fits i. count - i
+μ-loop = λ file frame index rows₀ work₀ chains₀ count expected parent here₀ fits₀ i₀ rows work chains here fits i. count - i
 
 loop-holds : (t : ℕ) → list-lts.Need-loop-holds (claims t) (list-at t) list.Post Inv-loop μ-loop
-loop-holds t c = (list-start (c .before .before .before .before .before .pre .1), refl, refl, refl)
+loop-holds t c = (list-start (c .before .before .before .before .before .pre .1), refl, refl, refl, refl)
 
 expression-requires : (t : ℕ) → list-lts.Need-expression-requires (claims t) (list-at t) list.Post Inv-loop μ-loop
-expression-requires t c κs = (omega (arith, c .before .before .before .before .before .before .before .before .before .before .pre .0, list-forward (c .before .before .before .before .before .before .before .before .before .before .pre .1) (c .before .before .before .before .loop .inv .0), list-ready (c .before .before .before .before .before .before .before .before .before .before .pre .1) (c .before .before .before .before .loop .inv .0) (c .before .before .before .loop-test .taken) .within), list-ready (c .before .before .before .before .before .before .before .before .before .before .pre .1) (c .before .before .before .before .loop .inv .0) (c .before .before .before .loop-test .taken))
+expression-requires t c κs = (omega (arith, c .before .before .before .before .before .before .before .before .before .before .pre .0, list-forward (c .before .before .before .before .before .before .before .before .before .before .pre .1) (c .before .before .before .before .loop .inv .0), list-ready (c .before .before .before .before .before .before .before .before .before .before .pre .1) (c .before .before .before .before .loop .inv .0) (c .before .before .before .loop-test .taken) (c .before .before .before .before .loop .inv .1) .within), list-ready (c .before .before .before .before .before .before .before .before .before .before .pre .1) (c .before .before .before .before .loop .inv .0) (c .before .before .before .loop-test .taken) (c .before .before .before .before .loop .inv .1))
 
 returns : (t : ℕ) → list-lts.Need-returns (claims t) (list-at t) list.Post Inv-loop μ-loop
-returns t c = list-child-no (c .before .before .before .before .before .before .before .before .before .before .before .before .before .before .before .before .before .before .pre .1) (c .before .before .before .before .before .before .before .before .before .before .before .before .loop .inv .0) (c .before .before .before .before .before .before .before .before .before .before .before .loop-test .taken) (c .before .before .before .before .before .before .before .expression .ensures) (untyped _ (c .match .keys2))
+returns t c = list-child-no (c .before .before .before .before .before .before .before .before .before .before .before .before .before .before .before .before .before .before .pre .1) (c .before .before .before .before .before .before .before .before .before .before .before .before .loop .inv .0) (c .before .before .before .before .before .before .before .before .before .before .before .loop-test .taken) (c .before .before .before .before .before .before .before .before .before .before .before .before .loop .inv .1) (c .before .before .before .before .before .before .before .expression .ensures) (untyped _ (c .match .keys2))
 
 still-below-requires : (t : ℕ) → list-lts.Need-still-below-requires (claims t) (list-at t) list.Post Inv-loop μ-loop
-still-below-requires t c κs = list-tested (c .before .before .before .before .before .before .before .before .before .before .before .before .before .before .before .before .before .before .before .before .pre .1) (c .before .before .before .before .before .before .before .before .before .before .before .before .before .before .loop .inv .0) (c .before .before .before .before .before .before .before .before .before .before .before .before .before .loop-test .taken) (c .before .before .before .before .before .before .before .before .before .expression .ensures) (c .before .judgement .given .1)
+still-below-requires t c κs = list-tested (c .before .before .before .before .before .before .before .before .before .before .before .before .before .before .before .before .before .before .before .before .pre .1) (c .before .before .before .before .before .before .before .before .before .before .before .before .before .before .loop .inv .0) (c .before .before .before .before .before .before .before .before .before .before .before .before .before .loop-test .taken) (c .before .before .before .before .before .before .before .before .before .before .before .before .before .before .loop .inv .1) (c .before .before .before .before .before .before .before .before .before .expression .ensures) (c .before .judgement .given .1)
 
 add-i : (t : ℕ) → list-lts.Need-add-i (claims t) (list-at t) list.Post Inv-loop μ-loop
-add-i t c = omega (arith, c .before .before .before .before .before .before .before .before .before .before .before .before .before .before .loop-test .taken, c .before .before .before .before .before .before .before .before .before .before .before .before .before .before .before .before .before .before .before .before .before .fits .count)
+add-i t c = omega (arith, c .before .before .before .before .before .before .before .before .before .before .before .before .before .before .before .loop-test .taken, c .before .before .before .before .before .before .before .before .before .before .before .before .before .before .before .before .before .before .before .before .before .before .fits .count)
 
 loop-less : (t : ℕ) → list-lts.Need-loop-less (claims t) (list-at t) list.Post Inv-loop μ-loop
-loop-less t c = omega (arith, c .before .before .before .before .before .before .before .before .before .before .before .before .before .before .loop-test .taken)
+loop-less t c = omega (arith, c .before .before .before .before .before .before .before .before .before .before .before .before .before .before .before .loop-test .taken)
 
 loop-again : (t : ℕ) → list-lts.Need-loop-again (claims t) (list-at t) list.Post Inv-loop μ-loop
-loop-again t c = (list-again (c .before .before .before .before .before .before .before .before .before .before .before .before .before .before .before .before .before .before .before .before .before .pre .1) (c .before .before .before .before .before .before .before .before .before .before .before .before .before .before .before .loop .inv .0) (c .before .before .before .before .before .before .before .before .before .before .before .before .before .before .loop-test .taken) (c .before .before .before .before .before .before .before .before .before .before .expression .ensures) (c .before .before .judgement .given .1) (c .still-below .ensures), search needs, search needs, search needs)
+loop-again t c = (list-again (c .before .before .before .before .before .before .before .before .before .before .before .before .before .before .before .before .before .before .before .before .before .before .pre .1) (c .before .before .before .before .before .before .before .before .before .before .before .before .before .before .before .before .loop .inv .0) (c .before .before .before .before .before .before .before .before .before .before .before .before .before .before .before .loop-test .taken) (c .before .before .before .before .before .before .before .before .before .before .before .before .before .before .before .before .loop .inv .1) (c .before .before .before .before .before .before .before .before .before .before .before .expression .ensures) (c .before .before .before .judgement .given .1) (c .before .still-below .ensures), list-level (c .before .before .before .before .before .before .before .before .before .before .before .before .before .before .before .before .before .before .before .before .before .before .pre .1) (c .before .before .before .before .before .before .before .before .before .before .before .before .before .before .before .before .loop .inv .0) (c .before .before .before .before .before .before .before .before .before .before .before .before .before .before .before .loop-test .taken) (c .before .before .before .before .before .before .before .before .before .before .before .before .before .before .before .before .loop .inv .1) (c .before .before .before .before .before .before .before .before .before .before .before .expression .ensures) (c .before .before .before .judgement .given .1), search needs, search needs, search needs)
 
 returns-2 : (t : ℕ) → list-lts.Need-returns-2 (claims t) (list-at t) list.Post Inv-loop μ-loop
-returns-2 t c = list-unfit (c .before .before .before .before .before .before .before .before .before .pre .1) (c .before .before .before .loop .inv .0) (c .before .before .loop-test .left) (c .before .if1 .taken) (c .refused .ensures)
+returns-2 t c = list-unfit (c .before .before .before .before .before .before .before .before .before .pre .1) (c .before .before .before .loop .inv .0) (c .before .before .loop-test .left) (c .before .if1 .taken) (c .refused .ensures .0)
 
 returns-3 : (t : ℕ) → list-lts.Need-returns-3 (claims t) (list-at t) list.Post Inv-loop μ-loop
-returns-3 t c = list-done (c .before .before .before .before .before .before .before .before .pre .1) (c .before .before .loop .inv .0) (c .before .loop-test .left) (c .if1 .left) refl
+returns-3 t c = list-done (c .before .before .before .before .before .before .before .before .before .pre .1) (c .before .before .before .loop .inv .0) (c .before .before .loop-test .left) (c .before .if1 .left) refl (c .before .before .before .loop .inv .1) (c .goes-on .ensures)
 
 pub closed : {M : Type 1} (t : ℕ) → list-lts.Closed (claims t) (list-at t) list.Post M
-closed t = list-lts.spec (claims t) (list-at t) list.Post Inv-loop μ-loop (loop-holds t) (expression-requires t) (λ c. search needs) (λ c. search needs) (λ c. search needs) (λ c. search needs) (returns t) (still-below-requires t) (add-i t) (loop-less t) (loop-again t) (λ c κs. search needs) (λ c. search needs) (λ c. search needs) (λ c. search needs) (returns-2 t) (λ c. search needs) (λ c. search needs) (λ c. search needs) (returns-3 t)
+closed t = list-lts.spec (claims t) (list-at t) list.Post Inv-loop μ-loop (loop-holds t) (expression-requires t) (λ c. search needs) (λ c. search needs) (λ c. search needs) (λ c. search needs) (returns t) (still-below-requires t) (add-i t) (loop-less t) (loop-again t) (λ c κs. search needs) (λ c. search needs) (λ c. search needs) (λ c. search needs) (returns-2 t) (λ c κs. search needs) (λ c. search needs) (λ c. search needs) (λ c. search needs) (returns-3 t)

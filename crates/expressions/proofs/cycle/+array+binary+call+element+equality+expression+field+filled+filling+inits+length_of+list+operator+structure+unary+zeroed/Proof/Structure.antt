@@ -27,55 +27,55 @@ struct-record-requires : (t : ℕ) → structure-lts.Need-struct-record-requires
 struct-record-requires t c κs = type-entered ((c .before .before .before .before .before .before .pre .1 .0) .fine) (struct-within (c .before .before .before .before .before .before .pre .1 .0) (c .before .before .before .before .before .before .pre .1 .1) (c .node-t .ensures .0))
 
 returns : (t : ℕ) → structure-lts.Need-returns (claims t) (structure-at t) structure.Post
-returns t c = struct-missing (c .before .before .before .before .before .before .before .before .before .before .pre .1 .0) (c .before .before .before .before .before .before .before .before .before .before .pre .1 .1) (c .before .before .before .before .node-t .ensures .0) (c .before .before .before .struct-record .ensures) (c .before .if1 .taken) (c .refused .ensures)
+returns t c = struct-missing (c .before .before .before .before .before .before .before .before .before .before .pre .1 .0) (c .before .before .before .before .before .before .before .before .before .before .pre .1 .1) (c .before .before .before .before .node-t .ensures .0) (c .before .before .before .struct-record .ensures) (c .before .if1 .taken) (c .refused .ensures .0)
 
 sub-names-fit : (t : ℕ) → structure-lts.Need-sub-names-fit (claims t) (structure-at t) structure.Post
-sub-names-fit t c = struct-low (c .before .before .before .before .before .before .before .before .before .before .before .pre .1 .0) (c .before .before .before .before .before .before .before .before .before .before .before .pre .1 .1) (c .before .before .before .before .before .node-t .ensures .0)
+sub-names-fit t c = struct-low (c .before .before .before .before .before .before .before .before .before .before .before .before .pre .1 .0) (c .before .before .before .before .before .before .before .before .before .before .before .before .pre .1 .1) (c .before .before .before .before .before .before .node-t .ensures .0)
 
 mul-names-fit : (t : ℕ) → structure-lts.Need-mul-names-fit (claims t) (structure-at t) structure.Post
-mul-names-fit t c = omega (arith, (c .before .before .before .before .before .before .before .before .before .before .before .pre .1 .0) .fine .scoped .high, (c .before .before .before .before .before .before .before .before .before .before .before .pre .1 .0) .fine .good-tables .laid .nodes-most, (c .before .before .before .before .before .before .before .before .before .before .before .pre .1 .0) .fine .good-tables .laid .built-ins-most)
+mul-names-fit t c = omega (arith, (c .before .before .before .before .before .before .before .before .before .before .before .before .pre .1 .0) .fine .scoped .high, (c .before .before .before .before .before .before .before .before .before .before .before .before .pre .1 .0) .fine .good-tables .laid .nodes-most, (c .before .before .before .before .before .before .before .before .before .before .before .before .pre .1 .0) .fine .good-tables .laid .built-ins-most)
 
 names-fit-requires : (t : ℕ) → structure-lts.Need-names-fit-requires (claims t) (structure-at t) structure.Post
-names-fit-requires t c κs = struct-named (c .before .before .before .before .before .before .before .before .before .before .before .pre .1 .0) (c .before .before .before .before .before .before .before .before .before .before .before .pre .1 .1) (c .before .before .before .before .before .node-t .ensures .0) (c .before .before .before .before .struct-record .ensures) (c .before .before .if1 .left)
+names-fit-requires t c κs = struct-named (c .before .before .before .before .before .before .before .before .before .before .before .before .pre .1 .0) (c .before .before .before .before .before .before .before .before .before .before .before .before .pre .1 .1) (c .before .before .before .before .before .before .node-t .ensures .0) (c .before .before .before .before .before .struct-record .ensures) (c .before .before .before .if1 .left)
 
 returns-2 : (t : ℕ) → structure-lts.Need-returns-2 (claims t) (structure-at t) structure.Post
-returns-2 t c = struct-names (c .before .before .before .before .before .before .before .before .before .before .before .before .before .before .before .before .pre .1 .0) (c .before .before .before .before .before .before .before .before .before .before .before .before .before .before .before .before .pre .1 .1) (c .before .before .before .before .before .before .before .before .before .before .node-t .ensures .0) (c .before .before .before .before .before .before .before .before .before .struct-record .ensures) (c .before .before .before .before .before .before .before .if1 .left) (c .before .before .before .before .names-fit .ensures) (c .before .if2 .taken) (c .refused2 .ensures)
+returns-2 t c = struct-names (c .before .before .before .before .before .before .before .before .before .before .before .before .before .before .before .before .before .pre .1 .0) (c .before .before .before .before .before .before .before .before .before .before .before .before .before .before .before .before .before .pre .1 .1) (c .before .before .before .before .before .before .before .before .before .before .before .node-t .ensures .0) (c .before .before .before .before .before .before .before .before .before .before .struct-record .ensures) (c .before .before .before .before .before .before .before .before .if1 .left) (c .before .before .before .before .names-fit .ensures) (c .before .if2 .taken) (c .refused2 .ensures .0)
 
-add-inits : (t : ℕ) → structure-lts.Need-add-inits (claims t) (structure-at t) structure.Post
-add-inits t c = omega (arith, (c .before .before .before .before .before .before .before .before .before .before .before .before .before .before .before .before .before .before .pre .1 .0) .within, (c .before .before .before .before .before .before .before .before .before .before .before .before .before .before .before .before .before .before .pre .1 .0) .fine .good-tables .laid .nodes-most)
+add-t15 : (t : ℕ) → structure-lts.Need-add-t15 (claims t) (structure-at t) structure.Post
+add-t15 t c = omega (arith, (c .before .before .before .before .before .before .before .before .before .before .before .before .before .before .before .before .before .before .before .before .pre .1 .0) .within, (c .before .before .before .before .before .before .before .before .before .before .before .before .before .before .before .before .before .before .before .before .pre .1 .0) .fine .good-tables .laid .nodes-most)
 
 node-children-requires : (t : ℕ) → structure-lts.Need-node-children-requires (claims t) (structure-at t) structure.Post
-node-children-requires t c κs = has-node ((c .before .before .before .before .before .before .before .before .before .before .before .before .before .before .before .before .before .before .pre .1 .0) .fine .good-tables) ((c .before .before .before .before .before .before .before .before .before .before .before .before .before .before .before .before .before .before .pre .1 .0) .within)
+node-children-requires t c κs = has-node ((c .before .before .before .before .before .before .before .before .before .before .before .before .before .before .before .before .before .before .before .before .pre .1 .0) .fine .good-tables) ((c .before .before .before .before .before .before .before .before .before .before .before .before .before .before .before .before .before .before .before .before .pre .1 .0) .within)
 
 inits-requires : (t : ℕ) → structure-lts.Need-inits-requires (claims t) (structure-at t) structure.Post
-inits-requires t c κs = (omega (arith, c .before .before .before .before .before .before .before .before .before .before .before .before .before .before .before .before .before .before .before .pre .0, (c .before .before .before .before .before .before .before .before .before .before .before .before .before .before .before .before .before .before .before .pre .1 .0) .within), struct-inits (c .before .before .before .before .before .before .before .before .before .before .before .before .before .before .before .before .before .before .before .pre .1 .0) (c .before .before .before .before .before .before .before .before .before .before .before .before .before .before .before .before .before .before .before .pre .1 .1) (c .before .before .before .before .before .before .before .before .before .before .before .before .before .node-t .ensures .0) (c .before .before .before .before .before .before .before .before .before .before .before .before .struct-record .ensures) (c .before .before .before .before .before .before .before .before .before .before .if1 .left) (c .before .before .before .before .before .before .before .names-fit .ensures) (c .before .before .before .before .before .before .before .names-fit .kept .1 .1 .0) (c .node-children .ensures .0))
+inits-requires t c κs = (omega (arith, c .before .before .before .before .before .before .before .before .before .before .before .before .before .before .before .before .before .before .before .before .before .pre .0, (c .before .before .before .before .before .before .before .before .before .before .before .before .before .before .before .before .before .before .before .before .before .pre .1 .0) .within), struct-inits (c .before .before .before .before .before .before .before .before .before .before .before .before .before .before .before .before .before .before .before .before .before .pre .1 .0) (c .before .before .before .before .before .before .before .before .before .before .before .before .before .before .before .before .before .before .before .before .before .pre .1 .1) (c .before .before .before .before .before .before .before .before .before .before .before .before .before .before .before .node-t .ensures .0) (c .before .before .before .before .before .before .before .before .before .before .before .before .before .before .struct-record .ensures) (c .before .before .before .before .before .before .before .before .before .before .before .before .if1 .left) (c .before .before .before .before .before .before .before .before .names-fit .ensures) (c .before .before .before .before .before .before .before .before .names-fit .kept .1 .1 .0) (c .node-children .ensures .0))
 
 same-length-2 : (t : ℕ) → structure-lts.Need-same-length-2 (claims t) (structure-at t) structure.Post
-same-length-2 t c = omega (arith, c .before .before .before .before .before .before .before .inits, c .before .before .before .before .before .before .before .before .before .before .before .before .before .before .before .names-fit)
+same-length-2 t c = omega (arith, c .before .before .before .before .before .before .before .inits, c .before .before .before .before .before .before .before .before .before .before .before .before .before .before .before .before .names-fit)
 
 same-length-3 : (t : ℕ) → structure-lts.Need-same-length-3 (claims t) (structure-at t) structure.Post
-same-length-3 t c = omega (arith, c .before .before .before .before .before .before .before .inits, c .before .before .before .before .before .before .before .before .before .before .before .before .before .before .before .names-fit)
+same-length-3 t c = omega (arith, c .before .before .before .before .before .before .before .inits, c .before .before .before .before .before .before .before .before .before .before .before .before .before .before .before .before .names-fit)
 
 same-length-4 : (t : ℕ) → structure-lts.Need-same-length-4 (claims t) (structure-at t) structure.Post
-same-length-4 t c = omega (arith, c .before .before .before .before .before .before .before .inits, c .before .before .before .before .before .before .before .before .before .before .before .before .before .before .before .names-fit)
+same-length-4 t c = omega (arith, c .before .before .before .before .before .before .before .inits, c .before .before .before .before .before .before .before .before .before .before .before .before .before .before .before .before .names-fit)
 
 returns-3 : (t : ℕ) → structure-lts.Need-returns-3 (claims t) (structure-at t) structure.Post
-returns-3 t c = struct-no (c .before .before .before .before .before .before .before .before .before .before .before .before .before .before .before .before .before .before .before .before .before .before .before .before .before .before .before .pre .1 .0) (c .before .before .before .before .before .before .before .before .before .before .before .before .before .before .before .before .before .before .before .before .before .before .before .before .before .before .before .pre .1 .1) (c .before .before .before .before .before .before .before .before .before .before .before .before .before .before .before .before .before .before .before .before .before .node-t .ensures .0) (c .before .before .before .before .before .before .before .before .before .before .before .before .before .before .before .before .before .before .before .before .struct-record .ensures) (c .before .before .before .before .before .before .before .before .before .before .before .before .before .before .before .before .before .before .if1 .left) (c .before .before .before .before .before .before .before .before .before .before .before .before .before .before .before .names-fit .ensures) (c .before .before .before .before .before .before .before .before .before .before .before .before .if2 .left) (c .before .before .before .before .before .before .before .before .node-children .ensures .0) (c .before .before .before .before .before .before .before .inits .ensures) (unlisted _ (c .match .keys2))
+returns-3 t c = struct-no (c .before .before .before .before .before .before .before .before .before .before .before .before .before .before .before .before .before .before .before .before .before .before .before .before .before .before .before .before .before .pre .1 .0) (c .before .before .before .before .before .before .before .before .before .before .before .before .before .before .before .before .before .before .before .before .before .before .before .before .before .before .before .before .before .pre .1 .1) (c .before .before .before .before .before .before .before .before .before .before .before .before .before .before .before .before .before .before .before .before .before .before .before .node-t .ensures .0) (c .before .before .before .before .before .before .before .before .before .before .before .before .before .before .before .before .before .before .before .before .before .before .struct-record .ensures) (c .before .before .before .before .before .before .before .before .before .before .before .before .before .before .before .before .before .before .before .before .if1 .left) (c .before .before .before .before .before .before .before .before .before .before .before .before .before .before .before .before .names-fit .ensures) (c .before .before .before .before .before .before .before .before .before .before .before .before .before .if2 .left) (c .before .before .before .before .before .before .before .before .node-children .ensures .0) (c .before .before .before .before .before .before .before .inits .ensures) (unlisted _ (c .match .keys2))
 
 typed-requires : (t : ℕ) → structure-lts.Need-typed-requires (claims t) (structure-at t) structure.Post
-typed-requires t c κs = struct-row (c .before .before .before .before .before .before .before .before .before .before .before .before .before .before .before .before .before .before .before .before .before .before .before .before .before .before .before .before .before .pre .1 .0) (c .before .before .before .before .before .before .before .before .before .before .before .before .before .before .before .before .before .before .before .before .before .before .before .before .before .before .before .before .before .pre .1 .1) (c .before .before .before .before .before .before .before .before .before .before .before .before .before .before .before .before .before .before .before .before .before .before .before .node-t .ensures .0) (c .before .before .before .before .before .before .before .before .before .before .before .before .before .before .before .before .before .before .before .before .before .before .struct-record .ensures) (c .before .before .before .before .before .before .before .before .before .before .before .before .before .before .before .before .before .before .before .before .if1 .left) (c .before .before .before .before .before .before .before .before .before .before .before .before .before .before .before .before .before .names-fit .ensures) (c .before .before .before .before .before .before .before .before .before .before .before .before .before .before .if2 .left) (c .before .before .before .before .before .before .before .before .before .before .node-children .ensures .0) (c .before .before .before .before .before .before .before .before .before .inits .ensures) (c .before .before .before .before .before .before .before .before .before .before .before .before .before .before .before .before .before .names-fit .kept .1 .1 .0) (c .before .enum-told .given .1)
+typed-requires t c κs = struct-row (c .before .before .before .before .before .before .before .before .before .before .before .before .before .before .before .before .before .before .before .before .before .before .before .before .before .before .before .before .before .before .before .pre .1 .0) (c .before .before .before .before .before .before .before .before .before .before .before .before .before .before .before .before .before .before .before .before .before .before .before .before .before .before .before .before .before .before .before .pre .1 .1) (c .before .before .before .before .before .before .before .before .before .before .before .before .before .before .before .before .before .before .before .before .before .before .before .before .before .node-t .ensures .0) (c .before .before .before .before .before .before .before .before .before .before .before .before .before .before .before .before .before .before .before .before .before .before .before .before .struct-record .ensures) (c .before .before .before .before .before .before .before .before .before .before .before .before .before .before .before .before .before .before .before .before .before .before .if1 .left) (c .before .before .before .before .before .before .before .before .before .before .before .before .before .before .before .before .before .before .names-fit .ensures) (c .before .before .before .before .before .before .before .before .before .before .before .before .before .before .before .if2 .left) (c .before .before .before .before .before .before .before .before .before .before .node-children .ensures .0) (c .before .before .before .before .before .before .before .before .before .inits .ensures) (c .before .before .before .before .before .before .before .before .before .before .before .before .before .before .before .before .before .before .names-fit .kept .1 .1 .0) (c .before .enum-told .given .1)
 
 same-length-5 : (t : ℕ) → structure-lts.Need-same-length-5 (claims t) (structure-at t) structure.Post
-same-length-5 t c = omega (arith, c .before .before .before .before .before .before .before .before .before .before .before .before .inits, c .before .before .typed, c .before .before .before .before .before .before .before .before .before .before .before .before .before .before .before .before .before .before .before .before .names-fit)
+same-length-5 t c = omega (arith, c .before .before .before .before .before .before .before .before .before .before .before .before .inits, c .before .before .typed, c .before .before .before .before .before .before .before .before .before .before .before .before .before .before .before .before .before .before .before .before .before .names-fit)
 
 same-length-6 : (t : ℕ) → structure-lts.Need-same-length-6 (claims t) (structure-at t) structure.Post
-same-length-6 t c = omega (arith, c .before .before .before .before .before .before .before .before .before .before .before .before .inits, c .before .before .typed, c .before .before .before .before .before .before .before .before .before .before .before .before .before .before .before .before .before .before .before .before .names-fit)
+same-length-6 t c = omega (arith, c .before .before .before .before .before .before .before .before .before .before .before .before .inits, c .before .before .typed, c .before .before .before .before .before .before .before .before .before .before .before .before .before .before .before .before .before .before .before .before .before .names-fit)
 
 same-length-7 : (t : ℕ) → structure-lts.Need-same-length-7 (claims t) (structure-at t) structure.Post
-same-length-7 t c = omega (arith, c .before .before .before .before .before .before .before .before .before .before .before .before .inits, c .before .before .typed, c .before .before .before .before .before .before .before .before .before .before .before .before .before .before .before .before .before .before .before .before .names-fit)
+same-length-7 t c = omega (arith, c .before .before .before .before .before .before .before .before .before .before .before .before .inits, c .before .before .typed, c .before .before .before .before .before .before .before .before .before .before .before .before .before .before .before .before .before .before .before .before .before .names-fit)
 
 returns-4 : (t : ℕ) → structure-lts.Need-returns-4 (claims t) (structure-at t) structure.Post
-returns-4 t c = struct-ok (c .before .before .before .before .before .before .before .before .before .before .before .before .before .before .before .before .before .before .before .before .before .before .before .before .before .before .before .before .before .before .before .before .pre .1 .0) (c .before .before .before .before .before .before .before .before .before .before .before .before .before .before .before .before .before .before .before .before .before .before .before .before .before .before .before .before .before .before .before .before .pre .1 .1) (c .before .before .before .before .before .before .before .before .before .before .before .before .before .before .before .before .before .before .before .before .before .before .before .before .before .before .node-t .ensures .0) (c .before .before .before .before .before .before .before .before .before .before .before .before .before .before .before .before .before .before .before .before .before .before .before .before .before .struct-record .ensures) (c .before .before .before .before .before .before .before .before .before .before .before .before .before .before .before .before .before .before .before .before .before .before .before .if1 .left) (c .before .before .before .before .before .before .before .before .before .before .before .before .before .before .before .before .before .before .before .before .names-fit .ensures) (c .before .before .before .before .before .before .before .before .before .before .before .before .before .before .before .before .before .if2 .left) (c .before .before .before .before .before .before .before .before .before .before .before .before .before .node-children .ensures .0) (c .before .before .before .before .before .before .before .before .before .before .before .before .inits .ensures) (c .before .before .before .before .enum-told .given .1) (c .before .before .typed .ensures .0) (c .before .before .typed .ensures .1)
+returns-4 t c = struct-ok (c .before .before .before .before .before .before .before .before .before .before .before .before .before .before .before .before .before .before .before .before .before .before .before .before .before .before .before .before .before .before .before .before .before .before .pre .1 .0) (c .before .before .before .before .before .before .before .before .before .before .before .before .before .before .before .before .before .before .before .before .before .before .before .before .before .before .before .before .before .before .before .before .before .before .pre .1 .1) (c .before .before .before .before .before .before .before .before .before .before .before .before .before .before .before .before .before .before .before .before .before .before .before .before .before .before .before .before .node-t .ensures .0) (c .before .before .before .before .before .before .before .before .before .before .before .before .before .before .before .before .before .before .before .before .before .before .before .before .before .before .before .struct-record .ensures) (c .before .before .before .before .before .before .before .before .before .before .before .before .before .before .before .before .before .before .before .before .before .before .before .before .before .if1 .left) (c .before .before .before .before .before .before .before .before .before .before .before .before .before .before .before .before .before .before .before .before .before .names-fit .ensures) (c .before .before .before .before .before .before .before .before .before .before .before .before .before .before .before .before .before .before .if2 .left) (c .before .before .before .before .before .before .before .before .before .before .before .before .before .node-children .ensures .0) (c .before .before .before .before .before .before .before .before .before .before .before .before .inits .ensures) (c .before .before .before .before .enum-told .given .1) (c .before .before .typed .ensures .0) (c .before .before .typed .ensures .1)
 
 pub closed : {M : Type 1} (t : ℕ) → structure-lts.Closed (claims t) (structure-at t) structure.Post M
-closed t = structure-lts.spec (claims t) (structure-at t) structure.Post (node-t-requires t) (struct-record-requires t) (λ c κs. search needs) (returns t) (sub-names-fit t) (mul-names-fit t) (names-fit-requires t) (λ c κs. search needs) (λ c. search needs) (returns-2 t) (add-inits t) (node-children-requires t) (inits-requires t) (λ c. search needs) (same-length-2 t) (same-length-3 t) (same-length-4 t) (returns-3 t) (typed-requires t) (same-length-5 t) (same-length-6 t) (same-length-7 t) (returns-4 t)
+closed t = structure-lts.spec (claims t) (structure-at t) structure.Post (node-t-requires t) (struct-record-requires t) (λ c κs. search needs) (returns t) (sub-names-fit t) (mul-names-fit t) (names-fit-requires t) (λ c κs. search needs) (λ c. search needs) (returns-2 t) (add-t15 t) (node-children-requires t) (inits-requires t) (λ c. search needs) (same-length-2 t) (same-length-3 t) (same-length-4 t) (returns-3 t) (typed-requires t) (same-length-5 t) (same-length-6 t) (same-length-7 t) (returns-4 t)

@@ -20,26 +20,26 @@ use Rattle.expressions.proofs.LawsLists.{row-fits}
 abbrev claims : ℕ → unary-lts.Claims
 claims t = (expression-below t, expression.Post, node-x-reads.Asked, node-x-reads.Learnt, unary-type-reads.Asked, unary-type-reads.Learnt, type-kind-reads.Asked, type-kind-reads.Learnt, refused-reads.Asked, refused-reads.Learnt, typed-reads.Asked, typed-reads.Learnt)
 
-add-expression : (t : ℕ) → unary-lts.Need-add-expression (claims t) (unary-at t) unary.Post
-add-expression t c = omega (arith, (c .before .before .before .before .before .before .before .before .pre .1 .0) .within, (c .before .before .before .before .before .before .before .before .pre .1 .0) .fine .good-tables .laid .nodes-most)
+add-unary-type : (t : ℕ) → unary-lts.Need-add-unary-type (claims t) (unary-at t) unary.Post
+add-unary-type t c = omega (arith, (c .before .before .before .before .before .before .before .before .before .pre .1 .0) .within, (c .before .before .before .before .before .before .before .before .before .pre .1 .0) .fine .good-tables .laid .nodes-most)
 
 expression-requires : (t : ℕ) → unary-lts.Need-expression-requires (claims t) (unary-at t) unary.Post
-expression-requires t c κs = (omega (arith, c .before .before .before .before .before .before .before .before .pre .0, (c .before .before .before .before .before .before .before .before .pre .1 .0) .within), unary-first (c .before .before .before .before .before .before .before .before .pre .1 .0) (c .before .before .before .before .before .before .before .before .pre .1 .1))
+expression-requires t c κs = (omega (arith, c .before .before .before .before .before .before .before .before .before .pre .0, (c .before .before .before .before .before .before .before .before .before .pre .1 .0) .within), unary-first (c .before .before .before .before .before .before .before .before .before .pre .1 .0) (c .before .before .before .before .before .before .before .before .before .pre .1 .1))
 
 returns : (t : ℕ) → unary-lts.Need-returns (claims t) (unary-at t) unary.Post
-returns t c = unary-no (c .before .before .before .before .before .before .before .before .before .before .before .before .before .before .before .before .pre .1 .0) (c .before .before .before .before .before .before .before .before .before .before .before .before .before .before .before .before .pre .1 .1) (c .before .before .before .before .before .before .before .expression .ensures) (untyped _ (c .match .keys2))
+returns t c = unary-no (c .before .before .before .before .before .before .before .before .before .before .before .before .before .before .before .before .before .pre .1 .0) (c .before .before .before .before .before .before .before .before .before .before .before .before .before .before .before .before .before .pre .1 .1) (c .before .before .before .before .before .before .before .expression .ensures) (untyped _ (c .match .keys2))
 
 node-x-requires : (t : ℕ) → unary-lts.Need-node-x-requires (claims t) (unary-at t) unary.Post
-node-x-requires t c κs = has-node ((c .before .before .before .before .before .before .before .before .before .before .before .before .before .before .before .before .before .before .pre .1 .0) .fine .good-tables) ((c .before .before .before .before .before .before .before .before .before .before .before .before .before .before .before .before .before .before .pre .1 .0) .within)
+node-x-requires t c κs = has-node ((c .before .before .before .before .before .before .before .before .before .before .before .before .before .before .before .before .before .before .before .pre .1 .0) .fine .good-tables) ((c .before .before .before .before .before .before .before .before .before .before .before .before .before .before .before .before .before .before .before .pre .1 .0) .within)
 
 type-kind-requires : (t : ℕ) → unary-lts.Need-type-kind-requires (claims t) (unary-at t) unary.Post
-type-kind-requires t c κs = child-type (unary-first (c .before .before .before .before .before .before .before .before .before .before .before .before .before .before .before .before .before .before .before .before .pre .1 .0) (c .before .before .before .before .before .before .before .before .before .before .before .before .before .before .before .before .before .before .before .before .pre .1 .1)) (c .before .before .before .before .before .before .before .before .before .before .before .expression .ensures) (c .before .before .before .judgement .given .1)
+type-kind-requires t c κs = child-type (unary-first (c .before .before .before .before .before .before .before .before .before .before .before .before .before .before .before .before .before .before .before .before .before .pre .1 .0) (c .before .before .before .before .before .before .before .before .before .before .before .before .before .before .before .before .before .before .before .before .before .pre .1 .1)) (c .before .before .before .before .before .before .before .before .before .before .before .expression .ensures) (c .before .before .before .judgement .given .1)
 
 returns-2 : (t : ℕ) → unary-lts.Need-returns-2 (claims t) (unary-at t) unary.Post
-returns-2 t c = unary-sort (c .before .before .before .before .before .before .before .before .before .before .before .before .before .before .before .before .before .before .before .before .before .before .before .pre .1 .0) (c .before .before .before .before .before .before .before .before .before .before .before .before .before .before .before .before .before .before .before .before .before .before .before .pre .1 .1) (c .before .before .before .before .before .before .before .before .before .before .before .before .before .before .expression .ensures) (c .before .before .before .before .before .before .judgement .given .1) (c .before .before .before .before .node-x .ensures .0) (c .before .before .before .unary-type .ensures) (c .before .before .type-kind .ensures .0) (c .before .if1 .taken) (c .refused .ensures)
+returns-2 t c = unary-sort (c .before .before .before .before .before .before .before .before .before .before .before .before .before .before .before .before .before .before .before .before .before .before .before .before .pre .1 .0) (c .before .before .before .before .before .before .before .before .before .before .before .before .before .before .before .before .before .before .before .before .before .before .before .before .pre .1 .1) (c .before .before .before .before .before .before .before .before .before .before .before .before .before .before .expression .ensures) (c .before .before .before .before .before .before .judgement .given .1) (c .before .before .before .before .node-x .ensures .0) (c .before .before .before .unary-type .ensures) (c .before .before .type-kind .ensures .0) (c .before .if1 .taken) (c .refused .ensures .0)
 
 typed-requires : (t : ℕ) → unary-lts.Need-typed-requires (claims t) (unary-at t) unary.Post
-typed-requires t c κs = row-fits (child-fine (unary-first (c .before .before .before .before .before .before .before .before .before .before .before .before .before .before .before .before .before .before .before .before .before .before .before .pre .1 .0) (c .before .before .before .before .before .before .before .before .before .before .before .before .before .before .before .before .before .before .before .before .before .before .before .pre .1 .1)) (c .before .before .before .before .before .before .before .before .before .before .before .before .before .before .expression .ensures) (c .before .before .before .before .before .before .judgement .given .1)) ((c .before .before .before .before .before .before .before .before .before .before .before .before .before .before .before .before .before .before .before .before .before .before .before .pre .1 .0) .within) (unary-given (c .before .before .before .before .before .before .before .before .before .before .before .before .before .before .before .before .before .before .before .before .before .before .before .pre .1 .0) (c .before .before .before .before .before .before .before .before .before .before .before .before .before .before .before .before .before .before .before .before .before .before .before .pre .1 .1) (c .before .before .before .before .before .before .before .before .before .before .before .before .before .before .expression .ensures) (c .before .before .before .before .before .before .judgement .given .1) (c .before .before .before .before .node-x .ensures .0) (c .before .before .before .unary-type .ensures) (c .before .before .type-kind .ensures .0))
+typed-requires t c κs = row-fits (child-fine (unary-first (c .before .before .before .before .before .before .before .before .before .before .before .before .before .before .before .before .before .before .before .before .before .before .before .before .pre .1 .0) (c .before .before .before .before .before .before .before .before .before .before .before .before .before .before .before .before .before .before .before .before .before .before .before .before .pre .1 .1)) (c .before .before .before .before .before .before .before .before .before .before .before .before .before .before .expression .ensures) (c .before .before .before .before .before .before .judgement .given .1)) ((c .before .before .before .before .before .before .before .before .before .before .before .before .before .before .before .before .before .before .before .before .before .before .before .before .pre .1 .0) .within) (unary-given (c .before .before .before .before .before .before .before .before .before .before .before .before .before .before .before .before .before .before .before .before .before .before .before .before .pre .1 .0) (c .before .before .before .before .before .before .before .before .before .before .before .before .before .before .before .before .before .before .before .before .before .before .before .before .pre .1 .1) (c .before .before .before .before .before .before .before .before .before .before .before .before .before .before .expression .ensures) (c .before .before .before .before .before .before .judgement .given .1) (c .before .before .before .before .node-x .ensures .0) (c .before .before .before .unary-type .ensures) (c .before .before .type-kind .ensures .0))
 
 same-length-7 : (t : ℕ) → unary-lts.Need-same-length-7 (claims t) (unary-at t) unary.Post
 same-length-7 t c = omega (arith, c .before .before .before .before .before .before .before .before .before .before .before .before .before .before .before .before .before .expression, c .before .before .typed)
@@ -51,7 +51,7 @@ same-length-9 : (t : ℕ) → unary-lts.Need-same-length-9 (claims t) (unary-at 
 same-length-9 t c = omega (arith, c .before .before .before .before .before .before .before .before .before .before .before .before .before .before .before .before .before .expression, c .before .before .typed)
 
 returns-3 : (t : ℕ) → unary-lts.Need-returns-3 (claims t) (unary-at t) unary.Post
-returns-3 t c = unary-ok (c .before .before .before .before .before .before .before .before .before .before .before .before .before .before .before .before .before .before .before .before .before .before .before .before .before .before .pre .1 .0) (c .before .before .before .before .before .before .before .before .before .before .before .before .before .before .before .before .before .before .before .before .before .before .before .before .before .before .pre .1 .1) (c .before .before .before .before .before .before .before .before .before .before .before .before .before .before .before .before .before .expression .ensures) (c .before .before .before .before .before .before .before .before .before .judgement .given .1) (c .before .before .before .before .before .before .before .node-x .ensures .0) (c .before .before .before .before .before .before .unary-type .ensures) (c .before .before .before .before .before .type-kind .ensures .0) (c .before .before .before .before .if1 .left) (c .before .before .typed .ensures .0) (c .before .before .typed .ensures .1)
+returns-3 t c = unary-ok (c .before .before .before .before .before .before .before .before .before .before .before .before .before .before .before .before .before .before .before .before .before .before .before .before .before .before .before .pre .1 .0) (c .before .before .before .before .before .before .before .before .before .before .before .before .before .before .before .before .before .before .before .before .before .before .before .before .before .before .before .pre .1 .1) (c .before .before .before .before .before .before .before .before .before .before .before .before .before .before .before .before .before .expression .ensures) (c .before .before .before .before .before .before .before .before .before .judgement .given .1) (c .before .before .before .before .before .before .before .node-x .ensures .0) (c .before .before .before .before .before .before .unary-type .ensures) (c .before .before .before .before .before .type-kind .ensures .0) (c .before .before .before .before .if1 .left) (c .before .before .typed .ensures .0) (c .before .before .typed .ensures .1)
 
 pub closed : {M : Type 1} (t : ℕ) → unary-lts.Closed (claims t) (unary-at t) unary.Post M
-closed t = unary-lts.spec (claims t) (unary-at t) unary.Post (add-expression t) (expression-requires t) (λ c. search needs) (λ c. search needs) (λ c. search needs) (λ c. search needs) (returns t) (node-x-requires t) (λ c κs. search needs) (type-kind-requires t) (λ c κs. search needs) (λ c. search needs) (λ c. search needs) (λ c. search needs) (returns-2 t) (typed-requires t) (same-length-7 t) (same-length-8 t) (same-length-9 t) (returns-3 t)
+closed t = unary-lts.spec (claims t) (unary-at t) unary.Post (add-unary-type t) (expression-requires t) (λ c. search needs) (λ c. search needs) (λ c. search needs) (λ c. search needs) (returns t) (node-x-requires t) (λ c κs. search needs) (type-kind-requires t) (λ c κs. search needs) (λ c. search needs) (λ c. search needs) (λ c. search needs) (returns-2 t) (typed-requires t) (same-length-7 t) (same-length-8 t) (same-length-9 t) (returns-3 t)

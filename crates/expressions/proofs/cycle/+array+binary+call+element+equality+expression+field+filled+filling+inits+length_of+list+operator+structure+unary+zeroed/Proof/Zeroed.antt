@@ -32,31 +32,31 @@ is-formed-requires : (t : ℕ) → zeroed-lts.Need-is-formed-requires (claims t)
 is-formed-requires t c κs = type-entered ((c .before .before .before .before .before .before .before .pre .1 .0) .fine) ((default-within (c .before .before .before .before .before .before .before .pre .1 .0) (c .before .before .before .before .before .before .before .pre .1 .1) (c .before .node-t .ensures .0) (c .type-a .ensures .0)) .1)
 
 returns : (t : ℕ) → zeroed-lts.Need-returns (claims t) (zeroed-at t) zeroed.Post
-returns t c = default-unformed (c .before .before .before .before .before .before .before .before .before .before .pre .1 .0) (c .before .before .before .before .before .before .before .before .before .before .pre .1 .1) (c .before .before .before .before .node-t .ensures .0) (c .before .before .before .type-a .ensures .0) (c .before .before .is-formed .ensures) (c .before .if1 .taken) (c .refused .ensures)
+returns t c = default-unformed (c .before .before .before .before .before .before .before .before .before .before .pre .1 .0) (c .before .before .before .before .before .before .before .before .before .before .pre .1 .1) (c .before .before .before .before .node-t .ensures .0) (c .before .before .before .type-a .ensures .0) (c .before .before .is-formed .ensures) (c .before .if1 .taken) (c .refused .ensures .0)
 
-add-expression : (t : ℕ) → zeroed-lts.Need-add-expression (claims t) (zeroed-at t) zeroed.Post
-add-expression t c = omega (arith, (c .before .before .before .before .before .before .before .before .before .before .before .before .pre .1 .0) .within, (c .before .before .before .before .before .before .before .before .before .before .before .before .pre .1 .0) .fine .good-tables .laid .nodes-most)
+add-if2 : (t : ℕ) → zeroed-lts.Need-add-if2 (claims t) (zeroed-at t) zeroed.Post
+add-if2 t c = omega (arith, (c .before .before .before .before .before .before .before .before .before .before .before .before .before .pre .1 .0) .within, (c .before .before .before .before .before .before .before .before .before .before .before .before .before .pre .1 .0) .fine .good-tables .laid .nodes-most)
 
 expression-requires : (t : ℕ) → zeroed-lts.Need-expression-requires (claims t) (zeroed-at t) zeroed.Post
-expression-requires t c κs = (omega (arith, c .before .before .before .before .before .before .before .before .before .before .before .before .pre .0, (c .before .before .before .before .before .before .before .before .before .before .before .before .pre .1 .0) .within), default-first (c .before .before .before .before .before .before .before .before .before .before .before .before .pre .1 .0) (c .before .before .before .before .before .before .before .before .before .before .before .before .pre .1 .1) (c .before .before .before .before .before .before .node-t .ensures .0) (c .before .before .before .before .before .type-a .ensures .0) (c .before .before .before .before .is-formed .ensures) (c .before .before .before .if1 .left))
+expression-requires t c κs = (omega (arith, c .before .before .before .before .before .before .before .before .before .before .before .before .before .pre .0, (c .before .before .before .before .before .before .before .before .before .before .before .before .before .pre .1 .0) .within), default-first (c .before .before .before .before .before .before .before .before .before .before .before .before .before .pre .1 .0) (c .before .before .before .before .before .before .before .before .before .before .before .before .before .pre .1 .1) (c .before .before .before .before .before .before .before .node-t .ensures .0) (c .before .before .before .before .before .before .type-a .ensures .0) (c .before .before .before .before .before .is-formed .ensures) (c .before .before .before .before .if1 .left))
 
 returns-2 : (t : ℕ) → zeroed-lts.Need-returns-2 (claims t) (zeroed-at t) zeroed.Post
-returns-2 t c = default-no (c .before .before .before .before .before .before .before .before .before .before .before .before .before .before .before .before .before .before .before .before .pre .1 .0) (c .before .before .before .before .before .before .before .before .before .before .before .before .before .before .before .before .before .before .before .before .pre .1 .1) (c .before .before .before .before .before .before .before .before .before .before .before .before .before .before .node-t .ensures .0) (c .before .before .before .before .before .before .before .before .before .before .before .before .before .type-a .ensures .0) (c .before .before .before .before .before .before .before .before .before .before .before .before .is-formed .ensures) (c .before .before .before .before .before .before .before .before .before .before .before .if1 .left) (c .before .before .before .before .before .before .before .expression .ensures) (untyped _ (c .match .keys2))
+returns-2 t c = default-no (c .before .before .before .before .before .before .before .before .before .before .before .before .before .before .before .before .before .before .before .before .before .pre .1 .0) (c .before .before .before .before .before .before .before .before .before .before .before .before .before .before .before .before .before .before .before .before .before .pre .1 .1) (c .before .before .before .before .before .before .before .before .before .before .before .before .before .before .before .node-t .ensures .0) (c .before .before .before .before .before .before .before .before .before .before .before .before .before .before .type-a .ensures .0) (c .before .before .before .before .before .before .before .before .before .before .before .before .before .is-formed .ensures) (c .before .before .before .before .before .before .before .before .before .before .before .before .if1 .left) (c .before .before .before .before .before .before .before .expression .ensures) (untyped _ (c .match .keys2))
 
 type-kind-requires : (t : ℕ) → zeroed-lts.Need-type-kind-requires (claims t) (zeroed-at t) zeroed.Post
-type-kind-requires t c κs = child-type (default-first (c .before .before .before .before .before .before .before .before .before .before .before .before .before .before .before .before .before .before .before .before .before .before .pre .1 .0) (c .before .before .before .before .before .before .before .before .before .before .before .before .before .before .before .before .before .before .before .before .before .before .pre .1 .1) (c .before .before .before .before .before .before .before .before .before .before .before .before .before .before .before .before .node-t .ensures .0) (c .before .before .before .before .before .before .before .before .before .before .before .before .before .before .before .type-a .ensures .0) (c .before .before .before .before .before .before .before .before .before .before .before .before .before .before .is-formed .ensures) (c .before .before .before .before .before .before .before .before .before .before .before .before .before .if1 .left)) (c .before .before .before .before .before .before .before .before .before .expression .ensures) (c .before .judgement .given .1)
+type-kind-requires t c κs = child-type (default-first (c .before .before .before .before .before .before .before .before .before .before .before .before .before .before .before .before .before .before .before .before .before .before .before .pre .1 .0) (c .before .before .before .before .before .before .before .before .before .before .before .before .before .before .before .before .before .before .before .before .before .before .before .pre .1 .1) (c .before .before .before .before .before .before .before .before .before .before .before .before .before .before .before .before .before .node-t .ensures .0) (c .before .before .before .before .before .before .before .before .before .before .before .before .before .before .before .before .type-a .ensures .0) (c .before .before .before .before .before .before .before .before .before .before .before .before .before .before .before .is-formed .ensures) (c .before .before .before .before .before .before .before .before .before .before .before .before .before .before .if1 .left)) (c .before .before .before .before .before .before .before .before .before .expression .ensures) (c .before .judgement .given .1)
 
 returns-3 : (t : ℕ) → zeroed-lts.Need-returns-3 (claims t) (zeroed-at t) zeroed.Post
-returns-3 t c = default-sort (c .before .before .before .before .before .before .before .before .before .before .before .before .before .before .before .before .before .before .before .before .before .before .before .before .before .pre .1 .0) (c .before .before .before .before .before .before .before .before .before .before .before .before .before .before .before .before .before .before .before .before .before .before .before .before .before .pre .1 .1) (c .before .before .before .before .before .before .before .before .before .before .before .before .before .before .before .before .before .before .before .node-t .ensures .0) (c .before .before .before .before .before .before .before .before .before .before .before .before .before .before .before .before .before .before .type-a .ensures .0) (c .before .before .before .before .before .before .before .before .before .before .before .before .before .before .before .before .before .is-formed .ensures) (c .before .before .before .before .before .before .before .before .before .before .before .before .before .before .before .before .if1 .left) (c .before .before .before .before .before .before .before .before .before .before .before .before .expression .ensures) (c .before .before .before .before .judgement .given .1) (c .before .before .type-kind .ensures .0) (c .before .if2 .taken) (c .refused2 .ensures)
+returns-3 t c = default-sort (c .before .before .before .before .before .before .before .before .before .before .before .before .before .before .before .before .before .before .before .before .before .before .before .before .before .before .pre .1 .0) (c .before .before .before .before .before .before .before .before .before .before .before .before .before .before .before .before .before .before .before .before .before .before .before .before .before .before .pre .1 .1) (c .before .before .before .before .before .before .before .before .before .before .before .before .before .before .before .before .before .before .before .before .node-t .ensures .0) (c .before .before .before .before .before .before .before .before .before .before .before .before .before .before .before .before .before .before .before .type-a .ensures .0) (c .before .before .before .before .before .before .before .before .before .before .before .before .before .before .before .before .before .before .is-formed .ensures) (c .before .before .before .before .before .before .before .before .before .before .before .before .before .before .before .before .before .if1 .left) (c .before .before .before .before .before .before .before .before .before .before .before .before .expression .ensures) (c .before .before .before .before .judgement .given .1) (c .before .before .type-kind .ensures .0) (c .before .if2 .taken) (c .refused2 .ensures .0)
 
 has-default-requires : (t : ℕ) → zeroed-lts.Need-has-default-requires (claims t) (zeroed-at t) zeroed.Post
-has-default-requires t c κs = has-type ((c .before .before .before .before .before .before .before .before .before .before .before .before .before .before .before .before .before .before .before .before .before .before .before .before .pre .1 .0) .fine .good-tables) ((default-within (c .before .before .before .before .before .before .before .before .before .before .before .before .before .before .before .before .before .before .before .before .before .before .before .before .pre .1 .0) (c .before .before .before .before .before .before .before .before .before .before .before .before .before .before .before .before .before .before .before .before .before .before .before .before .pre .1 .1) (c .before .before .before .before .before .before .before .before .before .before .before .before .before .before .before .before .before .before .node-t .ensures .0) (c .before .before .before .before .before .before .before .before .before .before .before .before .before .before .before .before .before .type-a .ensures .0)) .1)
+has-default-requires t c κs = has-type ((c .before .before .before .before .before .before .before .before .before .before .before .before .before .before .before .before .before .before .before .before .before .before .before .before .before .pre .1 .0) .fine .good-tables) ((default-within (c .before .before .before .before .before .before .before .before .before .before .before .before .before .before .before .before .before .before .before .before .before .before .before .before .before .pre .1 .0) (c .before .before .before .before .before .before .before .before .before .before .before .before .before .before .before .before .before .before .before .before .before .before .before .before .before .pre .1 .1) (c .before .before .before .before .before .before .before .before .before .before .before .before .before .before .before .before .before .before .before .node-t .ensures .0) (c .before .before .before .before .before .before .before .before .before .before .before .before .before .before .before .before .before .before .type-a .ensures .0)) .1)
 
 returns-4 : (t : ℕ) → zeroed-lts.Need-returns-4 (claims t) (zeroed-at t) zeroed.Post
-returns-4 t c = default-none (c .before .before .before .before .before .before .before .before .before .before .before .before .before .before .before .before .before .before .before .before .before .before .before .before .before .before .before .pre .1 .0) (c .before .before .before .before .before .before .before .before .before .before .before .before .before .before .before .before .before .before .before .before .before .before .before .before .before .before .before .pre .1 .1) (c .before .before .before .before .before .before .before .before .before .before .before .before .before .before .before .before .before .before .before .before .before .node-t .ensures .0) (c .before .before .before .before .before .before .before .before .before .before .before .before .before .before .before .before .before .before .before .before .type-a .ensures .0) (c .before .before .before .before .before .before .before .before .before .before .before .before .before .before .before .before .before .before .before .is-formed .ensures) (c .before .before .before .before .before .before .before .before .before .before .before .before .before .before .before .before .before .before .if1 .left) (c .before .before .before .before .before .before .before .before .before .before .before .before .before .before .expression .ensures) (c .before .before .before .before .before .before .judgement .given .1) (c .before .before .before .before .type-kind .ensures .0) (c .before .before .before .if2 .left) (c .before .before .has-default .ensures) (c .before .if3 .taken) (c .refused3 .ensures)
+returns-4 t c = default-none (c .before .before .before .before .before .before .before .before .before .before .before .before .before .before .before .before .before .before .before .before .before .before .before .before .before .before .before .before .pre .1 .0) (c .before .before .before .before .before .before .before .before .before .before .before .before .before .before .before .before .before .before .before .before .before .before .before .before .before .before .before .before .pre .1 .1) (c .before .before .before .before .before .before .before .before .before .before .before .before .before .before .before .before .before .before .before .before .before .before .node-t .ensures .0) (c .before .before .before .before .before .before .before .before .before .before .before .before .before .before .before .before .before .before .before .before .before .type-a .ensures .0) (c .before .before .before .before .before .before .before .before .before .before .before .before .before .before .before .before .before .before .before .before .is-formed .ensures) (c .before .before .before .before .before .before .before .before .before .before .before .before .before .before .before .before .before .before .before .if1 .left) (c .before .before .before .before .before .before .before .before .before .before .before .before .before .before .expression .ensures) (c .before .before .before .before .before .before .judgement .given .1) (c .before .before .before .before .type-kind .ensures .0) (c .before .before .before .if2 .left) (c .before .before .has-default .ensures) (c .before .if3 .taken) (c .refused3 .ensures .0)
 
 typed-requires : (t : ℕ) → zeroed-lts.Need-typed-requires (claims t) (zeroed-at t) zeroed.Post
-typed-requires t c κs = row-fits (child-fine (default-first (c .before .before .before .before .before .before .before .before .before .before .before .before .before .before .before .before .before .before .before .before .before .before .before .before .before .before .before .pre .1 .0) (c .before .before .before .before .before .before .before .before .before .before .before .before .before .before .before .before .before .before .before .before .before .before .before .before .before .before .before .pre .1 .1) (c .before .before .before .before .before .before .before .before .before .before .before .before .before .before .before .before .before .before .before .before .before .node-t .ensures .0) (c .before .before .before .before .before .before .before .before .before .before .before .before .before .before .before .before .before .before .before .before .type-a .ensures .0) (c .before .before .before .before .before .before .before .before .before .before .before .before .before .before .before .before .before .before .before .is-formed .ensures) (c .before .before .before .before .before .before .before .before .before .before .before .before .before .before .before .before .before .before .if1 .left)) (c .before .before .before .before .before .before .before .before .before .before .before .before .before .before .expression .ensures) (c .before .before .before .before .before .before .judgement .given .1)) ((c .before .before .before .before .before .before .before .before .before .before .before .before .before .before .before .before .before .before .before .before .before .before .before .before .before .before .before .pre .1 .0) .within) ((default-within (c .before .before .before .before .before .before .before .before .before .before .before .before .before .before .before .before .before .before .before .before .before .before .before .before .before .before .before .pre .1 .0) (c .before .before .before .before .before .before .before .before .before .before .before .before .before .before .before .before .before .before .before .before .before .before .before .before .before .before .before .pre .1 .1) (c .before .before .before .before .before .before .before .before .before .before .before .before .before .before .before .before .before .before .before .before .before .node-t .ensures .0) (c .before .before .before .before .before .before .before .before .before .before .before .before .before .before .before .before .before .before .before .before .type-a .ensures .0)) .0)
+typed-requires t c κs = row-fits (child-fine (default-first (c .before .before .before .before .before .before .before .before .before .before .before .before .before .before .before .before .before .before .before .before .before .before .before .before .before .before .before .before .pre .1 .0) (c .before .before .before .before .before .before .before .before .before .before .before .before .before .before .before .before .before .before .before .before .before .before .before .before .before .before .before .before .pre .1 .1) (c .before .before .before .before .before .before .before .before .before .before .before .before .before .before .before .before .before .before .before .before .before .before .node-t .ensures .0) (c .before .before .before .before .before .before .before .before .before .before .before .before .before .before .before .before .before .before .before .before .before .type-a .ensures .0) (c .before .before .before .before .before .before .before .before .before .before .before .before .before .before .before .before .before .before .before .before .is-formed .ensures) (c .before .before .before .before .before .before .before .before .before .before .before .before .before .before .before .before .before .before .before .if1 .left)) (c .before .before .before .before .before .before .before .before .before .before .before .before .before .before .expression .ensures) (c .before .before .before .before .before .before .judgement .given .1)) ((c .before .before .before .before .before .before .before .before .before .before .before .before .before .before .before .before .before .before .before .before .before .before .before .before .before .before .before .before .pre .1 .0) .within) ((default-within (c .before .before .before .before .before .before .before .before .before .before .before .before .before .before .before .before .before .before .before .before .before .before .before .before .before .before .before .before .pre .1 .0) (c .before .before .before .before .before .before .before .before .before .before .before .before .before .before .before .before .before .before .before .before .before .before .before .before .before .before .before .before .pre .1 .1) (c .before .before .before .before .before .before .before .before .before .before .before .before .before .before .before .before .before .before .before .before .before .before .node-t .ensures .0) (c .before .before .before .before .before .before .before .before .before .before .before .before .before .before .before .before .before .before .before .before .before .type-a .ensures .0)) .0)
 
 same-length-10 : (t : ℕ) → zeroed-lts.Need-same-length-10 (claims t) (zeroed-at t) zeroed.Post
 same-length-10 t c = omega (arith, c .before .before .before .before .before .before .before .before .before .before .before .before .before .before .before .before .before .expression, c .before .before .typed)
@@ -68,7 +68,7 @@ same-length-12 : (t : ℕ) → zeroed-lts.Need-same-length-12 (claims t) (zeroed
 same-length-12 t c = omega (arith, c .before .before .before .before .before .before .before .before .before .before .before .before .before .before .before .before .before .expression, c .before .before .typed)
 
 returns-5 : (t : ℕ) → zeroed-lts.Need-returns-5 (claims t) (zeroed-at t) zeroed.Post
-returns-5 t c = default-ok (c .before .before .before .before .before .before .before .before .before .before .before .before .before .before .before .before .before .before .before .before .before .before .before .before .before .before .before .before .before .before .pre .1 .0) (c .before .before .before .before .before .before .before .before .before .before .before .before .before .before .before .before .before .before .before .before .before .before .before .before .before .before .before .before .before .before .pre .1 .1) (c .before .before .before .before .before .before .before .before .before .before .before .before .before .before .before .before .before .before .before .before .before .before .before .before .node-t .ensures .0) (c .before .before .before .before .before .before .before .before .before .before .before .before .before .before .before .before .before .before .before .before .before .before .before .type-a .ensures .0) (c .before .before .before .before .before .before .before .before .before .before .before .before .before .before .before .before .before .before .before .before .before .before .is-formed .ensures) (c .before .before .before .before .before .before .before .before .before .before .before .before .before .before .before .before .before .before .before .before .before .if1 .left) (c .before .before .before .before .before .before .before .before .before .before .before .before .before .before .before .before .before .expression .ensures) (c .before .before .before .before .before .before .before .before .before .judgement .given .1) (c .before .before .before .before .before .before .before .type-kind .ensures .0) (c .before .before .before .before .before .before .if2 .left) (c .before .before .before .before .before .has-default .ensures) (c .before .before .before .before .if3 .left) (c .before .before .typed .ensures .0) (c .before .before .typed .ensures .1)
+returns-5 t c = default-ok (c .before .before .before .before .before .before .before .before .before .before .before .before .before .before .before .before .before .before .before .before .before .before .before .before .before .before .before .before .before .before .before .pre .1 .0) (c .before .before .before .before .before .before .before .before .before .before .before .before .before .before .before .before .before .before .before .before .before .before .before .before .before .before .before .before .before .before .before .pre .1 .1) (c .before .before .before .before .before .before .before .before .before .before .before .before .before .before .before .before .before .before .before .before .before .before .before .before .before .node-t .ensures .0) (c .before .before .before .before .before .before .before .before .before .before .before .before .before .before .before .before .before .before .before .before .before .before .before .before .type-a .ensures .0) (c .before .before .before .before .before .before .before .before .before .before .before .before .before .before .before .before .before .before .before .before .before .before .before .is-formed .ensures) (c .before .before .before .before .before .before .before .before .before .before .before .before .before .before .before .before .before .before .before .before .before .before .if1 .left) (c .before .before .before .before .before .before .before .before .before .before .before .before .before .before .before .before .before .expression .ensures) (c .before .before .before .before .before .before .before .before .before .judgement .given .1) (c .before .before .before .before .before .before .before .type-kind .ensures .0) (c .before .before .before .before .before .before .if2 .left) (c .before .before .before .before .before .has-default .ensures) (c .before .before .before .before .if3 .left) (c .before .before .typed .ensures .0) (c .before .before .typed .ensures .1)
 
 pub closed : {M : Type 1} (t : ℕ) → zeroed-lts.Closed (claims t) (zeroed-at t) zeroed.Post M
-closed t = zeroed-lts.spec (claims t) (zeroed-at t) zeroed.Post (node-t-requires t) (type-a-requires t) (is-formed-requires t) (λ c κs. search needs) (returns t) (add-expression t) (expression-requires t) (λ c. search needs) (λ c. search needs) (λ c. search needs) (λ c. search needs) (returns-2 t) (type-kind-requires t) (λ c κs. search needs) (λ c. search needs) (λ c. search needs) (λ c. search needs) (returns-3 t) (has-default-requires t) (λ c κs. search needs) (λ c. search needs) (λ c. search needs) (λ c. search needs) (returns-4 t) (typed-requires t) (same-length-10 t) (same-length-11 t) (same-length-12 t) (returns-5 t)
+closed t = zeroed-lts.spec (claims t) (zeroed-at t) zeroed.Post (node-t-requires t) (type-a-requires t) (is-formed-requires t) (λ c κs. search needs) (returns t) (add-if2 t) (expression-requires t) (λ c. search needs) (λ c. search needs) (λ c. search needs) (λ c. search needs) (returns-2 t) (type-kind-requires t) (λ c κs. search needs) (λ c. search needs) (λ c. search needs) (λ c. search needs) (returns-3 t) (has-default-requires t) (λ c κs. search needs) (λ c. search needs) (λ c. search needs) (λ c. search needs) (returns-4 t) (typed-requires t) (same-length-10 t) (same-length-11 t) (same-length-12 t) (returns-5 t)

@@ -3,6 +3,8 @@ use borrow.Author.Needs.{needs}
 use Prim.Native.Nat.{ℕ, _+_, _*_, _-_, _≤_, _<_}
 use native.Mathlib.Omega.{arith}
 use mathlib.Core.Path.{_≡_, refl, sym, _∙_}
+use Rattle.answers.proofs.answer.goes_on.Reads as goes-on-reads
+use Rattle.answers.proofs.LawsAnswers.{answered}
 use Rattle.statements.proofs.cycle.+arms+block+for_loop+if_else+if_null+statement+statements+step+turn+while_loop.Lts-arms as arms-lts
 use Rattle.statements.proofs.cycle.arms.Reads as arms
 use Rattle.statements.proofs.cycle.block.Reads as block
@@ -13,7 +15,7 @@ use Rattle.statements.proofs.LawsBlocks.{unrefused}
 use Rattle.statements.proofs.LawsArms.{arms-first, arms-no, arms-left, arms-asked, arms-no-2, arms-goes, arms-ok}
 
 abbrev claims : ℕ → arms-lts.Claims
-claims t = (block-below t, block.Post, leave-reads.Asked, leave-reads.Learnt, mark-of-reads.Asked, mark-of-reads.Learnt)
+claims t = (block-below t, block.Post, leave-reads.Asked, leave-reads.Learnt, mark-of-reads.Asked, mark-of-reads.Learnt, goes-on-reads.Asked, goes-on-reads.Learnt)
 
 block-requires : (t : ℕ) → arms-lts.Need-block-requires (claims t) (arms-at t) arms.Post
 block-requires t c κs = (omega (arith, c .before .before .before .before .before .before .before .before .pre .0), arms-first (c .before .before .before .before .before .before .before .before .pre .1))
@@ -40,16 +42,16 @@ returns-2 : (t : ℕ) → arms-lts.Need-returns-2 (claims t) (arms-at t) arms.Po
 returns-2 t c = arms-no-2 (c .before .before .before .before .before .before .before .before .before .before .before .before .before .before .before .before .before .before .before .before .before .before .before .before .before .before .before .before .before .before .before .before .before .pre .1) (c .before .before .before .before .before .before .before .before .before .before .before .before .before .before .before .before .before .before .before .before .before .before .before .before .block .ensures) (unrefused _ (c .before .before .before .before .before .before .before .before .before .before .before .before .before .before .before .before .before .match .keys2)) (c .before .before .before .before .before .before .before .before .before .before .before .before .before .before .leave .ensures) (c .before .before .before .before .before .before .before .before .block2 .ensures) (c .enum-told2 .given .1)
 
 same-length-7 : (t : ℕ) → arms-lts.Need-same-length-7 (claims t) (arms-at t) arms.Post
-same-length-7 t c = omega (arith, c .before .before .before .before .before .before .before .before .before .before .before .before .before .before .before .before .before .before .before .before .before .before .before .before .before .block, c .before .before .before .before .before .before .before .before .before .block2, c .before .before .before .before .before .before .before .before .before .before .before .before .before .before .before .leave)
+same-length-7 t c = omega (arith, c .before .before .before .before .before .before .before .before .before .before .before .before .before .before .before .before .before .before .before .before .before .before .before .before .before .before .block, c .before .before .before .before .before .before .before .before .before .before .block2, c .before .before .before .before .before .before .before .before .before .before .before .before .before .before .before .before .leave)
 
 same-length-8 : (t : ℕ) → arms-lts.Need-same-length-8 (claims t) (arms-at t) arms.Post
-same-length-8 t c = omega (arith, c .before .before .before .before .before .before .before .before .before .before .before .before .before .before .before .before .before .before .before .before .before .before .before .before .before .block, c .before .before .before .before .before .before .before .before .before .block2, c .before .before .before .before .before .before .before .before .before .before .before .before .before .before .before .leave)
+same-length-8 t c = omega (arith, c .before .before .before .before .before .before .before .before .before .before .before .before .before .before .before .before .before .before .before .before .before .before .before .before .before .before .block, c .before .before .before .before .before .before .before .before .before .before .block2, c .before .before .before .before .before .before .before .before .before .before .before .before .before .before .before .before .leave)
 
 same-length-9 : (t : ℕ) → arms-lts.Need-same-length-9 (claims t) (arms-at t) arms.Post
-same-length-9 t c = omega (arith, c .before .before .before .before .before .before .before .before .before .before .before .before .before .before .before .before .before .before .before .before .before .before .before .before .before .block, c .before .before .before .before .before .before .before .before .before .block2, c .before .before .before .before .before .before .before .before .before .before .before .before .before .before .before .leave)
+same-length-9 t c = omega (arith, c .before .before .before .before .before .before .before .before .before .before .before .before .before .before .before .before .before .before .before .before .before .before .before .before .before .before .block, c .before .before .before .before .before .before .before .before .before .before .block2, c .before .before .before .before .before .before .before .before .before .before .before .before .before .before .before .before .leave)
 
 returns-3 : (t : ℕ) → arms-lts.Need-returns-3 (claims t) (arms-at t) arms.Post
-returns-3 t c = arms-goes (c .before .before .before .before .before .before .before .before .before .before .before .before .before .before .before .before .before .before .before .before .before .before .before .before .before .before .before .before .before .before .before .before .before .before .pre .1) (c .before .before .before .before .before .before .before .before .before .before .before .before .before .before .before .before .before .before .before .before .before .before .before .before .before .block .ensures) (unrefused _ (c .before .before .before .before .before .before .before .before .before .before .before .before .before .before .before .before .before .before .match .keys2)) (c .before .before .before .before .before .before .before .before .before .before .before .before .before .before .before .leave .ensures) (c .before .before .before .before .before .before .before .before .before .block2 .ensures) (unrefused _ (c .before .before .match2 .keys2)) (c .before .mark-of .ensures .0) (c .if1 .taken) refl
+returns-3 t c = arms-goes (c .before .before .before .before .before .before .before .before .before .before .before .before .before .before .before .before .before .before .before .before .before .before .before .before .before .before .before .before .before .before .before .before .before .before .before .pre .1) (c .before .before .before .before .before .before .before .before .before .before .before .before .before .before .before .before .before .before .before .before .before .before .before .before .before .before .block .ensures) (unrefused _ (c .before .before .before .before .before .before .before .before .before .before .before .before .before .before .before .before .before .before .before .match .keys2)) (c .before .before .before .before .before .before .before .before .before .before .before .before .before .before .before .before .leave .ensures) (c .before .before .before .before .before .before .before .before .before .before .block2 .ensures) (unrefused _ (c .before .before .before .match2 .keys2)) (c .before .before .mark-of .ensures .0) (c .before .if1 .taken) (answered (c .goes-on .ensures) refl refl)
 
 same-length-10 : (t : ℕ) → arms-lts.Need-same-length-10 (claims t) (arms-at t) arms.Post
 same-length-10 t c = omega (arith, c .before .before .before .before .before .before .before .before .before .before .before .before .before .before .before .before .before .before .before .before .before .before .before .before .before .block, c .before .before .before .before .before .before .before .before .before .block2, c .before .before .before .before .before .before .before .before .before .before .before .before .before .before .before .leave)
@@ -64,4 +66,4 @@ returns-4 : (t : ℕ) → arms-lts.Need-returns-4 (claims t) (arms-at t) arms.Po
 returns-4 t c = arms-ok (c .before .before .before .before .before .before .before .before .before .before .before .before .before .before .before .before .before .before .before .before .before .before .before .before .before .before .before .before .before .before .before .before .before .before .pre .1) (c .before .before .before .before .before .before .before .before .before .before .before .before .before .before .before .before .before .before .before .before .before .before .before .before .before .block .ensures) (unrefused _ (c .before .before .before .before .before .before .before .before .before .before .before .before .before .before .before .before .before .before .match .keys2)) (c .before .before .before .before .before .before .before .before .before .before .before .before .before .before .before .leave .ensures) (c .before .before .before .before .before .before .before .before .before .block2 .ensures) (unrefused _ (c .before .before .match2 .keys2)) (c .before .mark-of .ensures .0) (c .if1 .left)
 
 pub closed : {M : Type 1} (t : ℕ) → arms-lts.Closed (claims t) (arms-at t) arms.Post M
-closed t = arms-lts.spec (claims t) (arms-at t) arms.Post (block-requires t) (λ c. search needs) (λ c. search needs) (λ c. search needs) (λ c. search needs) (returns t) (leave-requires t) (block-requires-2 t) (λ c. search needs) (same-length-4 t) (same-length-5 t) (same-length-6 t) (returns-2 t) (λ c κs. search needs) (same-length-7 t) (same-length-8 t) (same-length-9 t) (returns-3 t) (same-length-10 t) (same-length-11 t) (same-length-12 t) (returns-4 t)
+closed t = arms-lts.spec (claims t) (arms-at t) arms.Post (block-requires t) (λ c. search needs) (λ c. search needs) (λ c. search needs) (λ c. search needs) (returns t) (leave-requires t) (block-requires-2 t) (λ c. search needs) (same-length-4 t) (same-length-5 t) (same-length-6 t) (returns-2 t) (λ c κs. search needs) (λ c κs. search needs) (same-length-7 t) (same-length-8 t) (same-length-9 t) (returns-3 t) (same-length-10 t) (same-length-11 t) (same-length-12 t) (returns-4 t)

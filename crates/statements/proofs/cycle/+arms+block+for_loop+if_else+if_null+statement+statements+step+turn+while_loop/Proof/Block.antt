@@ -3,6 +3,7 @@ use borrow.Author.Needs.{needs}
 use Prim.Native.Nat.{ℕ, _+_, _*_, _-_, _≤_, _<_}
 use native.Mathlib.Omega.{arith}
 use mathlib.Core.Path.{_≡_, refl, sym, _∙_}
+use Rattle.answers.proofs.LawsAnswers.{answered}
 use Rattle.statements.proofs.cycle.+arms+block+for_loop+if_else+if_null+statement+statements+step+turn+while_loop.Lts-block as block-lts
 use Rattle.statements.proofs.cycle.block.Reads as block
 use Rattle.statements.proofs.cycle.statements.Reads as statements
@@ -17,23 +18,23 @@ use Rattle.statements.proofs.LawsBlock.{block-node, block-call, block-r
 abbrev claims : ℕ → block-lts.Claims
 claims t = (node-children-reads.Asked, node-children-reads.Learnt, statements-below t, statements.Post, leave-reads.Asked, leave-reads.Learnt, mark-of-reads.Asked, mark-of-reads.Learnt, ends-reads.Asked, ends-reads.Learnt)
 
-add-statements : (t : ℕ) → block-lts.Need-add-statements (claims t) (block-at t) block.Post
-add-statements t c = omega (arith, (c .before .before .before .before .before .before .before .before .pre .1) .within, (c .before .before .before .before .before .before .before .before .pre .1) .fine .good-tables .laid .nodes-most)
+add-ends : (t : ℕ) → block-lts.Need-add-ends (claims t) (block-at t) block.Post
+add-ends t c = omega (arith, (c .before .before .before .before .before .before .before .before .before .pre .1) .within, (c .before .before .before .before .before .before .before .before .before .pre .1) .fine .good-tables .laid .nodes-most)
 
 node-children-requires : (t : ℕ) → block-lts.Need-node-children-requires (claims t) (block-at t) block.Post
-node-children-requires t c κs = block-node (c .before .before .before .before .before .before .before .before .pre .1)
+node-children-requires t c κs = block-node (c .before .before .before .before .before .before .before .before .before .pre .1)
 
 statements-requires : (t : ℕ) → block-lts.Need-statements-requires (claims t) (block-at t) block.Post
-statements-requires t c κs = (omega (arith, c .before .before .before .before .before .before .before .before .before .pre .0, (c .before .before .before .before .before .before .before .before .before .pre .1) .within), block-call (c .before .before .before .before .before .before .before .before .before .pre .1) (c .node-children .ensures .0))
+statements-requires t c κs = (omega (arith, c .before .before .before .before .before .before .before .before .before .before .pre .0, (c .before .before .before .before .before .before .before .before .before .before .pre .1) .within), block-call (c .before .before .before .before .before .before .before .before .before .before .pre .1) (c .node-children .ensures .0))
 
 returns : (t : ℕ) → block-lts.Need-returns (claims t) (block-at t) block.Post
-returns t c = block-refused (c .before .before .before .before .before .before .before .before .before .before .before .before .before .before .before .before .before .before .pre .1) (c .before .before .before .before .before .before .before .before .before .node-children .ensures .0) (c .before .before .before .before .before .before .before .before .statements .ensures) (c .enum-told .given .1)
+returns t c = block-refused (c .before .before .before .before .before .before .before .before .before .before .before .before .before .before .before .before .before .before .before .pre .1) (c .before .before .before .before .before .before .before .before .before .node-children .ensures .0) (c .before .before .before .before .before .before .before .before .statements .ensures) (c .enum-told .given .1)
 
 leave-requires : (t : ℕ) → block-lts.Need-leave-requires (claims t) (block-at t) block.Post
-leave-requires t c κs = block-left (c .before .before .before .before .before .before .before .before .before .before .before .before .before .before .before .before .before .before .before .pre .1) (c .before .before .before .before .before .before .before .before .before .before .node-children .ensures .0) (c .before .before .before .before .before .before .before .before .before .statements .ensures) (unrefused _ (c .before .before .match .keys2))
+leave-requires t c κs = block-left (c .before .before .before .before .before .before .before .before .before .before .before .before .before .before .before .before .before .before .before .before .pre .1) (c .before .before .before .before .before .before .before .before .before .before .node-children .ensures .0) (c .before .before .before .before .before .before .before .before .before .statements .ensures) (unrefused _ (c .before .before .match .keys2))
 
 ends-requires : (t : ℕ) → block-lts.Need-ends-requires (claims t) (block-at t) block.Post
-ends-requires t c κs = block-ends (c .before .before .before .before .before .before .before .before .before .before .before .before .before .before .before .before .before .before .before .before .before .before .before .before .pre .1) (c .before .before .before .before .before .before .before .before .before .before .before .before .before .before .before .node-children .ensures .0) (c .before .before .before .before .before .before .before .before .before .before .before .before .before .before .statements .ensures) (unrefused _ (c .before .before .before .before .before .before .before .match .keys2)) (c .mark-of .ensures .1)
+ends-requires t c κs = block-ends (c .before .before .before .before .before .before .before .before .before .before .before .before .before .before .before .before .before .before .before .before .before .before .before .before .before .pre .1) (c .before .before .before .before .before .before .before .before .before .before .before .before .before .before .before .node-children .ensures .0) (c .before .before .before .before .before .before .before .before .before .before .before .before .before .before .statements .ensures) (unrefused _ (c .before .before .before .before .before .before .before .match .keys2)) (c .mark-of .ensures .1)
 
 same-length-4 : (t : ℕ) → block-lts.Need-same-length-4 (claims t) (block-at t) block.Post
 same-length-4 t c = omega (arith, c .before .before .before .before .before .before .before .before .before .before .before .before .before .before .before .before .before .statements, c .before .before .ends, c .before .before .before .before .before .before .before .leave)
@@ -45,7 +46,7 @@ same-length-6 : (t : ℕ) → block-lts.Need-same-length-6 (claims t) (block-at 
 same-length-6 t c = omega (arith, c .before .before .before .before .before .before .before .before .before .before .before .before .before .before .before .before .before .statements, c .before .before .ends, c .before .before .before .before .before .before .before .leave)
 
 returns-2 : (t : ℕ) → block-lts.Need-returns-2 (claims t) (block-at t) block.Post
-returns-2 t c = block-ok (c .before .before .before .before .before .before .before .before .before .before .before .before .before .before .before .before .before .before .before .before .before .before .before .before .before .before .before .pre .1) (c .before .before .before .before .before .before .before .before .before .before .before .before .before .before .before .before .before .before .node-children .ensures .0) (c .before .before .before .before .before .before .before .before .before .before .before .before .before .before .before .before .before .statements .ensures) (unrefused _ (c .before .before .before .before .before .before .before .before .before .before .match .keys2)) (c .before .before .before .before .before .before .before .leave .ensures) (c .before .before .before .mark-of .ensures .0) (c .before .before .ends .ensures .0) (c .before .before .ends .ensures .1)
+returns-2 t c = block-ok (c .before .before .before .before .before .before .before .before .before .before .before .before .before .before .before .before .before .before .before .before .before .before .before .before .before .before .before .before .pre .1) (c .before .before .before .before .before .before .before .before .before .before .before .before .before .before .before .before .before .before .node-children .ensures .0) (c .before .before .before .before .before .before .before .before .before .before .before .before .before .before .before .before .before .statements .ensures) (unrefused _ (c .before .before .before .before .before .before .before .before .before .before .match .keys2)) (c .before .before .before .before .before .before .before .leave .ensures) (c .before .before .before .mark-of .ensures .0) (answered (c .before .before .ends .ensures .0) refl refl) (c .before .before .ends .ensures .1)
 
 pub closed : {M : Type 1} (t : ℕ) → block-lts.Closed (claims t) (block-at t) block.Post M
-closed t = block-lts.spec (claims t) (block-at t) block.Post (add-statements t) (node-children-requires t) (statements-requires t) (λ c. search needs) (λ c. search needs) (λ c. search needs) (λ c. search needs) (returns t) (leave-requires t) (λ c κs. search needs) (ends-requires t) (same-length-4 t) (same-length-5 t) (same-length-6 t) (returns-2 t)
+closed t = block-lts.spec (claims t) (block-at t) block.Post (add-ends t) (node-children-requires t) (statements-requires t) (λ c. search needs) (λ c. search needs) (λ c. search needs) (λ c. search needs) (returns t) (leave-requires t) (λ c κs. search needs) (ends-requires t) (same-length-4 t) (same-length-5 t) (same-length-6 t) (returns-2 t)

@@ -3,31 +3,32 @@ use borrow.Author.Needs.{needs}
 use Prim.Native.Nat.{ℕ, _+_, _*_, _-_, _≤_, _<_}
 use native.Mathlib.Omega.{arith}
 use mathlib.Core.Path.{_≡_, refl, sym, _∙_}
+use Rattle.answers.proofs.LawsAnswers.{answered}
 use Rattle.statements.proofs.cycle.+arms+block+for_loop+if_else+if_null+statement+statements+step+turn+while_loop.Lts-statements as statements-lts
 use Rattle.statements.proofs.cycle.statement.Reads as statement′
 use Rattle.statements.proofs.cycle.statements.Reads as statements
 use Rattle.answers.proofs.answer.refused.Reads as refused-reads
-use Rattle.simple_statements.proofs.marks.judgement_of.Reads as judgement-of-reads
+use Rattle.simple_statements.proofs.marks.with_mark.Reads as with-mark-reads
 use Rattle.simple_statements.proofs.marks.mark_of.Reads as mark-of-reads
 use Rattle.statements.proofs.cycle.+arms+block+for_loop+if_else+if_null+statement+statements+step+turn+while_loop.Proof.Measures.{statements-at, statement-below}
 use Rattle.statements.proofs.LawsBlocks.{unrefused}
-use Rattle.statements.proofs.LawsRun.{WalkedStmts, run-start, run-forward, run-stops, run-ready, run-asked, run-no, run-again, run-told}
+use Rattle.statements.proofs.LawsRun.{WalkedStmts, run-start, run-forward, run-stops, run-ready, run-asked, run-no, run-again, run-done}
 use lib.ListN.{length}
 
 abbrev claims : ℕ → statements-lts.Claims
-claims t = (refused-reads.Asked, refused-reads.Learnt, statement-below t, statement′.Post, mark-of-reads.Asked, mark-of-reads.Learnt, judgement-of-reads.Asked, judgement-of-reads.Learnt)
+claims t = (refused-reads.Asked, refused-reads.Learnt, statement-below t, statement′.Post, mark-of-reads.Asked, mark-of-reads.Learnt, with-mark-reads.Asked, with-mark-reads.Learnt)
 
 abbrev Inv-loop : statements-lts.InvT-loop
-Inv-loop = λ file sections index rows₀ work₀ chains₀ base result node scope count parent at₀ height₀ last₀ mark₀ i₀ rows work chains at height last mark i. WalkedStmts file sections index base result node scope rows₀ work₀ count parent at height last mark i rows work chains × (length rows ≡ length rows₀) × (length work ≡ length work₀) × (length chains ≡ length chains₀)
+Inv-loop = λ file frame index rows₀ work₀ chains₀ count parent here₀ last₀ mark₀ i₀ rows work chains here last mark i. WalkedStmts file (frame .sections) index (frame .base) (frame .result) (here₀ .node) (here₀ .scope) rows₀ work₀ count parent (here .node) (here .scope) last mark i rows work chains × (length rows ≡ length rows₀) × (length work ≡ length work₀) × (length chains ≡ length chains₀)
 
 abbrev μ-loop : statements-lts.MeasureT-loop
-μ-loop = λ file sections index rows₀ work₀ chains₀ base result node scope count parent at₀ height₀ last₀ mark₀ i₀ rows work chains at height last mark i. count - i
+μ-loop = λ file frame index rows₀ work₀ chains₀ count parent here₀ last₀ mark₀ i₀ rows work chains here last mark i. count - i
 
 loop-holds : (t : ℕ) → statements-lts.Need-loop-holds (claims t) (statements-at t) statements.Post Inv-loop μ-loop
 loop-holds t c = (run-start (c .before .before .before .before .before .pre .1), refl, refl, refl)
 
 returns : (t : ℕ) → statements-lts.Need-returns (claims t) (statements-at t) statements.Post Inv-loop μ-loop
-returns t c = run-stops (c .before .before .before .before .before .before .before .before .before .pre .1) (c .before .before .before .loop .inv .0) (c .before .before .loop-test .taken) (c .before .if1 .taken) (c .refused .ensures)
+returns t c = run-stops (c .before .before .before .before .before .before .before .before .before .pre .1) (c .before .before .before .loop .inv .0) (c .before .before .loop-test .taken) (c .before .if1 .taken) (c .refused .ensures .0)
 
 statement-requires : (t : ℕ) → statements-lts.Need-statement-requires (claims t) (statements-at t) statements.Post Inv-loop μ-loop
 statement-requires t c κs = (omega (arith, c .before .before .before .before .before .before .before .before .before .before .before .pre .0, run-forward (c .before .before .before .before .before .before .before .before .before .before .before .pre .1) (c .before .before .before .before .before .loop .inv .0), run-ready (c .before .before .before .before .before .before .before .before .before .before .before .pre .1) (c .before .before .before .before .before .loop .inv .0) (c .before .before .before .before .loop-test .taken) .within), run-asked (c .before .before .before .before .before .before .before .before .before .before .before .pre .1) (c .before .before .before .before .before .loop .inv .0) (c .before .before .before .before .loop-test .taken))
@@ -36,16 +37,16 @@ returns-2 : (t : ℕ) → statements-lts.Need-returns-2 (claims t) (statements-a
 returns-2 t c = run-no (c .before .before .before .before .before .before .before .before .before .before .before .before .before .before .before .before .before .before .before .before .pre .1) (c .before .before .before .before .before .before .before .before .before .before .before .before .before .before .loop .inv .0) (c .before .before .before .before .before .before .before .before .before .before .before .before .before .loop-test .taken) (c .before .before .before .before .before .before .before .before .before .before .before .before .if1 .left) (c .before .before .before .before .before .before .before .before .statement .ensures) (c .enum-told .given .1)
 
 add-i : (t : ℕ) → statements-lts.Need-add-i (claims t) (statements-at t) statements.Post Inv-loop μ-loop
-add-i t c = omega (arith, c .before .before .before .before .before .before .before .before .before .before .before .before .before .loop-test .taken, c .before .before .before .before .before .before .before .before .before .before .before .before .before .before .before .before .before .before .before .before .fits .count)
+add-i t c = omega (arith, c .before .before .before .before .before .before .before .before .before .before .before .before .before .before .loop-test .taken, c .before .before .before .before .before .before .before .before .before .before .before .before .before .before .before .before .before .before .before .before .before .fits .count)
 
 loop-less : (t : ℕ) → statements-lts.Need-loop-less (claims t) (statements-at t) statements.Post Inv-loop μ-loop
-loop-less t c = omega (arith, c .before .before .before .before .before .before .before .before .before .before .before .before .before .loop-test .taken)
+loop-less t c = omega (arith, c .before .before .before .before .before .before .before .before .before .before .before .before .before .before .loop-test .taken)
 
 loop-again : (t : ℕ) → statements-lts.Need-loop-again (claims t) (statements-at t) statements.Post Inv-loop μ-loop
-loop-again t c = (run-again (c .before .before .before .before .before .before .before .before .before .before .before .before .before .before .before .before .before .before .before .before .pre .1) (c .before .before .before .before .before .before .before .before .before .before .before .before .before .before .loop .inv .0) (c .before .before .before .before .before .before .before .before .before .before .before .before .before .loop-test .taken) (c .before .before .before .before .before .before .before .before .before .before .before .before .if1 .left) (c .before .before .before .before .before .before .before .before .statement .ensures) (unrefused _ (c .before .match .keys2)) (c .mark-of .ensures .0), search needs, search needs, search needs)
+loop-again t c = (run-again (c .before .before .before .before .before .before .before .before .before .before .before .before .before .before .before .before .before .before .before .before .before .pre .1) (c .before .before .before .before .before .before .before .before .before .before .before .before .before .before .before .loop .inv .0) (c .before .before .before .before .before .before .before .before .before .before .before .before .before .before .loop-test .taken) (c .before .before .before .before .before .before .before .before .before .before .before .before .before .if1 .left) (c .before .before .before .before .before .before .before .before .before .statement .ensures) (unrefused _ (c .before .before .match .keys2)) (c .before .mark-of .ensures .0), search needs, search needs, search needs)
 
 returns-3 : (t : ℕ) → statements-lts.Need-returns-3 (claims t) (statements-at t) statements.Post Inv-loop μ-loop
-returns-3 t c = run-told (c .before .before .before .before .before .before .before .before .pre .1) (c .before .before .loop .inv .0) (c .before .loop-test .left) (c .judgement-of .ensures) refl
+returns-3 t c = run-done (c .before .before .before .before .before .before .before .before .pre .1) (c .before .before .loop .inv .0) (c .before .loop-test .left) (answered (c .with-mark .ensures) refl refl)
 
 pub closed : {M : Type 1} (t : ℕ) → statements-lts.Closed (claims t) (statements-at t) statements.Post M
 closed t = statements-lts.spec (claims t) (statements-at t) statements.Post Inv-loop μ-loop (loop-holds t) (λ c κs. search needs) (λ c. search needs) (λ c. search needs) (λ c. search needs) (returns t) (statement-requires t) (λ c. search needs) (λ c. search needs) (λ c. search needs) (λ c. search needs) (returns-2 t) (λ c κs. search needs) (add-i t) (loop-less t) (loop-again t) (λ c κs. search needs) (λ c. search needs) (λ c. search needs) (λ c. search needs) (returns-3 t)

@@ -3,6 +3,8 @@ use borrow.Author.Needs.{needs}
 use Prim.Native.Nat.{ℕ, _+_, _*_, _-_, _≤_, _<_}
 use native.Mathlib.Omega.{arith}
 use mathlib.Core.Path.{_≡_, refl, sym, _∙_}
+use Rattle.answers.proofs.answer.goes_on.Reads as goes-on-reads
+use Rattle.answers.proofs.LawsAnswers.{answered}
 use Rattle.statements.proofs.cycle.+arms+block+for_loop+if_else+if_null+statement+statements+step+turn+while_loop.Lts-step as step-lts
 use Rattle.statements.proofs.cycle.statement.Reads as statement′
 use Rattle.statements.proofs.cycle.step.Reads as step
@@ -16,19 +18,19 @@ use Rattle.statements.proofs.LawsBlocks.{unrefused}
 use Rattle.statements.proofs.LawsStep.{step-node, step-fits, step-absent, step-first, step-no, step-returns, step-leaves, step-ok}
 
 abbrev claims : ℕ → step-lts.Claims
-claims t = (node-kind-reads.Asked, node-kind-reads.Learnt, ends-reads.Asked, ends-reads.Learnt, statement-below t, statement′.Post, mark-of-reads.Asked, mark-of-reads.Learnt, refused-reads.Asked, refused-reads.Learnt, leave-reads.Asked, leave-reads.Learnt)
+claims t = (node-kind-reads.Asked, node-kind-reads.Learnt, ends-reads.Asked, ends-reads.Learnt, statement-below t, statement′.Post, mark-of-reads.Asked, mark-of-reads.Learnt, refused-reads.Asked, refused-reads.Learnt, leave-reads.Asked, leave-reads.Learnt, goes-on-reads.Asked, goes-on-reads.Learnt)
 
 node-kind-requires : (t : ℕ) → step-lts.Need-node-kind-requires (claims t) (step-at t) step.Post
 node-kind-requires t c κs = step-node (c .before .before .before .before .before .pre .1)
 
-add-ends : (t : ℕ) → step-lts.Need-add-ends (claims t) (step-at t) step.Post
-add-ends t c = omega (arith, (c .before .before .before .before .before .before .before .before .pre .1) .within, (c .before .before .before .before .before .before .before .before .pre .1) .fine .good-tables .laid .nodes-most)
+add-t14 : (t : ℕ) → step-lts.Need-add-t14 (claims t) (step-at t) step.Post
+add-t14 t c = omega (arith, (c .before .before .before .before .before .before .before .before .before .pre .1) .within, (c .before .before .before .before .before .before .before .before .before .pre .1) .fine .good-tables .laid .nodes-most)
 
 ends-requires : (t : ℕ) → step-lts.Need-ends-requires (claims t) (step-at t) step.Post
-ends-requires t c κs = step-fits (c .before .before .before .before .before .before .before .before .pre .1)
+ends-requires t c κs = step-fits (c .before .before .before .before .before .before .before .before .before .pre .1)
 
 returns : (t : ℕ) → step-lts.Need-returns (claims t) (step-at t) step.Post
-returns t c = step-absent (c .before .before .before .before .before .before .before .before .before .before .before .pre .1) (c .before .before .before .before .before .node-kind .ensures .0) (c .before .before .before .before .if1 .taken) (c .before .before .ends .ensures .0) (c .before .before .ends .ensures .1)
+returns t c = step-absent (c .before .before .before .before .before .before .before .before .before .before .before .before .pre .1) (c .before .before .before .before .before .before .node-kind .ensures .0) (c .before .before .before .before .before .if1 .taken) (answered (c .before .before .ends .ensures .0) refl refl) (c .before .before .ends .ensures .1)
 
 statement-requires : (t : ℕ) → step-lts.Need-statement-requires (claims t) (step-at t) step.Post
 statement-requires t c κs = (omega (arith, c .before .before .before .before .before .before .before .before .before .before .pre .0), step-first (c .before .before .before .before .before .before .before .before .before .before .pre .1) (c .before .before .before .before .node-kind .ensures .0) (c .before .before .before .if1 .left))
@@ -37,22 +39,22 @@ returns-2 : (t : ℕ) → step-lts.Need-returns-2 (claims t) (step-at t) step.Po
 returns-2 t c = step-no (c .before .before .before .before .before .before .before .before .before .before .before .before .before .before .before .before .before .before .before .pre .1) (c .before .before .before .before .before .before .before .before .before .before .before .before .before .node-kind .ensures .0) (c .before .before .before .before .before .before .before .before .before .before .before .before .if1 .left) (c .before .before .before .before .before .before .before .before .statement .ensures) (c .enum-told .given .1)
 
 returns-3 : (t : ℕ) → step-lts.Need-returns-3 (claims t) (step-at t) step.Post
-returns-3 t c = step-returns (c .before .before .before .before .before .before .before .before .before .before .before .before .before .before .before .before .before .before .before .before .before .pre .1) (c .before .before .before .before .before .before .before .before .before .before .before .before .before .before .before .node-kind .ensures .0) (c .before .before .before .before .before .before .before .before .before .before .before .before .before .before .if1 .left) (c .before .before .before .before .before .before .before .before .before .before .statement .ensures) (unrefused _ (c .before .before .before .match .keys2)) (c .before .before .mark-of .ensures .0) (c .before .if2 .taken) (c .refused .ensures)
+returns-3 t c = step-returns (c .before .before .before .before .before .before .before .before .before .before .before .before .before .before .before .before .before .before .before .before .before .pre .1) (c .before .before .before .before .before .before .before .before .before .before .before .before .before .before .before .node-kind .ensures .0) (c .before .before .before .before .before .before .before .before .before .before .before .before .before .before .if1 .left) (c .before .before .before .before .before .before .before .before .before .before .statement .ensures) (unrefused _ (c .before .before .before .match .keys2)) (c .before .before .mark-of .ensures .0) (c .before .if2 .taken) (c .refused .ensures .0)
 
 leave-requires : (t : ℕ) → step-lts.Need-leave-requires (claims t) (step-at t) step.Post
 leave-requires t c κs = step-leaves (c .before .before .before .before .before .before .before .before .before .before .before .before .before .before .before .before .before .before .before .before .before .before .pre .1) (c .before .before .before .before .before .before .before .before .before .before .before .before .before .before .before .before .node-kind .ensures .0) (c .before .before .before .before .before .before .before .before .before .before .before .before .before .before .before .if1 .left) (c .before .before .before .before .before .before .before .before .before .before .before .statement .ensures) (unrefused _ (c .before .before .before .before .match .keys2))
 
 same-length-8 : (t : ℕ) → step-lts.Need-same-length-8 (claims t) (step-at t) step.Post
-same-length-8 t c = omega (arith, c .before .before .before .before .before .before .before .before .before .before .before .before .before .before .statement, c .before .before .leave)
+same-length-8 t c = omega (arith, c .before .before .before .before .before .before .before .before .before .before .before .before .before .before .before .statement, c .before .before .before .leave)
 
 same-length-9 : (t : ℕ) → step-lts.Need-same-length-9 (claims t) (step-at t) step.Post
-same-length-9 t c = omega (arith, c .before .before .before .before .before .before .before .before .before .before .before .before .before .before .statement, c .before .before .leave)
+same-length-9 t c = omega (arith, c .before .before .before .before .before .before .before .before .before .before .before .before .before .before .before .statement, c .before .before .before .leave)
 
 same-length-10 : (t : ℕ) → step-lts.Need-same-length-10 (claims t) (step-at t) step.Post
-same-length-10 t c = omega (arith, c .before .before .before .before .before .before .before .before .before .before .before .before .before .before .statement, c .before .before .leave)
+same-length-10 t c = omega (arith, c .before .before .before .before .before .before .before .before .before .before .before .before .before .before .before .statement, c .before .before .before .leave)
 
 returns-4 : (t : ℕ) → step-lts.Need-returns-4 (claims t) (step-at t) step.Post
-returns-4 t c = step-ok (c .before .before .before .before .before .before .before .before .before .before .before .before .before .before .before .before .before .before .before .before .before .before .before .before .before .pre .1) (c .before .before .before .before .before .before .before .before .before .before .before .before .before .before .before .before .before .before .before .node-kind .ensures .0) (c .before .before .before .before .before .before .before .before .before .before .before .before .before .before .before .before .before .before .if1 .left) (c .before .before .before .before .before .before .before .before .before .before .before .before .before .before .statement .ensures) (unrefused _ (c .before .before .before .before .before .before .before .match .keys2)) (c .before .before .before .before .before .before .mark-of .ensures .0) (c .before .before .before .before .before .if2 .left) (c .before .before .leave .ensures) refl
+returns-4 t c = step-ok (c .before .before .before .before .before .before .before .before .before .before .before .before .before .before .before .before .before .before .before .before .before .before .before .before .before .before .pre .1) (c .before .before .before .before .before .before .before .before .before .before .before .before .before .before .before .before .before .before .before .before .node-kind .ensures .0) (c .before .before .before .before .before .before .before .before .before .before .before .before .before .before .before .before .before .before .before .if1 .left) (c .before .before .before .before .before .before .before .before .before .before .before .before .before .before .before .statement .ensures) (unrefused _ (c .before .before .before .before .before .before .before .before .match .keys2)) (c .before .before .before .before .before .before .before .mark-of .ensures .0) (c .before .before .before .before .before .before .if2 .left) (c .before .before .before .leave .ensures) (answered (c .goes-on .ensures) refl refl)
 
 pub closed : {M : Type 1} (t : ℕ) → step-lts.Closed (claims t) (step-at t) step.Post M
-closed t = step-lts.spec (claims t) (step-at t) step.Post (node-kind-requires t) (add-ends t) (ends-requires t) (λ c. search needs) (returns t) (statement-requires t) (λ c. search needs) (λ c. search needs) (λ c. search needs) (λ c. search needs) (returns-2 t) (λ c κs. search needs) (λ c κs. search needs) (λ c. search needs) (λ c. search needs) (λ c. search needs) (returns-3 t) (leave-requires t) (same-length-8 t) (same-length-9 t) (same-length-10 t) (returns-4 t)
+closed t = step-lts.spec (claims t) (step-at t) step.Post (node-kind-requires t) (add-t14 t) (ends-requires t) (λ c. search needs) (returns t) (statement-requires t) (λ c. search needs) (λ c. search needs) (λ c. search needs) (λ c. search needs) (returns-2 t) (λ c κs. search needs) (λ c κs. search needs) (λ c. search needs) (λ c. search needs) (λ c. search needs) (returns-3 t) (leave-requires t) (λ c κs. search needs) (same-length-8 t) (same-length-9 t) (same-length-10 t) (returns-4 t)

@@ -27,11 +27,11 @@ add-scope c = omega (arith, body-numbers (c .before .before .before .before .bef
 type-a-requires : tie.Need-type-a-requires
 type-a-requires c κs = body-type (c .before .before .before .before .before .before .before .before .before .before .before .before .before .before .before .before .before .before .before .before .pre) (c .before .before .before .before .before .before .before .before .before .before .before .before .before .before .node-t .ensures .0)
 
-add-block : tie.Need-add-block
-add-block c = omega (arith, body-numbers (c .before .before .before .before .before .before .before .before .before .before .before .before .before .before .before .before .before .before .before .before .before .before .before .before .pre) (c .before .before .before .before .before .before .before .before .before .before .before .before .before .before .before .before .before .before .node-t .ensures .0) (c .before .before .before .before .before .before .before .before .before .before .before .before .before .before .before .before .before .type-b .ensures .0) (c .before .before .before .before .before .before .before .before .before .before .before .before .before .before .before .before .type-c .ensures .0) .1)
+add-t31 : tie.Need-add-t31
+add-t31 c = omega (arith, body-numbers (c .before .before .before .before .before .before .before .before .before .before .before .before .before .before .before .before .before .before .before .before .before .before .before .before .pre) (c .before .before .before .before .before .before .before .before .before .before .before .before .before .before .before .before .before .before .node-t .ensures .0) (c .before .before .before .before .before .before .before .before .before .before .before .before .before .before .before .before .before .type-b .ensures .0) (c .before .before .before .before .before .before .before .before .before .before .before .before .before .before .before .before .type-c .ensures .0) .1)
 
-add-block-2 : tie.Need-add-block-2
-add-block-2 c = omega (arith, body-numbers (c .before .before .before .before .before .before .before .before .before .before .before .before .before .before .before .before .before .before .before .before .before .before .before .before .pre) (c .before .before .before .before .before .before .before .before .before .before .before .before .before .before .before .before .before .before .node-t .ensures .0) (c .before .before .before .before .before .before .before .before .before .before .before .before .before .before .before .before .before .type-b .ensures .0) (c .before .before .before .before .before .before .before .before .before .before .before .before .before .before .before .before .type-c .ensures .0) .1)
+add-t32 : tie.Need-add-t32
+add-t32 c = omega (arith, body-numbers (c .before .before .before .before .before .before .before .before .before .before .before .before .before .before .before .before .before .before .before .before .before .before .before .before .pre) (c .before .before .before .before .before .before .before .before .before .before .before .before .before .before .before .before .before .before .node-t .ensures .0) (c .before .before .before .before .before .before .before .before .before .before .before .before .before .before .before .before .before .type-b .ensures .0) (c .before .before .before .before .before .before .before .before .before .before .before .before .before .before .before .before .type-c .ensures .0) .1)
 
 block-requires : tie.Need-block-requires
 block-requires c κs = body-block (c .before .before .before .before .before .before .before .before .before .before .before .before .before .before .before .before .before .before .before .before .before .before .before .before .pre) (c .before .before .before .before .before .before .before .before .before .before .before .before .before .before .before .before .before .before .node-t .ensures .0) (c .before .before .before .before .before .before .before .before .before .before .before .before .before .before .before .before .before .type-b .ensures .0) (c .before .before .before .before .before .before .before .before .before .before .before .before .before .before .before .before .type-c .ensures .0) (c .before .before .before .before .before .before .before .before .before .before .before .before .parameters .ensures) (c .before .before .before .before .before .if1 .left) (c .before .before .before .type-a .ensures .0)
@@ -66,4 +66,4 @@ returns-4 c = body-ok (c .before .before .before .before .before .before .before
 pub body-step-spec : {M : Type 1} → statement M
 body-step-spec =
     tie.close
-    (tie.spec node-t-requires type-b-requires type-c-requires parameters-requires (λ c. search needs) (λ c. search needs) (λ c. search needs) returns add-scope type-a-requires add-block add-block-2 block-requires (λ c. search needs) (λ c κs. search needs) (λ c. search needs) (λ c. search needs) (λ c. search needs) returns-2 (λ c. search needs) (λ c. search needs) (λ c. search needs) (λ c. search needs) returns-3 leave-requires row-requires with-step-requires same-length-10 same-length-11 same-length-12 returns-4)
+    (tie.spec node-t-requires type-b-requires type-c-requires parameters-requires (λ c. search needs) (λ c. search needs) (λ c. search needs) returns add-scope type-a-requires add-t31 add-t32 block-requires (λ c. search needs) (λ c κs. search needs) (λ c. search needs) (λ c. search needs) (λ c. search needs) returns-2 (λ c. search needs) (λ c. search needs) (λ c. search needs) (λ c. search needs) returns-3 leave-requires row-requires with-step-requires same-length-10 same-length-11 same-length-12 returns-4)

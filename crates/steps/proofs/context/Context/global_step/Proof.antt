@@ -6,8 +6,8 @@ use Rattle.steps.proofs.LawsGlobal.{global-first, global-node, global-c
 use Rattle.steps.proofs.context.Context.global_step.Statement.{statement}
 use Rattle.steps.proofs.context.Context.global_step.Tie as tie
 
-add-expression : tie.Need-add-expression
-add-expression c = omega (arith, global-node (c .before .before .before .before .before .before .before .before .pre) .within, c .before .before .before .before .before .before .before .before .pre .held .good-tables .laid .nodes-most)
+add-t20 : tie.Need-add-t20
+add-t20 c = omega (arith, global-node (c .before .before .before .before .before .before .before .before .pre) .within, c .before .before .before .before .before .before .before .before .pre .held .good-tables .laid .nodes-most)
 
 expression-requires : tie.Need-expression-requires
 expression-requires c κs = global-first (c .before .before .before .before .before .before .before .before .pre)
@@ -48,4 +48,4 @@ returns-3 c = global-ok (c .before .before .before .before .before .before .befo
 pub global-step-spec : {M : Type 1} → statement M
 global-step-spec =
     tie.close
-    (tie.spec add-expression expression-requires (λ c. search needs) (λ c κs. search needs) (λ c. search needs) (λ c. search needs) (λ c. search needs) returns node-x-requires is-new-requires (λ c. search needs) (λ c. search needs) (λ c. search needs) returns-2 bind-requires row-requires with-name-requires same-length-7 same-length-8 same-length-9 returns-3)
+    (tie.spec add-t20 expression-requires (λ c. search needs) (λ c κs. search needs) (λ c. search needs) (λ c. search needs) (λ c. search needs) returns node-x-requires is-new-requires (λ c. search needs) (λ c. search needs) (λ c. search needs) returns-2 bind-requires row-requires with-name-requires same-length-7 same-length-8 same-length-9 returns-3)
