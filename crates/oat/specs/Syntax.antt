@@ -1,92 +1,129 @@
--- Document 01, 'The program file': programs as typed trees, one constructor for each shape of a node. A tree's numbers are
--- the node's x (a name, a literal, an operator) and t (a type number). Which child stands where is in the constructors.
--- Assumes nothing.
+-- Document 01, 'The program file': programs as typed trees, one constructor for each shape of a node, and how many nodes, children and
+-- levels a tree has. A tree's numbers are the node's x (a name, a literal, an operator) and t (a type number). At each constructor stands
+-- document 01's term with the node's kind, then x and t where the kind has them, then the children in order. What a node's t and operator
+-- may be is said in Nodes. Assumes nothing.
 use mathlib.Core.Bool.{Bool, true, false, _&&_}
 use mathlib.Core.List.{List, [], _∷_}
 use Prim.Native.Nat.{ℕ, _+_, max}
 use lib.ListN.{length}
 
--- kinds 11 to 14
+-- literals, kinds 11 to 14
 pub data Literal : Type 0 where
+  -- true (11), false (12)
   truth falsity : Literal
+  -- integer (13), string (14): x, the literal's number
   integer text : ℕ → Literal
 
 mutual
   -- expressions, kinds 10 to 21 and 23 to 26
   pub data Expr : Type 0 where
+    -- null (10): t
     null : (t : ℕ) → Expr
+    -- true, false, integer, string (11 to 14)
     literal : Literal → Expr
+    -- name (15): x
     name : (x : ℕ) → Expr
+    -- array literal (16): t; elements
     arrayLiteral : (t : ℕ) → (elements : Exprs) → Expr
+    -- default array (17): t; length
     defaultArray : (t : ℕ) → (length : Expr) → Expr
+    -- array with initializer (18): t, index name x; length, value
     arrayWith : (t x : ℕ) → (length value : Expr) → Expr
+    -- index (19): array, index
     index : (array position : Expr) → Expr
+    -- length (20): array
     lengthOf : (array : Expr) → Expr
+    -- struct literal (21): t; field initializers
     structLiteral : (t : ℕ) → (fields : Inits) → Expr
+    -- field (23): x; record
     field : (x : ℕ) → (of : Expr) → Expr
+    -- call (24): callee, arguments
     call : (callee : Expr) → (arguments : Exprs) → Expr
+    -- unary (25): x, the operator; operand
     unary : (operator : ℕ) → (operand : Expr) → Expr
+    -- binary (26): x, the operator; left and right operand
     binary : (operator : ℕ) → (left right : Expr) → Expr
 
+  -- the elements of an array literal, or the arguments of a call
   pub data Exprs : Type 0 where
     none : Exprs
     also : (first : Expr) → (rest : Exprs) → Exprs
 
-  -- field initializers, kind 22
+  -- the field initializers of a struct literal
   pub data Inits : Type 0 where
     noInit : Inits
+    -- field initializer (22): x; one expression; and those after it
     init : (x : ℕ) → (value : Expr) → (rest : Inits) → Inits
 
 -- the left side of an assignment: a 15, 19 or 23
 pub data Target : Type 0 where
+  -- name (15): x
   nameTarget : (x : ℕ) → Target
+  -- index (19): array, index
   indexTarget : (array position : Expr) → Target
+  -- field (23): x; record
   fieldTarget : (x : ℕ) → (of : Expr) → Target
 
+-- the left side as the expression that it is
 abbrev pub targetExpr : Target → Expr
 targetExpr (nameTarget x) = name x
 targetExpr (indexTarget a b) = index a b
 targetExpr (fieldTarget x a) = field x a
 
--- the vars of a for, kind 31
+-- the vars of a for
 pub data Vars : Type 0 where
   noVar : Vars
+  -- var (31): x; expression; and those after it
   nextVar : (x : ℕ) → (value : Expr) → (rest : Vars) → Vars
 
--- the condition of a for, or 40
+-- the condition of a for
 pub data Condition : Type 0 where
+  -- absent (40)
   noCondition : Condition
   condition : Expr → Condition
 
 mutual
   -- statements, kinds 30 to 38
   pub data Stmt : Type 0 where
+    -- assignment (30): a 15, 19 or 23, expression
     assign : (left : Target) → (value : Expr) → Stmt
+    -- var (31): x; expression
     var : (x : ℕ) → (value : Expr) → Stmt
+    -- return with value (32): expression
     returnValue : (value : Expr) → Stmt
+    -- return (33)
     returnVoid : Stmt
+    -- call statement (34): callee, arguments
     callStmt : (callee : Expr) → (arguments : Exprs) → Stmt
+    -- if (35): condition, block, block; a missing else is an empty block
     ifElse : (test : Expr) → (yes no : Block) → Stmt
+    -- if? (36): x, t; expression, block, block
     ifNull : (x t : ℕ) → (value : Expr) → (yes no : Block) → Stmt
+    -- for (37): vars, condition or 40, one statement or 40, block
     for : (vars : Vars) → (test : Condition) → (step : Step) → (body : Block) → Stmt
+    -- while (38): condition, block
     while : (test : Expr) → (body : Block) → Stmt
 
-  -- the step of a for, or 40
+  -- the step of a for
   pub data Step : Type 0 where
+    -- absent (40)
     noStep : Step
     step : Stmt → Step
 
-  -- kind 39
   pub data Block : Type 0 where
+    -- block (39): statements
     block : Stmts → Block
 
+  -- the statements of a block
   pub data Stmts : Type 0 where
     empty : Stmts
     then : (first : Stmt) → (rest : Stmts) → Stmts
 
--- kinds 1 and 2; the parameters, kind 3, by their names
+-- declarations, kinds 1 and 2
 pub data Decl : Type 0 where
+  -- global (1): x; one initializer
   global : (x : ℕ) → (initializer : Expr) → Decl
+  -- function (2): x, t; parameters (3), each by its x, then a block
   function : (x t : ℕ) → (parameters : List ℕ) → (body : Block) → Decl
 
 -- how many nodes a tree has

@@ -1,15 +1,27 @@
 // Packed files from standard input: each is 4 length bytes, low first, and then the file.
 ghost use mathlib.Core.Path.{_≡_};
 ghost use Prim.Native.Nat.{_≤_, _<_};
-ghost use lib.ListN.{drop};
+ghost use lib.ListN.{length, drop};
+ghost use Rattle.vector_input.specs.Length.{lengthOf};
 
 fn wide(x: u8) -> usize
-    ensures { λ r. ⌜ r < 256 ⌝ }
+    ensures { λ r. ⌜ (r ≡ x) × (r < 256) ⌝ }
 {
     x as usize
 }
 
-// The next four bytes as a length; 65536 where the input has ended, and where the length is that or more.
+// The length that four bytes say, low byte first; 65536 where it is that or more.
+fn length_of(head: &[u8; 4]) -> usize
+    ensures { λ r. ⌜ r ≡ lengthOf (now (head .entry)) ⌝ }
+{
+    if 0 < wide(head[2]) + wide(head[3]) {
+        return 65536;
+    }
+    wide(head[0]) + 256 * wide(head[1])
+}
+
+// The length that the next four bytes of the input say; 65536 where fewer are left. No contract can say what is read from standard
+// input: that the bytes are the input's next, and that an input that has ended answers 65536, stands in the code alone.
 pub fn next_length() -> usize
     ensures { λ r. ⌜ r ≤ 65536 ⌝ }
 {
@@ -18,17 +30,16 @@ pub fn next_length() -> usize
     if got < 4 {
         return 65536;
     }
-    if 0 < wide(head[2]) + wide(head[3]) {
-        return 65536;
-    }
-    wide(head[0]) + 256 * wide(head[1])
+    length_of(&head)
 }
 
-// Reads a file of this length from the input to the front of a buffer that has room for it. What lies past it stays.
-pub fn read_one(file: &mut [u8], length: usize)
-    ensures { λ _. ⌜ drop length (now (file .exit)) ≡ drop length (now (file .entry)) ⌝ }
+// Reads a file of this many bytes from the input to the front of a buffer. What lies past them stays; where the buffer has no room for
+// them, nothing is read and all of it stays. Which bytes are read, and that they are fewer where the input ends, no contract can say.
+pub fn read_one(file: &mut [u8], bytes: usize)
+    ensures { λ _. ⌜ drop bytes (now (file .exit)) ≡ drop bytes (now (file .entry)) ⌝ }
+    ensures { λ _. ⌜ (length (now (file .entry)) < bytes → now (file .exit) ≡ now (file .entry)) ⌝ }
 {
-    if length <= file.len() {
-        io::read_full(0, &mut file[..length]);
+    if bytes <= file.len() {
+        io::read_full(0, &mut file[..bytes]);
     }
 }

@@ -1,6 +1,7 @@
 -- `check_in` is safe and ends. Assumes nothing.
+use mathlib.Core.Path.{sym}
 use borrow.Author.Needs.{needs}
-use Rattle.buffer_vectors.proofs.LawsPart.{part-long}
+use lib.Seq.{length-take-le}
 use Rattle.buffer_vectors.proofs.check_in.Statement.{statement}
 use Rattle.buffer_vectors.proofs.check_in.Tie as tie
 
@@ -9,10 +10,8 @@ check-in-spec =
     tie.close
     (tie.spec
     (λ c. search needs)
-    (λ c. search (part-long, needs))
+    (λ c. sym (length-take-le _ _ (search needs)))
     (λ c. search needs)
-    (λ c. search (part-long, needs))
+    (λ c. sym (length-take-le _ _ (search needs)))
     (λ c κs. search needs)
-    (λ c. search needs)
-    (λ c. search needs)
     (λ c. search needs))

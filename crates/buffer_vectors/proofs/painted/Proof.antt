@@ -1,17 +1,17 @@
--- `is_filled` is safe and ends: the place comes nearer to the end. Assumes nothing.
+-- `painted` is safe and ends: the place comes nearer to the end. Assumes nothing.
 use Prim.Native.Nat.{_-_}
 use borrow.Author.Needs.{needs}
-use Rattle.buffer_vectors.proofs.is_filled.Statement.{statement}
-use Rattle.buffer_vectors.proofs.is_filled.Tie as tie
+use Rattle.buffer_vectors.proofs.painted.Statement.{statement}
+use Rattle.buffer_vectors.proofs.painted.Tie as tie
 
 abbrev Inv-loop : tie.InvT-loop
-Inv-loop buffer n value i₀ i = Unit
+Inv-loop buffer₀ i₀ buffer i = Unit
 
 abbrev μ-loop : tie.MeasureT-loop
-μ-loop buffer n value i₀ i = n - i
+μ-loop buffer₀ i₀ buffer i = 512 - i
 
-pub is-filled-spec : {M : Type 1} → statement M
-is-filled-spec =
+pub painted-spec : {M : Type 1} → statement M
+painted-spec =
     tie.close
     (tie.spec
     Inv-loop
