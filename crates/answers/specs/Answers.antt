@@ -1,7 +1,7 @@
 -- What the contracts of answers and of expressions without children cite. F is the file, S its sections, X the index of types, R the
 -- rows, W the stack, K the chains; a prime marks a buffer after the call. Assumes nothing.
 use mathlib.Core.Path.{_≡_}
-use mathlib.Core.Bool.{Bool, true, false, _||_}
+use mathlib.Core.Bool.{true, false, _||_}
 use mathlib.Core.List.{List, []}
 use Prim.Native.Nat.{ℕ, _+_, _*_, _≤_, _<_}
 use lib.ListN.{set}

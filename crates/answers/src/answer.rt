@@ -1,7 +1,7 @@
 // What judging a part of a program comes to, and rows.
 use file_sections::Sections;
 ghost use mathlib.Core.Path.{_≡_};
-ghost use Prim.Native.Nat.{_+_, _*_, _≤_, _<_};
+ghost use Prim.Native.Nat.{_+_, _*_, _<_};
 ghost use lib.ListN.{length};
 ghost use Rattle.answers.specs.Answers.{withRow};
 

@@ -2,18 +2,17 @@
 -- one outcome for every input (`has-outcome`, `one-outcome`). Assumes nothing.
 use mathlib.Core.Path.{_≡_, refl, ap, sym, _∙_, subst}
 use mathlib.Core.Bool.{Bool, true, false}
-use mathlib.Core.List.{List, [], _∷_, _++_}
-use mathlib.Core.Logic.{_↔_}
-use Prim.Native.Nat.{ℕ, zero, suc, _+_, _*_, _≤_, _<_}
+use mathlib.Core.List.{List, _++_}
+use Prim.Native.Nat.{ℕ, _+_, _*_, _≤_}
 use native.Mathlib.Omega.{arith}
-use lib.ListN.{length, take, drop, getD, replicate, length-append, length-replicate}
+use lib.ListN.{length, take, drop, replicate, length-append, length-replicate}
 use lib.Dec.{ltb}
 use borrow.Author.Tests.{ltb-true, ltb-false, lt-ltb, le-ltb}
 use lib.Seq.{take-at, drop-at, take-length}
 use Rattle.oat.specs.Basics.{pick}
 use Rattle.oat.specs.Tables.{Tables}
 use Rattle.oat.specs.Types.{Ty}
-use Rattle.oat.specs.Syntax.{Decl, size, sizeBlock, sizeDecl, sizeDecls}
+use Rattle.oat.specs.Syntax.{Decl, size, sizeBlock, sizeDecls}
 use Rattle.oat.specs.ProgramFile.{Program, IsFile}
 use Rattle.file_sections.specs.declared.Reading.{Reading}
 use Rattle.file_sections.specs.declared.Reading.the-variants.{Refused, Good}
@@ -21,7 +20,7 @@ use Rattle.program_file.specs.Reading.{readingOf}
 use Rattle.program_file.proofs.Theorem.{Bytes, program-of, reading-of, one-program}
 use Rattle.typing_rules.specs.Contexts.{Context}
 use Rattle.typing_rules.specs.Labels.{Labels}
-use Rattle.typing_rules.specs.Steps.{Step, structName, stepsOf, StepRule, SameOn, same-none, same-step, DerivesFirst, OneFirst, DerivesFile}
+use Rattle.typing_rules.specs.Steps.{Step, stepsOf, SameOn, same-none, same-step, DerivesFile}
 use Rattle.typing_rules.specs.Check.{Segment, Ran, accepted, refused, rowsFrom, Answer, answerOf, checkOf}
 use Rattle.typing_rules.specs.Rows.{DeclRows, no-rows, global-rows, function-rows}
 use Rattle.typing_rules.proofs.Theorem.{Fits, file-fits, runOf, accepted-derives, derives-accepted, refused-step}

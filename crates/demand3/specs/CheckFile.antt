@@ -7,7 +7,7 @@ use lib.ListN.{length, drop}
 use Rattle.oat.specs.ProgramFile.{Limits, Program, IsFile}
 use Rattle.file_sections.specs.declared.Reading.the-variants.{Refused}
 use Rattle.program_file.specs.Reading.{readingOf, limitsOf}
-use Rattle.typing_rules.specs.Check.{Answer, checkOf}
+use Rattle.typing_rules.specs.Check.{checkOf}
 
 -- document 01's limits
 abbrev pub limits : Limits

@@ -1,16 +1,15 @@
 -- What a typed child tells its parent, and the types that a rule reads. Assumes nothing.
-use mathlib.Core.Path.{_≡_, refl, ap, sym, subst, _∙_}
-use mathlib.Core.Bool.{Bool, true, false}
-use mathlib.Core.List.{List, [], _∷_, _++_}
-use Prim.Native.Nat.{ℕ, zero, suc, _+_, _*_, _≤_, _<_}
+use mathlib.Core.Path.{_≡_, sym, subst, _∙_}
+use mathlib.Core.Bool.{Bool, true}
+use mathlib.Core.List.{List}
+use Prim.Native.Nat.{ℕ, _+_, _≤_, _<_}
 use native.Mathlib.Omega.{arith}
 use lib.ListN.{length}
-use Rattle.oat.specs.Tables.{Tables, typeAt, entryAt, nodeAt}
-use Rattle.oat.specs.TypeRules.{kindAt}
+use Rattle.oat.specs.Tables.{Tables, typeAt, entryAt}
 use Rattle.oat.specs.TableRules.{hasKind}
 use Rattle.oat.specs.Types.{typeOf, structsOf}
 use Rattle.oat.specs.Decide.{isFormed}
-use Rattle.oat.specs.Syntax.{Expr, size}
+use Rattle.oat.specs.Syntax.{size}
 use Rattle.oat.proofs.LawsBasics.{tabulate-long}
 use Rattle.oat.proofs.LawsTypes.{TypesFormed, types-formed}
 use Rattle.oat.proofs.LawsTables.{has-kind}
@@ -18,9 +17,9 @@ use borrow.Author.Tests.{eq-eqb}
 use Rattle.typing_rules.specs.Labels.{Label}
 use Rattle.typing_rules.specs.Judge.{ok, judge}
 use Rattle.file_sections.specs.declared.Sections.{Sections}
-use Rattle.file_sections.specs.Layout.{Laid, Has, tablesOf, GoodTables}
-use Rattle.file_sections.proofs.LawsRecords.{nodes-long, types-long, list-long}
-use Rattle.type_index.specs.Index.{declared, recordOf, structNamed, formedEntry, Entered, Indexed}
+use Rattle.file_sections.specs.Layout.{Has, tablesOf, GoodTables}
+use Rattle.file_sections.proofs.LawsRecords.{types-long, list-long}
+use Rattle.type_index.specs.Index.{declared, recordOf, structNamed, formedEntry, Entered}
 use Rattle.type_index.proofs.LawsIndex.{entered}
 use Rattle.bindings.specs.Bindings.{scopeOf}
 use Rattle.answers.specs.declared.answer.Judgement.the-variants.{Typed}

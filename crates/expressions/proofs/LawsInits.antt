@@ -13,7 +13,7 @@ use Rattle.oat.specs.Nodes.{InitsStand}
 use Rattle.typing_rules.specs.Contexts.{Scope, Context}
 use Rattle.typing_rules.specs.Labels.{Label, unlabelled}
 use Rattle.typing_rules.specs.Rules.{Member, has, lacks, member}
-use Rattle.typing_rules.specs.Judge.{Out, ok, no, andThen, needs, isBelowMember, initsBelow, judge, judgeInits}
+use Rattle.typing_rules.specs.Judge.{Out, ok, andThen, needs, isBelowMember, initsBelow, judge, judgeInits}
 use Rattle.typing_rules.specs.Check.{nextResult}
 use Rattle.file_sections.specs.declared.Sections.{Sections}
 use Rattle.file_sections.specs.Layout.{tablesOf, GoodTables}

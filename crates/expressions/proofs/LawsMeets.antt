@@ -1,17 +1,17 @@
 -- An answer against an outcome of the definition, premise by premise. Assumes nothing.
-use mathlib.Core.Path.{_≡_, refl, sym, subst, _∙_}
+use mathlib.Core.Path.{_≡_, refl, subst}
 use mathlib.Core.Bool.{Bool, true, false}
 use mathlib.Core.List.{List, [], _∷_}
 use mathlib.Core.Logic.{⊎-elim}
-use Prim.Native.Nat.{ℕ, _+_}
+use Prim.Native.Nat.{ℕ}
 use native.Mathlib.Omega.{arith}
 use types.Run.{OneOf}
 use denote.Enum.Declared.{tagOf}
 use Rattle.typing_rules.specs.Labels.{Label}
-use Rattle.typing_rules.specs.Judge.{Out, ok, no, andThen, needs}
+use Rattle.typing_rules.specs.Judge.{Out, ok, andThen, needs}
 use Rattle.file_sections.specs.declared.Sections.{Sections}
 use Rattle.answers.specs.declared.answer.Judgement.{Judgement}
-use Rattle.answers.specs.declared.answer.Judgement.the-variants.{Typed, GoesOn, Returns, Refused}
+use Rattle.answers.specs.declared.answer.Judgement.the-variants.{Typed, GoesOn, Refused}
 use Rattle.answers.specs.declared.answer.Judged.{Judged}
 use Rattle.answers.proofs.answer.Judgement.{the-type}
 use Rattle.expressions.specs.Contract.{Meets, accepts, refuses, Typing, Listing}

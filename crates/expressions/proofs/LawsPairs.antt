@@ -1,29 +1,27 @@
 -- Rules with two expressions: index, operators that take two of one type, and equality. Assumes nothing.
 use mathlib.Core.Path.{_≡_, refl, ap, sym, subst, _∙_}
 use mathlib.Core.Bool.{Bool, true, false, not, _&&_, _||_}
-use mathlib.Core.List.{List, [], _∷_, _++_}
-use Prim.Native.Nat.{ℕ, zero, suc, _+_, _*_, _≤_, _<_}
+use mathlib.Core.List.{List, _++_}
+use Prim.Native.Nat.{ℕ, _+_, _≤_, _<_}
 use native.Mathlib.Omega.{arith}
-use lib.ListN.{length, getD}
 use lib.Dec.{eqb, leb}
 use borrow.Author.Tests.{eq-eqb, ne-eqb, eqb-true, not-true, not-false}
 use Rattle.oat.specs.Basics.{pick}
-use Rattle.oat.specs.Tables.{Tables, typeAt, nodeAt}
+use Rattle.oat.specs.Tables.{typeAt, nodeAt}
 use Rattle.oat.specs.Types.{typeOf}
 use Rattle.oat.specs.Decide.{below}
-use Rattle.oat.specs.Syntax.{Expr, index, binary, size}
+use Rattle.oat.specs.Syntax.{index, binary, size}
 use Rattle.oat.specs.Nodes.{Stands}
-use Rattle.typing_rules.specs.Operators.{isEquality, operandType, resultType, unaryType}
-use Rattle.typing_rules.specs.Labels.{Label}
-use Rattle.typing_rules.specs.Judge.{judge, plain, isKind, isBelow, hasDefault, Number, number, unknown, fieldOf}
+use Rattle.typing_rules.specs.Operators.{isEquality, operandType, resultType}
+use Rattle.typing_rules.specs.Judge.{judge, plain, isKind}
 use Rattle.file_sections.specs.declared.Sections.{Sections}
 use Rattle.file_sections.specs.Layout.{tablesOf}
 use Rattle.type_index.specs.Index.{declared}
 use Rattle.bindings.specs.Bindings.{scopeOf}
-use Rattle.answers.specs.declared.answer.Judgement.the-variants.{Typed, GoesOn, Refused}
+use Rattle.answers.specs.declared.answer.Judgement.the-variants.{Typed, Refused}
 use Rattle.answers.specs.declared.answer.Judged.{Judged}
 use Rattle.answers.specs.Answers.{withRow}
-use Rattle.expressions.specs.Contract.{contextOf, Typing, Meets, accepts, Answers, Ready, Told}
+use Rattle.expressions.specs.Contract.{Typing, Meets, accepts, Answers, Ready, Told}
 use Rattle.expressions.proofs.LawsMeets.{Untyped, stops, passes, child-no, child-ok}
 use Rattle.expressions.proofs.LawsAfter.{ready, typing-of, retell, after-append, rule-typed}
 use Rattle.expressions.proofs.LawsChild.{base-within, element-within, child-within}

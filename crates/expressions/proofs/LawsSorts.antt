@@ -1,34 +1,31 @@
 -- Rules with one child: length, field, unary operator and default array. Assumes nothing.
 use mathlib.Core.Path.{_≡_, refl, ap, sym, subst, _∙_}
-use mathlib.Core.Bool.{Bool, true, false, not, _&&_, _||_}
-use mathlib.Core.List.{List, [], _∷_, _++_}
-use Prim.Native.Nat.{ℕ, zero, suc, _+_, _*_, _≤_, _<_}
+use mathlib.Core.Bool.{Bool, true, false, not}
+use mathlib.Core.List.{List}
+use Prim.Native.Nat.{ℕ, _+_, _≤_, _<_}
 use native.Mathlib.Omega.{arith}
 use lib.ListN.{length}
 use lib.Dec.{eqb}
 use borrow.Author.Tests.{eq-eqb, ne-eqb, not-true, not-false}
 use Rattle.oat.specs.Basics.{pick}
-use Rattle.oat.specs.Tables.{Tables, typeAt, nodeAt}
-use Rattle.oat.specs.Types.{typeOf, lookup, found, missing}
-use Rattle.oat.specs.Syntax.{Expr, defaultArray, lengthOf, field, unary, size}
+use Rattle.oat.specs.Tables.{typeAt, nodeAt}
+use Rattle.oat.specs.Syntax.{Expr, defaultArray, field, unary, size}
 use Rattle.oat.specs.Nodes.{Stands}
-use Rattle.typing_rules.specs.Operators.{isEquality, operandType, resultType, unaryType}
-use Rattle.typing_rules.specs.Labels.{Label}
-use Rattle.typing_rules.specs.Judge.{judge, plain, formed, referred, fieldType, isBelow, hasDefault, Number, number, unknown, fieldOf}
+use Rattle.typing_rules.specs.Operators.{unaryType}
+use Rattle.typing_rules.specs.Judge.{judge, plain, formed, referred, fieldType, hasDefault, fieldOf}
 use Rattle.file_sections.specs.declared.Sections.{Sections}
 use Rattle.file_sections.specs.Layout.{tablesOf}
 use Rattle.type_index.specs.Index.{declared, structEntry, formedEntry}
-use Rattle.file_sections.proofs.LawsRecords.{types-long}
 use Rattle.bindings.specs.Bindings.{scopeOf}
 use Rattle.fields.specs.declared.lookup.FieldType.{FieldType}
 use Rattle.fields.specs.declared.lookup.FieldType.the-variants.{Of, Unknown}
 use Rattle.fields.specs.Lookup.{numberOf, fieldIn}
-use Rattle.answers.specs.declared.answer.Judgement.the-variants.{Typed, GoesOn, Refused}
+use Rattle.answers.specs.declared.answer.Judgement.the-variants.{Typed, Refused}
 use Rattle.answers.specs.declared.answer.Judged.{Judged}
 use Rattle.answers.specs.Answers.{withRow}
 use Rattle.expressions.specs.Contract.{contextOf, Typing, Meets, accepts, refuses, Answers, Ready, Told}
 use Rattle.expressions.proofs.LawsMeets.{Untyped, stops, passes, child-no, child-ok}
-use Rattle.expressions.proofs.LawsAfter.{ready, typing-of, retell, after-append, rule-typed}
+use Rattle.expressions.proofs.LawsAfter.{ready, rule-typed}
 use Rattle.expressions.proofs.LawsChild.{base-within, kind-within, kind-of, element-within, formed-is, struct-meant, declared-long}
 use Rattle.fields.proofs.LawsLookup.{field-is, found-below}
 use Rattle.expressions.proofs.LawsShape.{on-default, on-length, on-field, on-unary}

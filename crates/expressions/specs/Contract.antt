@@ -2,9 +2,9 @@
 -- F is the file, S its sections, X the index of types, R the rows, W the stack, K the chains; a prime marks a buffer after the call.
 -- Assumes nothing.
 use mathlib.Core.Path.{_≡_}
-use mathlib.Core.Bool.{Bool, true, false, not}
-use mathlib.Core.List.{List, [], _∷_, _++_}
-use Prim.Native.Nat.{ℕ, zero, suc, _+_, _*_, _≤_, _<_}
+use mathlib.Core.Bool.{Bool, true}
+use mathlib.Core.List.{List, [], _∷_}
+use Prim.Native.Nat.{ℕ, _+_, _*_, _≤_, _<_}
 use lib.ListN.{length, getD}
 use Rattle.oat.specs.Tables.{Tables, nodeAt}
 use Rattle.oat.specs.TableRules.{hasKind}
@@ -12,15 +12,14 @@ use Rattle.oat.specs.Types.{structOf, Field}
 use Rattle.oat.specs.Syntax.{Expr, Exprs, Inits, size, sizes, sizeInits, count, countInits}
 use Rattle.oat.specs.Nodes.{Stands, StandAll, InitsStand}
 use Rattle.typing_rules.specs.Contexts.{Scope, binds, Context}
-use Rattle.typing_rules.specs.Labels.{Result, nothing, marks, Label}
+use Rattle.typing_rules.specs.Labels.{Label}
 use Rattle.typing_rules.specs.Judge.{Out, ok, no, andThen, needs, referred, isBelow, eachBelow, argumentsBelow, initsBelow, judge, judges, judgeInits}
 use Rattle.typing_rules.specs.Check.{rowResult}
 use Rattle.file_sections.specs.declared.Sections.{Sections}
 use Rattle.file_sections.specs.Layout.{tablesOf, GoodTables}
 use Rattle.type_index.specs.Index.{declared, Indexed}
 use Rattle.bindings.specs.Bindings.{entryOf, namesOf, scopeOf, Scoped, Same}
-use Rattle.answers.specs.declared.answer.Judgement.{Judgement}
-use Rattle.answers.specs.declared.answer.Judgement.the-variants.{Typed, GoesOn, Returns, Refused}
+use Rattle.answers.specs.declared.answer.Judgement.the-variants.{Typed, GoesOn, Refused}
 use Rattle.answers.specs.declared.answer.Judged.{Judged}
 use Rattle.answers.specs.declared.leaves.Expected.{Expected}
 use Rattle.answers.specs.declared.leaves.Expected.the-variants.{Each, Run}

@@ -34,7 +34,7 @@ use subtyping::below::below;
 use type_index::formed::is_formed;
 use type_index::formed::struct_record;
 ghost use mathlib.Core.Path.{_≡_};
-ghost use mathlib.Core.Bool.{Bool, true, false};
+ghost use mathlib.Core.Bool.{true, false};
 ghost use Prim.Native.Nat.{_+_, _<_};
 ghost use Rattle.oat.specs.Tables.{nodeAt};
 ghost use Rattle.typing_rules.specs.Operators.{isEquality, operandType, resultType};

@@ -1,5 +1,4 @@
 -- The type of a field by its name, as the code answers it. Assumes nothing.
-use mathlib.Core.Bool.{Bool}
 use Prim.Native.Nat.{ℕ}
 use lib.ListN.{length}
 use lib.Dec.{ltb}

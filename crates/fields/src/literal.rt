@@ -9,7 +9,7 @@ use file_sections::records::struct_first;
 ghost use mathlib.Core.Path.{_≡_};
 ghost use Prim.Native.Nat.{_+_, _*_, _≤_, _<_};
 ghost use lib.ListN.{length};
-ghost use Rattle.file_sections.specs.Layout.{Laid, tablesOf};
+ghost use Rattle.file_sections.specs.Layout.{Laid};
 ghost use Rattle.fields.specs.Literal.{Tree, Past, timesIn, onceEach, Initializers, Copied, CopiedFields, Named, Fitting};
 
 // The node after the tree at `node`.

@@ -4,15 +4,15 @@ use mathlib.Core.Path.{_≡_, refl, ap, ap₂, sym, _∙_, fun-ext, subst}
 use mathlib.Core.Bool.{Bool, true, false}
 use mathlib.Core.List.{List, [], _∷_, _++_, append-assoc, append-nil}
 use Prim.Native.Nat.{ℕ, zero, suc, _+_, _*_, _/_, _%_, _≤_, _<_}
-use native.Mathlib.Nat.{add-zero, zero-add, add-suc, suc-add, suc-mul, zero-mul, add-comm}
+use native.Mathlib.Nat.{add-zero, zero-add, suc-mul, zero-mul, add-comm}
 use native.Mathlib.Numerals.{add-one, unary-clauses}
 use native.Mathlib.Omega.{arith}
 use lib.ListN.{length, getD, drop, length-append, drop-of-length-le}
-use lib.Seq.{drop-cons, drop-length, getD-append-add}
+use lib.Seq.{drop-cons, getD-append-add}
 use lib.Dec.{eqb}
 use borrow.Author.Tests.{eqb-true}
 use Rattle.oat.specs.Basics.{pick, tabulate}
-use Rattle.oat.specs.Tables.{Tables, TypeRecord, FieldRecord, StructRecord, BuiltInRecord, NodeRecord, typeNumbers, entryNumbers, fieldNumbers, structNumbers, builtInNumbers, nodeNumbers, recordNumbers, sectionNumbers, numbersOf, bytesOf, fileOf}
+use Rattle.oat.specs.Tables.{Tables, typeNumbers, entryNumbers, fieldNumbers, structNumbers, builtInNumbers, nodeNumbers, recordNumbers, sectionNumbers, numbersOf, bytesOf, fileOf}
 use Rattle.oat.specs.ProgramFile.{Counts}
 use Rattle.oat.proofs.LawsBasics.{tabulate-long}
 use Rattle.file_sections.specs.Numbers.{numberAt}
@@ -20,8 +20,7 @@ use Rattle.file_sections.specs.Layout.{sectionOf, thenReading, frontSect
 use Rattle.file_sections.specs.declared.Sections.{Sections}
 use Rattle.file_sections.specs.declared.Reading.{Reading}
 use Rattle.file_sections.specs.declared.Reading.the-variants.{Refused, Good}
-use Rattle.file_sections.specs.declared.layout.Section.{Section}
-use Rattle.file_sections.specs.declared.layout.Section.the-variants.{Bad, Counted}
+use Rattle.file_sections.specs.declared.layout.Section.the-variants.{Counted}
 use Rattle.file_sections.proofs.LawsLayout.{Stood, stood, FrontStood, front-stood, then-good, counted, front-good, sections-good}
 
 -- f at n numbers from p on

@@ -1,6 +1,6 @@
 -- Laws of `specs/Layout.antt`: the ways through a section, the chain of the six, and what it says of a file that it accepts.
 -- Assumes nothing.
-use mathlib.Core.Path.{_≡_, refl, ap, sym, _∙_}
+use mathlib.Core.Path.{_≡_, refl, sym, _∙_}
 use mathlib.Core.Bool.{Bool, true, false}
 use mathlib.Core.List.{List}
 use Prim.Native.Nat.{ℕ, _+_, _*_, _≤_, _<_}
@@ -9,11 +9,11 @@ use native.Mathlib.Omega.{arith}
 use mir.Syntax.{w64}
 use mir.Val.{Fits}
 use lib.ListN.{length}
-use lib.Dec.{ltb, eqb}
-use borrow.Author.Tests.{lt-ltb, le-ltb, eq-eqb, ne-eqb, ltb-false, eqb-true}
+use lib.Dec.{ltb}
+use borrow.Author.Tests.{lt-ltb, le-ltb, eq-eqb, ne-eqb, ltb-false}
 use Rattle.oat.specs.Basics.{pick}
 use Rattle.file_sections.specs.Numbers.{numberAt}
-use Rattle.file_sections.specs.Layout.{sectionOf, thenSection, thenReading, refusalOf, frontSections, frontOf, allSections, sectionsOf, Laid}
+use Rattle.file_sections.specs.Layout.{sectionOf, thenSection, refusalOf, frontSections, frontOf, allSections, sectionsOf}
 use Rattle.file_sections.specs.declared.Sections.{Sections}
 use Rattle.file_sections.specs.declared.Reading.{Reading}
 use Rattle.file_sections.specs.declared.Reading.the-variants.{Refused, Good}

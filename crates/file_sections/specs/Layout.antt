@@ -1,7 +1,7 @@
 -- Document 01, 'Rows and answers': counts are tested section by section (missing 1, too large 2, records cut 1), leftover
 -- bytes 1. Positions are counted in numbers. Assumes nothing.
 use mathlib.Core.Path.{_≡_}
-use mathlib.Core.Bool.{Bool, true, false}
+use mathlib.Core.Bool.{true}
 use mathlib.Core.List.{List}
 use Prim.Native.Nat.{ℕ, _+_, _*_, _≤_, _<_}
 use lib.ListN.{length}

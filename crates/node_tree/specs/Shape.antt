@@ -1,6 +1,6 @@
 -- Document 01, 'The program file': the shape of a node by its kind. Where it may stand, what its operands may be, how many
 -- children it has and what each of them is. Assumes nothing.
-use mathlib.Core.Bool.{Bool, true, false, not, _&&_, _||_}
+use mathlib.Core.Bool.{Bool, true, not, _&&_, _||_}
 use Prim.Native.Nat.{ℕ, _+_}
 use lib.Dec.{eqb, leb}
 use Rattle.oat.specs.Basics.{pick}

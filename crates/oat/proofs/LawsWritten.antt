@@ -1,16 +1,15 @@
 -- Taking a type number apart commutes with writing out: what the type i refers to is lower, so it is written out in turn.
 -- Assumes nothing.
-use mathlib.Core.Path.{_≡_, refl, ap, ap₂, sym, _∙_}
-use mathlib.Core.Bool.{Bool, true, false}
-use mathlib.Core.List.{List, [], _∷_, _++_}
-use Prim.Native.Nat.{ℕ, zero, suc, _+_, _≤_, _<_}
-use native.Mathlib.Nat.{not-suc-le-zero, add-suc, suc-add, add-zero}
+use mathlib.Core.Path.{_≡_, refl, ap, ap₂, _∙_}
+use mathlib.Core.List.{[]}
+use Prim.Native.Nat.{ℕ, zero, suc, _+_, _<_}
+use native.Mathlib.Nat.{not-suc-le-zero, add-zero}
 use native.Mathlib.Omega.{arith}
 use lib.ListN.{length, getD, length-append, List·getD-append}
 use lib.Seq.{getD-at}
 use Rattle.oat.specs.Tables.{Tables, typeAt, entryAt}
 use Rattle.oat.specs.TypeRules.{kindAt}
-use Rattle.oat.specs.Types.{Ty, int, bool, string, void, struct, array, function, nullable, Tys, noTy, andTy, writtenParams, written, firstTypes, typeOf}
+use Rattle.oat.specs.Types.{int, bool, string, void, struct, array, function, nullable, andTy, writtenParams, written, firstTypes, typeOf}
 use Rattle.oat.proofs.LawsBasics.{below-or-last}
 
 first-long : (T : Tables) (n : ℕ) → length (firstTypes T n) ≡ n

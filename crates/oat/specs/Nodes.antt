@@ -9,7 +9,7 @@ use lib.Dec.{ltb}
 use Rattle.oat.specs.Tables.{Tables, typeAt, nodeAt}
 use Rattle.oat.specs.TypeRules.{kindAt, isReferenceKind}
 use Rattle.oat.specs.TableRules.{hasKind}
-use Rattle.oat.specs.Syntax.{Literal, truth, falsity, integer, text, Expr, null, literal, name, arrayLiteral, defaultArray, arrayWith, index, lengthOf, structLiteral, field, call, unary, binary, Exprs, none, also, Inits, noInit, init, Target, targetExpr, Vars, noVar, nextVar, Condition, noCondition, condition, Stmt, assign, var, returnValue, returnVoid, callStmt, ifElse, ifNull, for, while, Step, noStep, step, Block, block, Stmts, empty, then, Decl, global, function, size, sizeTarget, sizeVars, sizeCondition, sizeStep, sizeBlock, sizeStmt, sizeDecl, count, countInits, countVars, countStmts, isConstant}
+use Rattle.oat.specs.Syntax.{Literal, truth, falsity, integer, text, Expr, null, literal, name, arrayLiteral, defaultArray, arrayWith, index, lengthOf, structLiteral, field, call, unary, binary, Exprs, none, also, Inits, noInit, init, targetExpr, Vars, noVar, nextVar, Condition, noCondition, condition, Stmt, assign, var, returnValue, returnVoid, callStmt, ifElse, ifNull, for, while, Step, noStep, step, Block, block, Stmts, empty, then, Decl, global, function, size, sizeTarget, sizeVars, sizeCondition, sizeStep, sizeBlock, sizeStmt, sizeDecl, count, countInits, countVars, countStmts, isConstant}
 
 -- the node n is there, with its kind, x, t and child count
 pub record Node (T : Tables) (n kind x t children : ℕ) : Type 0 where

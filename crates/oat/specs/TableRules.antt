@@ -1,5 +1,5 @@
 -- Document 01, 'The program file': the rules on fields, structs and built-ins (number 4). Assumes nothing.
-use mathlib.Core.Bool.{Bool, not, _&&_}
+use mathlib.Core.Bool.{Bool, _&&_}
 use Prim.Native.Nat.{ℕ}
 use lib.ListN.{length}
 use lib.Dec.{eqb, ltb}

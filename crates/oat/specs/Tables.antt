@@ -1,6 +1,6 @@
 -- Document 01, 'The program file': the six sections as lists of records, and their bytes. Assumes nothing.
 use mathlib.Core.List.{List, [], _∷_, _++_}
-use Prim.Native.Nat.{ℕ, _+_, _*_, _/_, _%_}
+use Prim.Native.Nat.{ℕ, _+_, _/_, _%_}
 use lib.ListN.{length, getD}
 
 -- the record of a type: its kind, and what the kind makes of a, b and c

@@ -2,7 +2,7 @@
 -- refers to, each written out in turn; and the structs of a file with their fields. Assumes nothing.
 use mathlib.Core.List.{List, [], _∷_, _++_}
 use Prim.Native.Nat.{ℕ, zero, suc, _+_}
-use lib.ListN.{length, getD}
+use lib.ListN.{getD}
 use lib.Dec.{eqb}
 use Rattle.oat.specs.Basics.{pick, tabulate}
 use Rattle.oat.specs.Tables.{Tables, TypeRecord, typeAt, entryAt, fieldAt, structAt}

@@ -14,7 +14,7 @@ use Rattle.oat.specs.Basics.{pick}
 use Rattle.oat.specs.Tables.{Tables, fileOf}
 use Rattle.oat.specs.TypeRules.{typesRight}
 use Rattle.oat.specs.TableRules.{tablesRight}
-use Rattle.oat.specs.Syntax.{Decl, sizeDecls, depthDecls}
+use Rattle.oat.specs.Syntax.{Decl, sizeDecls}
 use Rattle.oat.specs.Nodes.{DeclsStand}
 use Rattle.oat.specs.ProgramFile.{Limits, Program, Counts, IsFile}
 use Rattle.oat.proofs.LawsNodes.{same-trees}
@@ -22,7 +22,7 @@ use Rattle.file_sections.specs.declared.Sections.{Sections}
 use Rattle.file_sections.specs.declared.Reading.{Reading}
 use Rattle.file_sections.specs.declared.Reading.the-variants.{Refused, Good}
 use Rattle.file_sections.specs.Layout.{Laid, GoodTables, thenReading, sectionsOf, tablesOf}
-use Rattle.file_sections.proofs.LawsFile.{AllStood, all-stood, file-is, sectionsFor, file-accepted}
+use Rattle.file_sections.proofs.LawsFile.{all-stood, file-is, sectionsFor, file-accepted}
 use Rattle.file_sections.proofs.LawsRecords.{types-long, list-long, fields-long, structs-long, built-ins-long, nodes-long}
 use Rattle.node_tree.specs.Tree.{treesRight}
 use Rattle.node_tree.proofs.Accepted.{trees-accepted}

@@ -13,7 +13,7 @@ use Rattle.oat.specs.Tables.{Tables, typeAt, nodeAt}
 use Rattle.oat.specs.Syntax.{Expr, Exprs, count, Target, targetExpr, Vars, noVar, nextVar, Condition, noCondition, condition, Stmt, assign, var, returnValue, returnVoid, callStmt, ifElse, ifNull, for, while, Step, noStep, step, Block, block, Stmts, empty, then, size, sizeTarget, sizeVars, sizeCondition, sizeStep, sizeBlock, sizeStmt, sizeStmts}
 use Rattle.oat.specs.Nodes.{VarsStand, ConditionStands, StmtStands, StepStands, BlockStands, StmtsStand}
 use Rattle.typing_rules.specs.Contexts.{Scope, binds, isFresh, Context}
-use Rattle.typing_rules.specs.Labels.{Result, gives, marks, nothing, Label}
+use Rattle.typing_rules.specs.Labels.{Result, marks, nothing, Label}
 use Rattle.typing_rules.specs.Rules.{both}
 use Rattle.typing_rules.specs.Judge.{ok, markedAs, isKind, referred, isBelow, argumentsBelow, judge, judges, Done, assignsTo, executeVars, judgeCondition, execute, executeStep, executeBlock, executeAll}
 use Rattle.typing_rules.specs.Check.{nextResult}

@@ -1,14 +1,12 @@
 -- What the contracts of statements cite. F is the file, S its sections, X the index of types, R the rows, W the stack, K the chains; a
 -- prime marks a buffer after the call; rt is the number of the return type. Assumes nothing.
 use mathlib.Core.Path.{_≡_}
-use mathlib.Core.Bool.{Bool, true, false}
-use mathlib.Core.List.{List, [], _∷_}
-use Prim.Native.Nat.{ℕ, _+_, _*_, _≤_, _<_}
-use lib.ListN.{length, getD}
+use mathlib.Core.Bool.{Bool}
+use mathlib.Core.List.{List}
+use Prim.Native.Nat.{ℕ, _+_, _≤_, _<_}
 use lib.Dec.{eqb}
 use Rattle.oat.specs.Basics.{pick}
-use Rattle.oat.specs.Tables.{Tables, nodeAt}
-use Rattle.oat.specs.Syntax.{Expr, Target, targetExpr, Vars, Condition, Stmt, sizeVars, sizeCondition, sizeStmt, countVars}
+use Rattle.oat.specs.Syntax.{Target, targetExpr, Vars, Condition, Stmt, sizeVars, sizeCondition, sizeStmt, countVars}
 use Rattle.oat.specs.Nodes.{Stands, VarsStand, ConditionStands, StmtStands}
 use Rattle.typing_rules.specs.Contexts.{Scope}
 use Rattle.typing_rules.specs.Labels.{Label}

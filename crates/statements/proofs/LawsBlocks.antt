@@ -2,33 +2,32 @@
 -- Assumes nothing.
 use mathlib.Core.Path.{_≡_, refl, ap, sym, subst, _∙_}
 use mathlib.Core.Bool.{Bool, true, false}
-use mathlib.Core.List.{List, [], _∷_, _++_}
+use mathlib.Core.List.{List, [], _∷_}
 use mathlib.Core.Logic.{⊎-elim}
-use Prim.Native.Nat.{ℕ, zero, suc, _+_, _*_, _≤_, _<_}
+use Prim.Native.Nat.{ℕ, zero, suc, _≤_}
 use native.Mathlib.Omega.{arith}
 use types.Run.{OneOf}
 use denote.Enum.Declared.{tagOf}
 use lib.Dec.{eqb}
 use Rattle.oat.specs.Basics.{pick}
-use Rattle.oat.specs.Tables.{Tables}
-use Rattle.oat.specs.Syntax.{Expr, Stmt, Step, Block, size, sizeStmt, sizeStep, sizeBlock}
-use Rattle.oat.specs.Nodes.{Stands, StmtStands, StepStands, BlockStands}
+use Rattle.oat.specs.Syntax.{Block, sizeBlock}
+use Rattle.oat.specs.Nodes.{BlockStands}
 use Rattle.typing_rules.specs.Contexts.{Scope, Context}
 use Rattle.typing_rules.specs.Labels.{Label}
-use Rattle.typing_rules.specs.Judge.{Out, ok, no, andThen, needs, Done, execute, executeStep, executeBlock}
+use Rattle.typing_rules.specs.Judge.{Out, ok, andThen, executeBlock}
 use Rattle.file_sections.specs.declared.Sections.{Sections}
 use Rattle.file_sections.specs.Layout.{tablesOf}
 use Rattle.type_index.specs.Index.{declared}
-use Rattle.bindings.specs.Bindings.{entryOf, namesOf, scopeOf, Scoped, Same}
+use Rattle.bindings.specs.Bindings.{entryOf, scopeOf, Scoped, Same}
 use Rattle.bindings.proofs.LawsBindings.{scope-same, names-same, same-less}
 use Rattle.answers.specs.declared.answer.Judgement.{Judgement}
-use Rattle.answers.specs.declared.answer.Judgement.the-variants.{Typed, GoesOn, Returns, Refused}
+use Rattle.answers.specs.declared.answer.Judgement.the-variants.{GoesOn, Returns, Refused}
 use Rattle.answers.specs.declared.answer.Judged.{Judged}
 use Rattle.answers.proofs.answer.Judgement.{the-type}
-use Rattle.expressions.specs.Contract.{contextOf, Fine, After, Meets, accepts, refuses}
+use Rattle.expressions.specs.Contract.{contextOf, After, Meets, accepts, refuses}
 use Rattle.expressions.proofs.LawsMeets.{hands-up, goes-on}
-use Rattle.simple_statements.specs.Contract.{markOf, marked, Marking, ToldStmt}
-use Rattle.statements.specs.Contract.{Blocking, Running, ToldBlock, ToldStep}
+use Rattle.simple_statements.specs.Contract.{markOf, marked}
+use Rattle.statements.specs.Contract.{Blocking, ToldBlock}
 
 -- the answer is no refusal
 pub record Unrefused (r : Judged) : Type 0 where

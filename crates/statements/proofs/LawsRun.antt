@@ -15,7 +15,6 @@ use Rattle.file_sections.specs.declared.Sections.{Sections}
 use Rattle.file_sections.specs.Layout.{tablesOf}
 use Rattle.file_sections.proofs.LawsRecords.{nodes-long}
 use Rattle.bindings.specs.Bindings.{scopeOf, Scoped}
-use Rattle.answers.specs.declared.answer.Judgement.{Judgement}
 use Rattle.answers.specs.declared.answer.Judgement.the-variants.{Refused}
 use Rattle.answers.specs.declared.answer.Judged.{Judged}
 use Rattle.answers.specs.Answers.{AnswerIs}

@@ -10,12 +10,12 @@ use Rattle.typing_rules.specs.Check.{nextResult}
 use Rattle.file_sections.specs.declared.Sections.{Sections}
 use Rattle.file_sections.specs.Layout.{tablesOf}
 use Rattle.bindings.specs.Bindings.{entryOf, scopeOf, Same}
-use Rattle.bindings.proofs.LawsBindings.{same-less, names-same, same-trans}
+use Rattle.bindings.proofs.LawsBindings.{same-less, names-same}
 use Rattle.answers.specs.declared.answer.Judgement.the-variants.{GoesOn}
 use Rattle.answers.specs.declared.answer.Judged.{Judged}
 use Rattle.expressions.specs.Contract.{RowsAt, After, Meets, accepts, refuses, contextOf}
 use Rattle.expressions.proofs.LawsAfter.{same-more, rows-kept}
-use Rattle.expressions.proofs.LawsLabels.{lastResult, Closed, rows-join, rows-append}
+use Rattle.expressions.proofs.LawsLabels.{lastResult, Closed, rows-join}
 use Rattle.statements.proofs.LawsBlocks.{Unrefused}
 use Rattle.oat.specs.Nodes.{StmtStands}
 use Rattle.simple_statements.specs.Contract.{Marking, ToldStmt}

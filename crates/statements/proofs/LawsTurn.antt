@@ -1,11 +1,11 @@
 -- The step and the block of a for. Assumes nothing.
 use mathlib.Core.Path.{_≡_, refl, ap, sym, subst, _∙_}
 use mathlib.Core.List.{List, []}
-use Prim.Native.Nat.{ℕ, _+_, _≤_, _<_}
+use Prim.Native.Nat.{ℕ, _<_}
 use native.Mathlib.Omega.{arith}
 use lib.Dec.{eqb}
 use Rattle.oat.specs.Tables.{Tables}
-use Rattle.oat.specs.Syntax.{Step, noStep, step, Block, sizeBlock}
+use Rattle.oat.specs.Syntax.{Step, noStep, step}
 use Rattle.oat.specs.Nodes.{BlockStands}
 use Rattle.typing_rules.specs.Contexts.{Scope, Context}
 use Rattle.typing_rules.specs.Labels.{Label}
@@ -13,13 +13,12 @@ use Rattle.typing_rules.specs.Judge.{ok, execute, executeStep}
 use Rattle.typing_rules.proofs.LawsInvert.{ok-is, then-ok, needs-ok}
 use Rattle.file_sections.specs.declared.Sections.{Sections}
 use Rattle.file_sections.specs.Layout.{tablesOf}
-use Rattle.file_sections.proofs.LawsRecords.{nodes-long}
 use Rattle.answers.specs.declared.answer.Judgement.the-variants.{GoesOn}
 use Rattle.answers.specs.declared.answer.Judged.{Judged}
-use Rattle.expressions.specs.Contract.{Fine, accepts}
+use Rattle.expressions.specs.Contract.{accepts}
 use Rattle.expressions.proofs.LawsMeets.{Unlisted}
 use Rattle.simple_statements.specs.Contract.{marked}
-use Rattle.simple_statements.proofs.LawsLabels.{step-long, block-head, block-within, size-step-one}
+use Rattle.simple_statements.proofs.LawsLabels.{step-long, block-head, size-step-one}
 use Rattle.statements.specs.Contract.{ReadyBlock, ToldBlock, ReadyStep, ToldStep, ReadyTurn, ToldTurn}
 use Rattle.statements.proofs.LawsBlocks.{part-ok, part-of, retell-block}
 use Rattle.statements.proofs.LawsBlock.{ready-block}

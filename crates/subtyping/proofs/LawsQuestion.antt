@@ -11,7 +11,7 @@ use lib.Dec.{leb}
 use borrow.Author.Tests.{le-leb, lt-leb, leb-true, leb-false}
 use Rattle.oat.specs.Basics.{pick}
 use Rattle.oat.specs.Tables.{Tables}
-use Rattle.oat.specs.Types.{typeOf, structsOf}
+use Rattle.oat.specs.Types.{typeOf}
 use Rattle.oat.specs.Subtyping.{SubRet}
 use Rattle.oat.specs.Decide.{below}
 use Rattle.oat.specs.ProgramFile.{Program, IsFile}
@@ -25,7 +25,7 @@ use Rattle.program_file.specs.Reading.{readingOf, limitsOf, numberOf, IsProgram
 use Rattle.program_file.proofs.Theorem.{reading-of}
 use Rattle.type_index.specs.Index.{declared}
 use Rattle.subtyping.specs.Numbered.{belowAt}
-use Rattle.subtyping.specs.Question.{askOf, onReading, subtypeOf, refusalNumber, yesAfter, HasBoth, Below, AnswersOn, Answers}
+use Rattle.subtyping.specs.Question.{askOf, subtypeOf, refusalNumber, yesAfter, HasBoth, Below, AnswersOn, Answers}
 use Rattle.subtyping.specs.declared.question.Answer.{Answer}
 use Rattle.subtyping.specs.declared.question.Answer.the-variants.{Refused, Yes, No}
 

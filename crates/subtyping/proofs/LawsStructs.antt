@@ -8,12 +8,12 @@ use native.Mathlib.Nat.{not-suc-le-zero, le-of-suc-le-suc}
 use native.Mathlib.Omega.{arith}
 use lib.ListN.{length}
 use lib.Dec.{eqb, ltb}
-use borrow.Author.Tests.{ltb-true, ltb-false, lt-ltb, le-ltb, eqb-true, eqb-false, eq-eqb, ne-eqb, not-true, not-false}
+use borrow.Author.Tests.{lt-ltb, le-ltb, eq-eqb, ne-eqb, not-true, not-false}
 use Rattle.oat.specs.Basics.{pick, allBelow, sumBelow, tabulate}
 use Rattle.oat.specs.Tables.{Tables, typeAt, fieldAt, structAt}
 use Rattle.oat.specs.TypeRules.{kindAt}
 use Rattle.oat.specs.TableRules.{fieldsBefore}
-use Rattle.oat.specs.Types.{Field, Struct, structOf, structsOf, found, missing, lookup}
+use Rattle.oat.specs.Types.{Field, structOf, found, missing}
 use Rattle.oat.specs.Decide.{sameTy, beginsWith, onFound, structBelow}
 use Rattle.oat.proofs.LawsBasics.{and-right, all-more, all-false, below-or-last}
 use Rattle.oat.proofs.LawsTables.{tables-formed}

@@ -1,7 +1,6 @@
 -- The subtype question (document 01, 'Rows and answers'): 1 to 5, then 17, then yes or no; and what its number and its yes say of the file
 -- and the rules. Assumes nothing.
 use mathlib.Core.Path.{_≡_}
-use mathlib.Core.Bool.{true, false}
 use mathlib.Core.List.{List}
 use mathlib.Core.Logic.{_↔_, _⊎_}
 use Prim.Native.Nat.{ℕ, _≤_, _<_}

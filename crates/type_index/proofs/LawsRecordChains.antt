@@ -10,7 +10,7 @@ use lib.Dec.{eqb, ltb}
 use lib.Seq.{getD-set-same, getD-set-other}
 use borrow.Author.Tests.{eqb-true, eqb-false, eq-eqb, ne-eqb, ltb-true, ltb-false}
 use Rattle.oat.specs.Basics.{pick}
-use Rattle.oat.specs.Tables.{Tables, structAt}
+use Rattle.oat.specs.Tables.{structAt}
 use Rattle.file_sections.specs.declared.Sections.{Sections}
 use Rattle.file_sections.specs.Layout.{Laid, tablesOf}
 use Rattle.file_sections.proofs.LawsRecords.{structs-long}

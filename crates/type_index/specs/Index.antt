@@ -3,7 +3,7 @@
 -- type before it in its chain, at 2048 + h the head of the chain h; links and heads are one higher than the type that they lead to, 0
 -- for none. Assumes nothing.
 use mathlib.Core.Path.{_≡_}
-use mathlib.Core.Bool.{Bool, true}
+use mathlib.Core.Bool.{Bool}
 use mathlib.Core.List.{List}
 use Prim.Native.Nat.{ℕ, zero, suc, _+_, _%_, _≤_, _<_}
 use lib.ListN.{length, getD}

@@ -7,7 +7,7 @@ use lib.Dec.{eqb}
 use Rattle.oat.specs.Basics.{pick}
 use Rattle.oat.specs.Tables.{Tables, structAt}
 use Rattle.file_sections.specs.declared.Sections.{Sections}
-use Rattle.file_sections.specs.Layout.{Laid, tablesOf}
+use Rattle.file_sections.specs.Layout.{Laid}
 
 -- the name of the record that is the k-th from the last
 abbrev pub nameFromLast : Tables → ℕ → ℕ

@@ -14,7 +14,7 @@ ghost use lib.ListN.{length};
 ghost use Rattle.oat.specs.TypeRules.{kindAt};
 ghost use Rattle.oat.specs.Types.{typeOf};
 ghost use Rattle.oat.specs.Decide.{isFormed};
-ghost use Rattle.file_sections.specs.Layout.{Laid, Has, tablesOf, GoodTables};
+ghost use Rattle.file_sections.specs.Layout.{Has, tablesOf, GoodTables};
 ghost use Rattle.type_index.specs.Index.{declared, structNamed, structEntry, formedEntry, paramsFormed, Entered, Indexed, Listed};
 ghost use Rattle.type_index.specs.Records.{Recorded};
 

@@ -11,7 +11,6 @@ use Rattle.oat.specs.Types.{structsOf}
 use Rattle.oat.specs.Syntax.{sizeDecls}
 use Rattle.oat.specs.Nodes.{DeclsStand}
 use Rattle.oat.specs.ProgramFile.{Program, IsFile}
-use Rattle.typing_rules.specs.Contexts as Contexts
 use Rattle.typing_rules.specs.Steps.{Step, stepsOf, emptyContext}
 use Rattle.typing_rules.specs.Check.{Segment, Ran, accepted, refused, withSegment, run, answerOf as programAnswer, checkOf}
 use Rattle.typing_rules.proofs.Theorem.{runOf}

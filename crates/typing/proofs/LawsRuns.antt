@@ -14,7 +14,7 @@ use Rattle.typing_rules.specs.Contexts as Contexts
 use Rattle.typing_rules.specs.Labels.{Label}
 use Rattle.typing_rules.specs.Judge.{Out, ok, no}
 use Rattle.typing_rules.specs.Steps.{Step, structName, builtIn, heading, globalValue, structFields, body}
-use Rattle.typing_rules.specs.Check.{Segment, Ran, accepted, refused, withSegment, rowsBegin, stepRows, runStep, run}
+use Rattle.typing_rules.specs.Check.{Segment, Ran, refused, withSegment, rowsBegin, stepRows, runStep, run}
 use Rattle.file_sections.specs.declared.Sections.{Sections}
 use Rattle.file_sections.specs.Layout.{tablesOf}
 use Rattle.expressions.specs.Contract.{Kept}

@@ -1,13 +1,13 @@
 -- What the theorems on trees speak of: a file whose tables keep the rules, scopes and contexts of type numbers and what they are written
 -- out, the labels of a tree's nodes in order, and a labelling that has given labels. Assumes nothing.
 use mathlib.Core.Path.{_≡_}
-use mathlib.Core.List.{List, [], _∷_, _++_, map}
+use mathlib.Core.List.{List, [], _∷_, _++_}
 use Prim.Native.Nat.{ℕ, _+_, _≤_, _<_}
 use lib.ListN.{length}
 use Rattle.oat.specs.Tables.{Tables}
 use Rattle.oat.specs.TypeRules.{kindAt}
 use Rattle.oat.specs.Types.{Ty, typeOf, structsOf}
-use Rattle.oat.specs.Syntax.{Expr, null, literal, name, arrayLiteral, defaultArray, arrayWith, index, lengthOf, structLiteral, field, call, unary, binary, Exprs, none, also, Inits, noInit, init, Target, targetExpr, Vars, noVar, nextVar, Condition, noCondition, condition, Stmt, assign, var, returnValue, returnVoid, callStmt, ifElse, ifNull, for, while, Step, noStep, step, Block, block, Stmts, empty, then, size, sizeTarget, sizeVars, sizeCondition, sizeStep, sizeBlock, sizeStmt}
+use Rattle.oat.specs.Syntax.{Expr, null, literal, name, arrayLiteral, defaultArray, arrayWith, index, lengthOf, structLiteral, field, call, unary, binary, Exprs, none, also, Inits, noInit, init, targetExpr, Vars, noVar, nextVar, Condition, noCondition, condition, Stmt, assign, var, returnValue, returnVoid, callStmt, ifElse, ifNull, for, while, Step, noStep, step, Block, block, Stmts, empty, then, size, sizeTarget, sizeVars, sizeCondition, sizeStep, sizeBlock, sizeStmt}
 use Rattle.oat.proofs.LawsTypes.{TypesFormed}
 use Rattle.oat.proofs.LawsTables.{TablesFormed}
 use Rattle.typing_rules.specs.Contexts.{Binding, Scope, bind, Entry, Context}

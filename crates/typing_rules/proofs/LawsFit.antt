@@ -1,23 +1,23 @@
 -- The labels of an accepted tree have type numbers of the file. Assumes nothing.
-use mathlib.Core.Path.{_≡_, refl}
+use mathlib.Core.Path.{_≡_}
 use mathlib.Core.Bool.{not, _&&_, _||_}
-use mathlib.Core.List.{List, [], _∷_, _++_}
-use Prim.Native.Nat.{ℕ, _+_, _<_}
+use mathlib.Core.List.{List, _∷_}
+use Prim.Native.Nat.{ℕ, _+_}
 use native.Mathlib.Omega.{arith}
 use lib.ListN.{length}
 use lib.Dec.{eqb}
 use Rattle.oat.specs.Tables.{Tables, typeAt}
 use Rattle.oat.specs.Types.{lookup}
-use Rattle.oat.specs.Syntax.{Expr, null, literal, name, arrayLiteral, defaultArray, arrayWith, index, lengthOf, structLiteral, field, call, unary, binary, Exprs, none, also, Inits, noInit, init, count, Target, targetExpr, Vars, noVar, nextVar, Condition, noCondition, condition, Stmt, assign, var, returnValue, returnVoid, callStmt, ifElse, ifNull, for, while, Step, noStep, step, Block, block, Stmts, empty, then, size, sizeTarget, sizeVars, sizeCondition, sizeStep, sizeBlock, sizeStmt}
-use Rattle.oat.specs.Nodes.{Stands, StandAll, InitsStand, VarsStand, ConditionStands, StmtStands, StepStands, BlockStands, StmtsStand}
+use Rattle.oat.specs.Syntax.{Expr, null, literal, name, arrayLiteral, defaultArray, arrayWith, index, lengthOf, structLiteral, field, call, unary, binary, Exprs, none, also, Inits, noInit, init, count, size}
+use Rattle.oat.specs.Nodes.{Stands, StandAll, InitsStand}
 use Rattle.typing_rules.specs.Contexts.{Scope, binds, find, isFresh, Context, findName, orElse}
 use Rattle.typing_rules.specs.Labels.{Label}
 use Rattle.typing_rules.specs.Operators.{isEquality, operandType, unaryType}
 use Rattle.typing_rules.specs.Rules.{namesFit}
-use Rattle.typing_rules.specs.Judge.{Out, ok, no, typedAs, isKind, referred, isBelow, formed, hasDefault, eachBelow, argumentsBelow, fieldOf, initsBelow, judge, judges, judgeInits}
+use Rattle.typing_rules.specs.Judge.{ok, typedAs, isKind, referred, isBelow, formed, hasDefault, eachBelow, argumentsBelow, fieldOf, initsBelow, judge, judges, judgeInits}
 use Rattle.typing_rules.proofs.Claims.{File, Value, ScopeFits, fits-bind, ContextFits}
 use Rattle.typing_rules.proofs.LawsBridge.{base-value}
-use Rattle.typing_rules.proofs.LawsInvert.{refused, ok-is, then-ok, needs-ok, declared-ok, named-ok, field-ok}
+use Rattle.typing_rules.proofs.LawsInvert.{ok-is, then-ok, needs-ok, declared-ok, named-ok, field-ok}
 use Rattle.typing_rules.proofs.LawsRows.{LabelsFit, fit-none, fit-label, fit-append}
 use Rattle.typing_rules.proofs.Sound.{sound}
 

@@ -1,18 +1,16 @@
 -- The labels of an accepted block have type numbers of the file. Assumes nothing.
-use mathlib.Core.Path.{_≡_, refl}
-use mathlib.Core.Bool.{true, not}
-use mathlib.Core.List.{List, [], _∷_, _++_}
-use Prim.Native.Nat.{ℕ, _+_, _<_}
-use native.Mathlib.Omega.{arith}
-use lib.ListN.{length}
+use mathlib.Core.Path.{_≡_}
+use mathlib.Core.Bool.{not}
+use mathlib.Core.List.{List}
+use Prim.Native.Nat.{ℕ, _+_}
 use lib.Dec.{eqb}
 use Rattle.oat.specs.Tables.{Tables, typeAt}
-use Rattle.oat.specs.Syntax.{Expr, Exprs, count, Target, targetExpr, Vars, noVar, nextVar, Condition, noCondition, condition, Stmt, assign, var, returnValue, returnVoid, callStmt, ifElse, ifNull, for, while, Step, noStep, step, Block, block, Stmts, empty, then, size, sizeTarget, sizeVars, sizeCondition, sizeStep, sizeBlock, sizeStmt}
+use Rattle.oat.specs.Syntax.{count, targetExpr, Vars, noVar, nextVar, Condition, noCondition, condition, Stmt, assign, var, returnValue, returnVoid, callStmt, ifElse, ifNull, for, while, Step, noStep, step, Block, block, Stmts, empty, then, size, sizeTarget, sizeVars, sizeCondition, sizeStep, sizeBlock, sizeStmt}
 use Rattle.oat.specs.Nodes.{VarsStand, ConditionStands, StmtStands, StepStands, BlockStands, StmtsStand}
 use Rattle.typing_rules.specs.Contexts.{Scope, binds, isFresh, Context}
 use Rattle.typing_rules.specs.Labels.{Label}
-use Rattle.typing_rules.specs.Judge.{Out, ok, no, isKind, referred, isBelow, argumentsBelow, judge, judges, Done, assignsTo, executeVars, judgeCondition, execute, executeStep, executeBlock, executeAll}
-use Rattle.typing_rules.proofs.Claims.{File, Value, ScopeFits, fits-bind, ContextFits}
+use Rattle.typing_rules.specs.Judge.{ok, isKind, referred, isBelow, argumentsBelow, judge, judges, Done, assignsTo, executeVars, judgeCondition, execute, executeStep, executeBlock, executeAll}
+use Rattle.typing_rules.proofs.Claims.{File, ScopeFits, fits-bind, ContextFits}
 use Rattle.typing_rules.proofs.CompleteStmts.{reference-value}
 use Rattle.typing_rules.proofs.LawsFit.{expr-fit, exprs-fit}
 use Rattle.typing_rules.proofs.LawsInvert.{ok-is, then-ok, needs-ok}

@@ -1,14 +1,14 @@
 -- The definition of the check on a program: steps in document 01's order, the answer, and the rows. Assumes nothing.
 use mathlib.Core.Bool.{Bool, true, false, _&&_}
 use mathlib.Core.List.{List, [], _∷_, _++_}
-use Prim.Native.Nat.{ℕ, zero, suc, _+_, _*_}
+use Prim.Native.Nat.{ℕ, suc, _+_, _*_}
 use lib.ListN.{length, drop, replicate}
 use lib.Dec.{eqb}
 use Rattle.oat.specs.Basics.{pick}
 use Rattle.oat.specs.Tables.{Tables, typeAt, entryAt, structAt, builtInAt}
 use Rattle.oat.specs.Types.{Field, Lookup, found, missing, lookup, structOf}
 use Rattle.oat.specs.Decide.{isFormed}
-use Rattle.oat.specs.Syntax.{Expr, Block, Decl, sizeDecl}
+use Rattle.oat.specs.Syntax.{Decl, sizeDecl}
 use Rattle.oat.specs.ProgramFile.{Program}
 use Rattle.typing_rules.specs.Contexts.{empty, Hit, hit, miss, Context, findName}
 use Rattle.typing_rules.specs.Labels.{Result, gives, marks, nothing, Label, unlabelled}

@@ -1,6 +1,5 @@
 -- Document 01: a derivation labels the nodes of a tree so that at every node the premises of a rule hold between it and its children.
 -- `At` says which subtree stands where; nothing walks the tree. Assumes nothing.
-use mathlib.Core.List.{List, [], _∷_}
 use Prim.Native.Nat.{ℕ, _+_}
 use Rattle.oat.specs.Tables.{Tables}
 use Rattle.oat.specs.Types.{Ty}

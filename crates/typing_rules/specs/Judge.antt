@@ -8,7 +8,7 @@ use lib.Dec.{eqb}
 use Rattle.oat.specs.Basics.{pick}
 use Rattle.oat.specs.Tables.{Tables, typeAt, entryAt, fieldAt, structAt}
 use Rattle.oat.specs.TypeRules.{kindAt}
-use Rattle.oat.specs.Types.{Ty, typeOf, Field, Struct, Lookup, found, missing, lookup}
+use Rattle.oat.specs.Types.{typeOf, Field, Lookup, found, missing, lookup}
 use Rattle.oat.specs.Decide.{below, isFormed}
 use Rattle.oat.specs.Syntax.{Expr, null, literal, name, arrayLiteral, defaultArray, arrayWith, index, lengthOf, structLiteral, field, call, unary, binary, Exprs, none, also, count, Inits, noInit, init, Target, nameTarget, indexTarget, fieldTarget, targetExpr, Vars, noVar, nextVar, Condition, noCondition, condition, Stmt, assign, var, returnValue, returnVoid, callStmt, ifElse, ifNull, for, while, Step, noStep, step, Block, block, Stmts, empty, then, size, sizeTarget, sizeVars, sizeCondition, sizeStep, sizeBlock, sizeStmt}
 use Rattle.typing_rules.specs.Contexts.{Scope, binds, Hit, hit, miss, find, isFresh, Context, findName, isFixed, orElse}

@@ -1,7 +1,6 @@
 -- Document 01, 'Typing': what a derivation gives, node by node: each expression a type, each statement and block a return mark, each name
 -- (kind 15) its binder, and all of these their scopes before and after; 3 and 40 have no rule and need none, and a 22 stands for its value.
 -- A is what stands for a type, as in Contexts. Which labels are a derivation is said in Rules and Derivations. Assumes nothing.
-use mathlib.Core.List.{List}
 use Prim.Native.Nat.{ℕ}
 use Rattle.typing_rules.specs.Contexts.{Scope, empty}
 

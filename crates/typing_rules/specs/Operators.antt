@@ -1,7 +1,7 @@
 -- Document 01, 'Typing': what operators take and give: operators 0 to 5, 14, 15 take ints to int; 6 to 9 ints to bool; 12, 13 bools to
 -- bool; 10, 11 need both subtype directions (the premises are in Rules). And the types of literals. A type is said by its number: fixed
 -- types 0 int, 1 bool, 2 string. Assumes nothing.
-use mathlib.Core.Bool.{Bool, true, false, _&&_, _||_}
+use mathlib.Core.Bool.{Bool, _||_}
 use Prim.Native.Nat.{ℕ}
 use lib.Dec.{eqb, leb}
 use Rattle.oat.specs.Basics.{pick}

@@ -9,12 +9,12 @@ use lib.ListN.{length}
 use lib.Dec.{eqb}
 use Rattle.oat.specs.Basics.{pick}
 use Rattle.oat.specs.Tables.{Tables}
-use Rattle.oat.specs.Types.{Ty, int, bool, string, void, struct, array, function, nullable, Tys, noTy, andTy, typeOf, Field, Struct, found, lookup}
+use Rattle.oat.specs.Types.{Ty, int, bool, void, struct, array, function, nullable, Tys, noTy, andTy, typeOf, Field, Struct, found, lookup}
 use Rattle.oat.specs.Subtyping.{Sub, SubAll, Formed}
-use Rattle.oat.specs.Syntax.{Literal, Expr, null, literal, name, arrayLiteral, defaultArray, arrayWith, index, lengthOf, structLiteral, field, call, unary, binary, Exprs, none, also, Inits, noInit, init, Target, nameTarget, indexTarget, fieldTarget, targetExpr, Vars, noVar, nextVar, Condition, noCondition, condition, Stmt, assign, var, returnValue, returnVoid, callStmt, ifElse, ifNull, for, while, Step, noStep, step, Block, block, Stmts, empty, then, size, sizeTarget, sizeVars, sizeCondition, sizeStep, sizeBlock, sizeStmt, countInits}
+use Rattle.oat.specs.Syntax.{Literal, Expr, null, literal, name, arrayLiteral, defaultArray, arrayWith, index, lengthOf, structLiteral, field, call, unary, binary, Exprs, none, also, Inits, noInit, init, Target, nameTarget, indexTarget, fieldTarget, Vars, noVar, nextVar, Condition, noCondition, condition, Stmt, assign, var, returnValue, returnVoid, callStmt, ifElse, ifNull, for, while, Step, noStep, step, Block, block, Stmts, empty, then, size, sizeTarget, sizeVars, sizeCondition, sizeStep, sizeBlock, sizeStmt, countInits}
 use Rattle.typing_rules.specs.Contexts.{Scope, binds, hit, miss, find, isFresh, Context, findName, isFixed}
 use Rattle.typing_rules.specs.Operators.{isEquality, operandType, resultType, unaryType, baseType, literalType}
-use Rattle.typing_rules.specs.Labels.{Result, gives, marks, nothing, Label, Labels, unlabelled}
+use Rattle.typing_rules.specs.Labels.{gives, marks, Labels, unlabelled}
 
 -- a premise H; G; L ⊢ exp : t about the child at m
 pub record Typed (D : Labels Ty) (m : ℕ) (Γ : Scope Ty) (t : Ty) : Type 0 where

@@ -1,6 +1,6 @@
 -- Document 01, 'Steps and the order of premises', and derivations of steps, of the first n steps together and of a file. Assumes nothing.
 use mathlib.Core.Path.{_≡_}
-use mathlib.Core.Bool.{Bool, true, false, _&&_}
+use mathlib.Core.Bool.{Bool, true, false}
 use mathlib.Core.List.{List, [], _∷_, _++_}
 use Prim.Native.Nat.{ℕ, zero, suc, _+_, _≤_, _<_}
 use lib.ListN.{length, take}
@@ -11,7 +11,7 @@ use Rattle.oat.specs.Types.{Ty, void, typeOf, Field, Struct, structOf, missing,
 use Rattle.oat.specs.Subtyping.{Formed}
 use Rattle.oat.specs.Syntax.{Expr, Block, Decl, global, function, size, sizeBlock, sizeDecl}
 use Rattle.oat.specs.ProgramFile.{Program}
-use Rattle.typing_rules.specs.Contexts.{Scope, empty, binds, miss, Entry, Context, findName}
+use Rattle.typing_rules.specs.Contexts.{Scope, empty, binds, miss, Context, findName}
 use Rattle.typing_rules.specs.Labels.{Result, gives, marks, nothing, Labels, unlabelled}
 use Rattle.typing_rules.specs.Derivations.{Derives, DerivesBlock}
 

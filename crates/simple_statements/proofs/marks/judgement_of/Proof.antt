@@ -1,5 +1,4 @@
 -- `judgement_of` meets its contract. Assumes nothing.
-use borrow.Author.Needs.{needs}
 use Rattle.simple_statements.proofs.LawsMarks.{returns-marked, goes-on-marked}
 use Rattle.simple_statements.proofs.marks.judgement_of.Statement.{statement}
 use Rattle.simple_statements.proofs.marks.judgement_of.Tie as tie

@@ -11,43 +11,108 @@ use Rattle.simple_statements.proofs.simple.assignment.Statement.{statem
 use Rattle.simple_statements.proofs.simple.assignment.Tie as tie
 
 assigns-requires : tie.Need-assigns-requires
-assigns-requires c κs = (some-held (c .before .before .before .before .before .before .before .before .pre .0 .fine), assignment-first (c .before .before .before .before .before .before .before .before .pre .0) (c .before .before .before .before .before .before .before .before .pre .1) .within)
+assigns-requires c κs =
+    let at-start = c .before .before .before .before .before .before .before .before in
+    (some-held (at-start .pre .0 .fine), assignment-first (at-start .pre .0) (at-start .pre .1) .within)
 
 returns : tie.Need-returns
-returns c = assignment-fixed (c .before .before .before .before .before .before .before .before .before .before .before .pre .0) (c .before .before .before .before .before .before .before .before .before .before .before .pre .1) (c .before .before .assigns .ensures) (c .before .if1 .taken) (c .refused .ensures .0)
+returns c =
+    let at-assigns = c .before .before in
+    let at-start = at-assigns .before .before .before .before .before .before .before .before .before in
+    assignment-fixed (at-start .pre .0) (at-start .pre .1) (at-assigns .assigns .ensures) (c .before .if1 .taken) (c .refused .ensures .0)
 
 expression-requires : tie.Need-expression-requires
-expression-requires c κs = assignment-first (c .before .before .before .before .before .before .before .before .before .before .before .before .before .before .pre .0) (c .before .before .before .before .before .before .before .before .before .before .before .before .before .before .pre .1)
+expression-requires c κs =
+    let at-start = c .before .before .before .before .before .before .before .before .before .before .before .before .before .before in
+    assignment-first (at-start .pre .0) (at-start .pre .1)
 
 returns-2 : tie.Need-returns-2
-returns-2 c = assignment-no (c .before .before .before .before .before .before .before .before .before .before .before .before .before .before .before .before .before .before .before .before .before .before .pre .0) (c .before .before .before .before .before .before .before .before .before .before .before .before .before .before .before .before .before .before .before .before .before .before .pre .1) (c .before .before .before .before .before .before .before .before .before .before .before .before .before .assigns .ensures) (c .before .before .before .before .before .before .before .before .before .before .before .before .if1 .left) (c .before .before .before .before .before .before .before .expression .ensures) (untyped _ (c .match .keys2))
+returns-2 c =
+    let at-expression = c .before .before .before .before .before .before .before in
+    let at-if1 = at-expression .before .before .before .before .before in
+    let at-assigns = at-if1 .before in
+    let at-start = at-assigns .before .before .before .before .before .before .before .before .before in
+    assignment-no (at-start .pre .0) (at-start .pre .1) (at-assigns .assigns .ensures) (at-if1 .if1 .left) (at-expression .expression .ensures) (untyped _ (c .match .keys2))
 
 expression-requires-2 : tie.Need-expression-requires-2
-expression-requires-2 c κs = assignment-second (c .before .before .before .before .before .before .before .before .before .before .before .before .before .before .before .before .before .before .before .before .before .before .before .before .before .before .before .pre .0) (c .before .before .before .before .before .before .before .before .before .before .before .before .before .before .before .before .before .before .before .before .before .before .before .before .before .before .before .pre .1) (c .before .before .before .before .before .before .before .before .before .before .before .before .before .before .before .before .before .before .assigns .ensures) (c .before .before .before .before .before .before .before .before .before .before .before .before .before .before .before .before .before .if1 .left) (c .before .before .before .before .before .before .before .before .before .before .before .before .expression .ensures) (c .before .before .before .before .first .given .1)
+expression-requires-2 c κs =
+    let at-first = c .before .before .before .before in
+    let at-expression = at-first .before .before .before .before .before .before .before .before in
+    let at-if1 = at-expression .before .before .before .before .before in
+    let at-assigns = at-if1 .before in
+    let at-start = at-assigns .before .before .before .before .before .before .before .before .before in
+    assignment-second (at-start .pre .0) (at-start .pre .1) (at-assigns .assigns .ensures) (at-if1 .if1 .left) (at-expression .expression .ensures) (at-first .first .given .1)
 
 returns-3 : tie.Need-returns-3
-returns-3 c = assignment-no-2 (c .before .before .before .before .before .before .before .before .before .before .before .before .before .before .before .before .before .before .before .before .before .before .before .before .before .before .before .before .before .before .before .before .before .before .before .pre .0) (c .before .before .before .before .before .before .before .before .before .before .before .before .before .before .before .before .before .before .before .before .before .before .before .before .before .before .before .before .before .before .before .before .before .before .before .pre .1) (c .before .before .before .before .before .before .before .before .before .before .before .before .before .before .before .before .before .before .before .before .before .before .before .before .before .before .assigns .ensures) (c .before .before .before .before .before .before .before .before .before .before .before .before .before .before .before .before .before .before .before .before .before .before .before .before .before .if1 .left) (c .before .before .before .before .before .before .before .before .before .before .before .before .before .before .before .before .before .before .before .before .expression .ensures) (c .before .before .before .before .before .before .before .before .before .before .before .before .first .given .1) (c .before .before .before .before .before .before .before .expression2 .ensures) (untyped _ (c .match2 .keys2))
+returns-3 c =
+    let at-expression2 = c .before .before .before .before .before .before .before in
+    let at-first = at-expression2 .before .before .before .before .before in
+    let at-expression = at-first .before .before .before .before .before .before .before .before in
+    let at-if1 = at-expression .before .before .before .before .before in
+    let at-assigns = at-if1 .before in
+    let at-start = at-assigns .before .before .before .before .before .before .before .before .before in
+    assignment-no-2 (at-start .pre .0) (at-start .pre .1) (at-assigns .assigns .ensures) (at-if1 .if1 .left) (at-expression .expression .ensures) (at-first .first .given .1) (at-expression2 .expression2 .ensures) (untyped _ (c .match2 .keys2))
 
 below-requires : tie.Need-below-requires
 below-requires c κs = (c .before .before .before .before .before .before .before .before .before .before .before .before .before .before .before .before .before .before .before .before .before .before .before .before .before .before .before .before .before .before .before .before .before .before .before .before .before .pre .0 .fine .good-tables, c .before .before .before .before .before .before .before .before .before .before .before .before .before .before .before .before .before .before .before .before .before .before .before .before .before .before .before .before .before .before .before .before .before .before .before .before .before .pre .0 .fine .indexed, search (child-within (assignment-second (c .before .before .before .before .before .before .before .before .before .before .before .before .before .before .before .before .before .before .before .before .before .before .before .before .before .before .before .before .before .before .before .before .before .before .before .before .before .pre .0) (c .before .before .before .before .before .before .before .before .before .before .before .before .before .before .before .before .before .before .before .before .before .before .before .before .before .before .before .before .before .before .before .before .before .before .before .before .before .pre .1) (c .before .before .before .before .before .before .before .before .before .before .before .before .before .before .before .before .before .before .before .before .before .before .before .before .before .before .before .before .assigns .ensures) (c .before .before .before .before .before .before .before .before .before .before .before .before .before .before .before .before .before .before .before .before .before .before .before .before .before .before .before .if1 .left) (c .before .before .before .before .before .before .before .before .before .before .before .before .before .before .before .before .before .before .before .before .before .before .expression .ensures) (c .before .before .before .before .before .before .before .before .before .before .before .before .before .before .first .given .1)) (c .before .before .before .before .before .before .before .before .before .expression2 .ensures) (c .before .second .given .1), child-within (assignment-first (c .before .before .before .before .before .before .before .before .before .before .before .before .before .before .before .before .before .before .before .before .before .before .before .before .before .before .before .before .before .before .before .before .before .before .before .before .before .pre .0) (c .before .before .before .before .before .before .before .before .before .before .before .before .before .before .before .before .before .before .before .before .before .before .before .before .before .before .before .before .before .before .before .before .before .before .before .before .before .pre .1)) (c .before .before .before .before .before .before .before .before .before .before .before .before .before .before .before .before .before .before .before .before .before .before .expression .ensures) (c .before .before .before .before .before .before .before .before .before .before .before .before .before .before .first .given .1)), search (child-within (assignment-second (c .before .before .before .before .before .before .before .before .before .before .before .before .before .before .before .before .before .before .before .before .before .before .before .before .before .before .before .before .before .before .before .before .before .before .before .before .before .pre .0) (c .before .before .before .before .before .before .before .before .before .before .before .before .before .before .before .before .before .before .before .before .before .before .before .before .before .before .before .before .before .before .before .before .before .before .before .before .before .pre .1) (c .before .before .before .before .before .before .before .before .before .before .before .before .before .before .before .before .before .before .before .before .before .before .before .before .before .before .before .before .assigns .ensures) (c .before .before .before .before .before .before .before .before .before .before .before .before .before .before .before .before .before .before .before .before .before .before .before .before .before .before .before .if1 .left) (c .before .before .before .before .before .before .before .before .before .before .before .before .before .before .before .before .before .before .before .before .before .before .expression .ensures) (c .before .before .before .before .before .before .before .before .before .before .before .before .before .before .first .given .1)) (c .before .before .before .before .before .before .before .before .before .expression2 .ensures) (c .before .second .given .1), child-within (assignment-first (c .before .before .before .before .before .before .before .before .before .before .before .before .before .before .before .before .before .before .before .before .before .before .before .before .before .before .before .before .before .before .before .before .before .before .before .before .before .pre .0) (c .before .before .before .before .before .before .before .before .before .before .before .before .before .before .before .before .before .before .before .before .before .before .before .before .before .before .before .before .before .before .before .before .before .before .before .before .before .pre .1)) (c .before .before .before .before .before .before .before .before .before .before .before .before .before .before .before .before .before .before .before .before .before .before .expression .ensures) (c .before .before .before .before .before .before .before .before .before .before .before .before .before .before .first .given .1)))
 
 returns-4 : tie.Need-returns-4
-returns-4 c = assignment-type (c .before .before .before .before .before .before .before .before .before .before .before .before .before .before .before .before .before .before .before .before .before .before .before .before .before .before .before .before .before .before .before .before .before .before .before .before .before .before .before .before .pre .0) (c .before .before .before .before .before .before .before .before .before .before .before .before .before .before .before .before .before .before .before .before .before .before .before .before .before .before .before .before .before .before .before .before .before .before .before .before .before .before .before .before .pre .1) (c .before .before .before .before .before .before .before .before .before .before .before .before .before .before .before .before .before .before .before .before .before .before .before .before .before .before .before .before .before .before .before .assigns .ensures) (c .before .before .before .before .before .before .before .before .before .before .before .before .before .before .before .before .before .before .before .before .before .before .before .before .before .before .before .before .before .before .if1 .left) (c .before .before .before .before .before .before .before .before .before .before .before .before .before .before .before .before .before .before .before .before .before .before .before .before .before .expression .ensures) (c .before .before .before .before .before .before .before .before .before .before .before .before .before .before .before .before .before .first .given .1) (c .before .before .before .before .before .before .before .before .before .before .before .before .expression2 .ensures) (c .before .before .before .before .second .given .1) (c .before .before .below .ensures) (c .before .if2 .taken) (c .refused2 .ensures .0)
+returns-4 c =
+    let at-below = c .before .before in
+    let at-second = at-below .before .before in
+    let at-expression2 = at-second .before .before .before .before .before .before .before .before in
+    let at-first = at-expression2 .before .before .before .before .before in
+    let at-expression = at-first .before .before .before .before .before .before .before .before in
+    let at-if1 = at-expression .before .before .before .before .before in
+    let at-assigns = at-if1 .before in
+    let at-start = at-assigns .before .before .before .before .before .before .before .before .before in
+    assignment-type (at-start .pre .0) (at-start .pre .1) (at-assigns .assigns .ensures) (at-if1 .if1 .left) (at-expression .expression .ensures) (at-first .first .given .1) (at-expression2 .expression2 .ensures) (at-second .second .given .1) (at-below .below .ensures) (c .before .if2 .taken) (c .refused2 .ensures .0)
 
 ends-requires : tie.Need-ends-requires
-ends-requires c κs = mark-fits (child-fine (assignment-second (c .before .before .before .before .before .before .before .before .before .before .before .before .before .before .before .before .before .before .before .before .before .before .before .before .before .before .before .before .before .before .before .before .before .before .before .before .before .before .before .before .pre .0) (c .before .before .before .before .before .before .before .before .before .before .before .before .before .before .before .before .before .before .before .before .before .before .before .before .before .before .before .before .before .before .before .before .before .before .before .before .before .before .before .before .pre .1) (c .before .before .before .before .before .before .before .before .before .before .before .before .before .before .before .before .before .before .before .before .before .before .before .before .before .before .before .before .before .before .before .assigns .ensures) (c .before .before .before .before .before .before .before .before .before .before .before .before .before .before .before .before .before .before .before .before .before .before .before .before .before .before .before .before .before .before .if1 .left) (c .before .before .before .before .before .before .before .before .before .before .before .before .before .before .before .before .before .before .before .before .before .before .before .before .before .expression .ensures) (c .before .before .before .before .before .before .before .before .before .before .before .before .before .before .before .before .before .first .given .1)) (c .before .before .before .before .before .before .before .before .before .before .before .before .expression2 .ensures) (c .before .before .before .before .second .given .1)) (c .before .before .before .before .before .before .before .before .before .before .before .before .before .before .before .before .before .before .before .before .before .before .before .before .before .before .before .before .before .before .before .before .before .before .before .before .before .before .before .before .pre .0 .within) (omega arith)
+ends-requires c κs =
+    let at-second = c .before .before .before .before in
+    let at-expression2 = at-second .before .before .before .before .before .before .before .before in
+    let at-first = at-expression2 .before .before .before .before .before in
+    let at-expression = at-first .before .before .before .before .before .before .before .before in
+    let at-if1 = at-expression .before .before .before .before .before in
+    let at-assigns = at-if1 .before in
+    let at-start = at-assigns .before .before .before .before .before .before .before .before .before in
+    mark-fits (child-fine (assignment-second (at-start .pre .0) (at-start .pre .1) (at-assigns .assigns .ensures) (at-if1 .if1 .left) (at-expression .expression .ensures) (at-first .first .given .1)) (at-expression2 .expression2 .ensures) (at-second .second .given .1)) (at-start .pre .0 .within) (omega arith)
 
 same-length-12 : tie.Need-same-length-12
-same-length-12 c = omega (arith, c .before .before .before .before .before .before .before .before .before .before .before .before .before .before .before .before .before .before .before .before .before .before .before .before .before .before .before .before .expression, c .before .before .before .before .before .before .before .before .before .before .before .before .before .before .before .expression2, c .before .before .ends)
+same-length-12 c =
+    let at-ends = c .before .before in
+    let at-expression2 = at-ends .before .before .before .before .before .before .before .before .before .before .before .before .before in
+    let at-expression = at-expression2 .before .before .before .before .before .before .before .before .before .before .before .before .before in
+    omega (arith, at-expression .expression, at-expression2 .expression2, at-ends .ends)
 
 same-length-13 : tie.Need-same-length-13
-same-length-13 c = omega (arith, c .before .before .before .before .before .before .before .before .before .before .before .before .before .before .before .before .before .before .before .before .before .before .before .before .before .before .before .before .expression, c .before .before .before .before .before .before .before .before .before .before .before .before .before .before .before .expression2, c .before .before .ends)
+same-length-13 c =
+    let at-ends = c .before .before in
+    let at-expression2 = at-ends .before .before .before .before .before .before .before .before .before .before .before .before .before in
+    let at-expression = at-expression2 .before .before .before .before .before .before .before .before .before .before .before .before .before in
+    omega (arith, at-expression .expression, at-expression2 .expression2, at-ends .ends)
 
 same-length-14 : tie.Need-same-length-14
-same-length-14 c = omega (arith, c .before .before .before .before .before .before .before .before .before .before .before .before .before .before .before .before .before .before .before .before .before .before .before .before .before .before .before .before .expression, c .before .before .before .before .before .before .before .before .before .before .before .before .before .before .before .expression2, c .before .before .ends)
+same-length-14 c =
+    let at-ends = c .before .before in
+    let at-expression2 = at-ends .before .before .before .before .before .before .before .before .before .before .before .before .before in
+    let at-expression = at-expression2 .before .before .before .before .before .before .before .before .before .before .before .before .before in
+    omega (arith, at-expression .expression, at-expression2 .expression2, at-ends .ends)
 
 returns-5 : tie.Need-returns-5
-returns-5 c = assignment-ok (c .before .before .before .before .before .before .before .before .before .before .before .before .before .before .before .before .before .before .before .before .before .before .before .before .before .before .before .before .before .before .before .before .before .before .before .before .before .before .before .before .before .before .before .pre .0) (c .before .before .before .before .before .before .before .before .before .before .before .before .before .before .before .before .before .before .before .before .before .before .before .before .before .before .before .before .before .before .before .before .before .before .before .before .before .before .before .before .before .before .before .pre .1) (c .before .before .before .before .before .before .before .before .before .before .before .before .before .before .before .before .before .before .before .before .before .before .before .before .before .before .before .before .before .before .before .before .before .before .assigns .ensures) (c .before .before .before .before .before .before .before .before .before .before .before .before .before .before .before .before .before .before .before .before .before .before .before .before .before .before .before .before .before .before .before .before .before .if1 .left) (c .before .before .before .before .before .before .before .before .before .before .before .before .before .before .before .before .before .before .before .before .before .before .before .before .before .before .before .before .expression .ensures) (c .before .before .before .before .before .before .before .before .before .before .before .before .before .before .before .before .before .before .before .before .first .given .1) (c .before .before .before .before .before .before .before .before .before .before .before .before .before .before .before .expression2 .ensures) (c .before .before .before .before .before .before .before .second .given .1) (c .before .before .before .before .before .below .ensures) (c .before .before .before .before .if2 .left) (answered (c .before .before .ends .ensures .0) refl refl) (c .before .before .ends .ensures .1)
+returns-5 c =
+    let at-ends = c .before .before in
+    let at-if2 = at-ends .before .before in
+    let at-below = at-if2 .before in
+    let at-second = at-below .before .before in
+    let at-expression2 = at-second .before .before .before .before .before .before .before .before in
+    let at-first = at-expression2 .before .before .before .before .before in
+    let at-expression = at-first .before .before .before .before .before .before .before .before in
+    let at-if1 = at-expression .before .before .before .before .before in
+    let at-assigns = at-if1 .before in
+    let at-start = at-assigns .before .before .before .before .before .before .before .before .before in
+    assignment-ok (at-start .pre .0) (at-start .pre .1) (at-assigns .assigns .ensures) (at-if1 .if1 .left) (at-expression .expression .ensures) (at-first .first .given .1) (at-expression2 .expression2 .ensures) (at-second .second .given .1) (at-below .below .ensures) (at-if2 .if2 .left) (answered (at-ends .ends .ensures .0) refl refl) (at-ends .ends .ensures .1)
 
 pub assignment-spec : {M : Type 1} → statement M
 assignment-spec =

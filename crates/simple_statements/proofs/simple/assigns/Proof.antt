@@ -8,7 +8,10 @@ returns : tie.Need-returns
 returns c = assigns-other (c .before .node-kind .ensures .0) (c .if1 .taken)
 
 returns-2 : tie.Need-returns-2
-returns-2 c = assigns-name (c .before .before .before .node-kind .ensures .0) (c .before .before .if1 .left) (c .before .node-x .ensures .0) (c .is-assignable .ensures)
+returns-2 c =
+    let at-if1 = c .before .before in
+    let at-node-kind = at-if1 .before in
+    assigns-name (at-node-kind .node-kind .ensures .0) (at-if1 .if1 .left) (c .before .node-x .ensures .0) (c .is-assignable .ensures)
 
 pub assigns-spec : {M : Type 1} → statement M
 assigns-spec =

@@ -11,28 +11,60 @@ use Rattle.simple_statements.proofs.simple.return_value.Statement.{stat
 use Rattle.simple_statements.proofs.simple.return_value.Tie as tie
 
 type-kind-requires : tie.Need-type-kind-requires
-type-kind-requires c κs = has-type (c .before .before .before .before .before .pre .0 .0 .fine .good-tables) (c .before .before .before .before .before .pre .0 .1)
+type-kind-requires c κs =
+    let at-start = c .before .before .before .before .before in
+    has-type (at-start .pre .0 .0 .fine .good-tables) (at-start .pre .0 .1)
 
 returns : tie.Need-returns
-returns c = value-void (c .before .before .before .before .before .before .before .before .pre .0 .0) (c .before .before .before .before .before .before .before .before .pre .1) (c .before .before .type-kind .ensures .0) (c .before .if1 .taken) (c .refused .ensures .0)
+returns c =
+    let at-type-kind = c .before .before in
+    let at-start = at-type-kind .before .before .before .before .before .before in
+    value-void (at-start .pre .0 .0) (at-start .pre .1) (at-type-kind .type-kind .ensures .0) (c .before .if1 .taken) (c .refused .ensures .0)
 
 expression-requires : tie.Need-expression-requires
-expression-requires c κs = value-first (c .before .before .before .before .before .before .before .before .before .before .before .pre .0 .0) (c .before .before .before .before .before .before .before .before .before .before .before .pre .1)
+expression-requires c κs =
+    let at-start = c .before .before .before .before .before .before .before .before .before .before .before in
+    value-first (at-start .pre .0 .0) (at-start .pre .1)
 
 returns-2 : tie.Need-returns-2
-returns-2 c = value-no (c .before .before .before .before .before .before .before .before .before .before .before .before .before .before .before .before .before .before .before .pre .0 .0) (c .before .before .before .before .before .before .before .before .before .before .before .before .before .before .before .before .before .before .before .pre .1) (c .before .before .before .before .before .before .before .before .before .before .before .before .before .type-kind .ensures .0) (c .before .before .before .before .before .before .before .before .before .before .before .before .if1 .left) (c .before .before .before .before .before .before .before .expression .ensures) (untyped _ (c .match .keys2))
+returns-2 c =
+    let at-expression = c .before .before .before .before .before .before .before in
+    let at-if1 = at-expression .before .before .before .before .before in
+    let at-type-kind = at-if1 .before in
+    let at-start = at-type-kind .before .before .before .before .before .before in
+    value-no (at-start .pre .0 .0) (at-start .pre .1) (at-type-kind .type-kind .ensures .0) (at-if1 .if1 .left) (at-expression .expression .ensures) (untyped _ (c .match .keys2))
 
 below-requires : tie.Need-below-requires
 below-requires c κs = (c .before .before .before .before .before .before .before .before .before .before .before .before .before .before .before .before .before .before .before .before .before .pre .0 .0 .fine .good-tables, c .before .before .before .before .before .before .before .before .before .before .before .before .before .before .before .before .before .before .before .before .before .pre .0 .0 .fine .indexed, search (child-within (value-first (c .before .before .before .before .before .before .before .before .before .before .before .before .before .before .before .before .before .before .before .before .before .pre .0 .0) (c .before .before .before .before .before .before .before .before .before .before .before .before .before .before .before .before .before .before .before .before .before .pre .1)) (c .before .before .before .before .before .before .before .before .before .expression .ensures) (c .before .judgement .given .1), c .before .before .before .before .before .before .before .before .before .before .before .before .before .before .before .before .before .before .before .before .before .pre .0 .1), search (child-within (value-first (c .before .before .before .before .before .before .before .before .before .before .before .before .before .before .before .before .before .before .before .before .before .pre .0 .0) (c .before .before .before .before .before .before .before .before .before .before .before .before .before .before .before .before .before .before .before .before .before .pre .1)) (c .before .before .before .before .before .before .before .before .before .expression .ensures) (c .before .judgement .given .1), c .before .before .before .before .before .before .before .before .before .before .before .before .before .before .before .before .before .before .before .before .before .pre .0 .1))
 
 returns-3 : tie.Need-returns-3
-returns-3 c = value-type (c .before .before .before .before .before .before .before .before .before .before .before .before .before .before .before .before .before .before .before .before .before .before .before .before .pre .0 .0) (c .before .before .before .before .before .before .before .before .before .before .before .before .before .before .before .before .before .before .before .before .before .before .before .before .pre .1) (c .before .before .before .before .before .before .before .before .before .before .before .before .before .before .before .before .before .before .type-kind .ensures .0) (c .before .before .before .before .before .before .before .before .before .before .before .before .before .before .before .before .before .if1 .left) (c .before .before .before .before .before .before .before .before .before .before .before .before .expression .ensures) (c .before .before .before .before .judgement .given .1) (c .before .before .below .ensures) (c .before .if2 .taken) (c .refused2 .ensures .0)
+returns-3 c =
+    let at-below = c .before .before in
+    let at-judgement = at-below .before .before in
+    let at-expression = at-judgement .before .before .before .before .before .before .before .before in
+    let at-if1 = at-expression .before .before .before .before .before in
+    let at-type-kind = at-if1 .before in
+    let at-start = at-type-kind .before .before .before .before .before .before in
+    value-type (at-start .pre .0 .0) (at-start .pre .1) (at-type-kind .type-kind .ensures .0) (at-if1 .if1 .left) (at-expression .expression .ensures) (at-judgement .judgement .given .1) (at-below .below .ensures) (c .before .if2 .taken) (c .refused2 .ensures .0)
 
 ends-requires : tie.Need-ends-requires
-ends-requires c κs = mark-fits (child-fine (value-first (c .before .before .before .before .before .before .before .before .before .before .before .before .before .before .before .before .before .before .before .before .before .before .before .before .pre .0 .0) (c .before .before .before .before .before .before .before .before .before .before .before .before .before .before .before .before .before .before .before .before .before .before .before .before .pre .1)) (c .before .before .before .before .before .before .before .before .before .before .before .before .expression .ensures) (c .before .before .before .before .judgement .given .1)) (c .before .before .before .before .before .before .before .before .before .before .before .before .before .before .before .before .before .before .before .before .before .before .before .before .pre .0 .0 .within) (omega arith)
+ends-requires c κs =
+    let at-judgement = c .before .before .before .before in
+    let at-expression = at-judgement .before .before .before .before .before .before .before .before in
+    let at-start = at-expression .before .before .before .before .before .before .before .before .before .before .before .before in
+    mark-fits (child-fine (value-first (at-start .pre .0 .0) (at-start .pre .1)) (at-expression .expression .ensures) (at-judgement .judgement .given .1)) (at-start .pre .0 .0 .within) (omega arith)
 
 returns-4 : tie.Need-returns-4
-returns-4 c = value-ok (c .before .before .before .before .before .before .before .before .before .before .before .before .before .before .before .before .before .before .before .before .before .before .before .before .before .before .before .pre .0 .0) (c .before .before .before .before .before .before .before .before .before .before .before .before .before .before .before .before .before .before .before .before .before .before .before .before .before .before .before .pre .1) (c .before .before .before .before .before .before .before .before .before .before .before .before .before .before .before .before .before .before .before .before .before .type-kind .ensures .0) (c .before .before .before .before .before .before .before .before .before .before .before .before .before .before .before .before .before .before .before .before .if1 .left) (c .before .before .before .before .before .before .before .before .before .before .before .before .before .before .before .expression .ensures) (c .before .before .before .before .before .before .before .judgement .given .1) (c .before .before .before .before .before .below .ensures) (c .before .before .before .before .if2 .left) (answered (c .before .before .ends .ensures .0) refl refl) (c .before .before .ends .ensures .1)
+returns-4 c =
+    let at-ends = c .before .before in
+    let at-if2 = at-ends .before .before in
+    let at-below = at-if2 .before in
+    let at-judgement = at-below .before .before in
+    let at-expression = at-judgement .before .before .before .before .before .before .before .before in
+    let at-if1 = at-expression .before .before .before .before .before in
+    let at-type-kind = at-if1 .before in
+    let at-start = at-type-kind .before .before .before .before .before .before in
+    value-ok (at-start .pre .0 .0) (at-start .pre .1) (at-type-kind .type-kind .ensures .0) (at-if1 .if1 .left) (at-expression .expression .ensures) (at-judgement .judgement .given .1) (at-below .below .ensures) (at-if2 .if2 .left) (answered (at-ends .ends .ensures .0) refl refl) (at-ends .ends .ensures .1)
 
 pub return-value-spec : {M : Type 1} → statement M
 return-value-spec =

@@ -7,10 +7,18 @@ use Rattle.simple_statements.proofs.simple.return_void.Statement.{state
 use Rattle.simple_statements.proofs.simple.return_void.Tie as tie
 
 returns : tie.Need-returns
-returns c = void-no (c .before .before .before .before .before .before .before .before .pre .0 .0) (c .before .before .before .before .before .before .before .before .pre .1) (c .before .before .type-kind .ensures .0) (c .before .if1 .taken) (c .refused .ensures .0)
+returns c =
+    let at-type-kind = c .before .before in
+    let at-start = at-type-kind .before .before .before .before .before .before in
+    void-no (at-start .pre .0 .0) (at-start .pre .1) (at-type-kind .type-kind .ensures .0) (c .before .if1 .taken) (c .refused .ensures .0)
 
 returns-2 : tie.Need-returns-2
-returns-2 c = void-ok (c .before .before .before .before .before .before .before .before .before .before .before .before .pre .0 .0) (c .before .before .before .before .before .before .before .before .before .before .before .before .pre .1) (c .before .before .before .before .before .before .type-kind .ensures .0) (c .before .before .before .before .before .if1 .left) (answered (c .before .before .ends .ensures .0) refl refl) (c .before .before .ends .ensures .1)
+returns-2 c =
+    let at-ends = c .before .before in
+    let at-if1 = at-ends .before .before .before in
+    let at-type-kind = at-if1 .before in
+    let at-start = at-type-kind .before .before .before .before .before .before in
+    void-ok (at-start .pre .0 .0) (at-start .pre .1) (at-type-kind .type-kind .ensures .0) (at-if1 .if1 .left) (answered (at-ends .ends .ensures .0) refl refl) (at-ends .ends .ensures .1)
 
 pub return-void-spec : {M : Type 1} → statement M
 return-void-spec =

@@ -21,22 +21,39 @@ loop-holds : tie.Need-loop-holds Inv-loop μ-loop
 loop-holds c = (vars-start (c .before .before .before .before .before .pre), refl, refl, refl)
 
 variable-requires : tie.Need-variable-requires Inv-loop μ-loop
-variable-requires c κs = (vars-ready (c .before .before .before .before .before .before .before .before .before .before .pre) (c .before .before .before .before .loop .inv .0) (c .before .before .before .loop-test .taken), vars-kind (c .before .before .before .before .before .before .before .before .before .before .pre) (c .before .before .before .before .loop .inv .0) (c .before .before .before .loop-test .taken))
+variable-requires c κs =
+    let at-loop-test = c .before .before .before in
+    let at-loop = at-loop-test .before in
+    let at-start = at-loop .before .before .before .before .before .before in
+    (vars-ready (at-start .pre) (at-loop .loop .inv .0) (at-loop-test .loop-test .taken), vars-kind (at-start .pre) (at-loop .loop .inv .0) (at-loop-test .loop-test .taken))
 
 returns : tie.Need-returns Inv-loop μ-loop
-returns c = vars-no (c .before .before .before .before .before .before .before .before .before .before .before .before .before .before .before .before .before .before .pre) (c .before .before .before .before .before .before .before .before .before .before .before .before .loop .inv .0) (c .before .before .before .before .before .before .before .before .before .before .before .loop-test .taken) (c .before .before .before .before .before .before .before .variable .ensures) (unlisted _ (c .match .keys2))
+returns c =
+    let at-variable = c .before .before .before .before .before .before .before in
+    let at-loop-test = at-variable .before .before .before .before in
+    let at-loop = at-loop-test .before in
+    let at-start = at-loop .before .before .before .before .before .before in
+    vars-no (at-start .pre) (at-loop .loop .inv .0) (at-loop-test .loop-test .taken) (at-variable .variable .ensures) (unlisted _ (c .match .keys2))
 
 add-i : tie.Need-add-i Inv-loop μ-loop
-add-i c = omega (arith, c .before .before .before .before .before .before .before .before .before .before .before .before .before .loop-test .taken, c .before .before .before .before .before .before .before .before .before .before .before .before .before .before .before .before .before .before .before .before .fits .count)
+add-i c =
+    let at-loop-test = c .before .before .before .before .before .before .before .before .before .before .before .before .before in
+    let at-start = at-loop-test .before .before .before .before .before .before .before in
+    omega (arith, at-loop-test .loop-test .taken, at-start .fits .count)
 
 loop-less : tie.Need-loop-less Inv-loop μ-loop
-loop-less c = omega (arith, c .before .before .before .before .before .before .before .before .before .before .before .before .before .loop-test .taken)
+loop-less c =
+    let at-loop-test = c .before .before .before .before .before .before .before .before .before .before .before .before .before in
+    omega (arith, at-loop-test .loop-test .taken)
 
 loop-again : tie.Need-loop-again Inv-loop μ-loop
 loop-again c = (vars-again (c .before .before .before .before .before .before .before .before .before .before .before .before .before .before .before .before .before .before .before .before .pre) (c .before .before .before .before .before .before .before .before .before .before .before .before .before .before .loop .inv .0) (c .before .before .before .before .before .before .before .before .before .before .before .before .before .loop-test .taken) (c .before .before .before .before .before .before .before .before .before .variable .ensures) (c .before .enum-told .given .1), search needs, search needs, search needs)
 
 returns-2 : tie.Need-returns-2 Inv-loop μ-loop
-returns-2 c = vars-done (c .before .before .before .before .before .before .before .before .pre) (c .before .before .loop .inv .0) (c .before .loop-test .left) (answered (c .goes-on .ensures) refl refl)
+returns-2 c =
+    let at-loop = c .before .before in
+    let at-start = at-loop .before .before .before .before .before .before in
+    vars-done (at-start .pre) (at-loop .loop .inv .0) (c .before .loop-test .left) (answered (c .goes-on .ensures) refl refl)
 
 pub variables-spec : {M : Type 1} → statement M
 variables-spec = tie.close (tie.spec Inv-loop μ-loop loop-holds variable-requires (λ c. search needs) (λ c. search needs) (λ c. search needs) (λ c. search needs) returns add-i loop-less loop-again (λ c κs. search needs) (λ c. search needs) (λ c. search needs) (λ c. search needs) returns-2)

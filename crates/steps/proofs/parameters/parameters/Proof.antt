@@ -19,46 +19,88 @@ loop-holds : tie.Need-loop-holds Inv-loop μ-loop
 loop-holds c = (parameters-start (c .before .before .before .before .before .pre), refl, refl, refl)
 
 add-at : tie.Need-add-at Inv-loop μ-loop
-add-at c = omega (arith, parameter-node (c .before .before .before .before .before .before .before .pre) (c .before .loop .inv .0) (c .loop-test .taken) .within, c .before .before .before .before .before .before .before .pre .fine .good-tables .laid .nodes-most)
+add-at c =
+    let at-start = c .before .before .before .before .before .before .before in
+    omega (arith, parameter-node (at-start .pre) (c .before .loop .inv .0) (c .loop-test .taken) .within, at-start .pre .fine .good-tables .laid .nodes-most)
 
 add-at-2 : tie.Need-add-at-2 Inv-loop μ-loop
-add-at-2 c = omega (arith, parameter-node (c .before .before .before .before .before .before .before .pre) (c .before .loop .inv .0) (c .loop-test .taken) .within, c .before .before .before .before .before .before .before .pre .fine .good-tables .laid .nodes-most)
+add-at-2 c =
+    let at-start = c .before .before .before .before .before .before .before in
+    omega (arith, parameter-node (at-start .pre) (c .before .loop .inv .0) (c .loop-test .taken) .within, at-start .pre .fine .good-tables .laid .nodes-most)
 
 node-x-requires : tie.Need-node-x-requires Inv-loop μ-loop
-node-x-requires c κs = parameter-node (c .before .before .before .before .before .before .before .pre) (c .before .loop .inv .0) (c .loop-test .taken)
+node-x-requires c κs =
+    let at-start = c .before .before .before .before .before .before .before in
+    parameter-node (at-start .pre) (c .before .loop .inv .0) (c .loop-test .taken)
 
 is-fresh-requires : tie.Need-is-fresh-requires Inv-loop μ-loop
-is-fresh-requires c κs = parameter-some (c .before .before .before .before .before .before .before .before .before .before .pre) (c .before .before .before .before .loop .inv .0)
+is-fresh-requires c κs =
+    let at-loop = c .before .before .before .before in
+    let at-start = at-loop .before .before .before .before .before .before in
+    parameter-some (at-start .pre) (at-loop .loop .inv .0)
 
 returns : tie.Need-returns Inv-loop μ-loop
-returns c = parameter-taken (c .before .before .before .before .before .before .before .before .before .before .before .before .pre) (c .before .before .before .before .before .before .loop .inv .0) (c .before .before .before .before .before .loop-test .taken) (c .before .before .before .before .node-x .ensures .0) (c .before .is-fresh .ensures) (c .if1 .taken)
+returns c =
+    let at-node-x = c .before .before .before .before in
+    let at-loop-test = at-node-x .before in
+    let at-loop = at-loop-test .before in
+    let at-start = at-loop .before .before .before .before .before .before in
+    parameter-taken (at-start .pre) (at-loop .loop .inv .0) (at-loop-test .loop-test .taken) (at-node-x .node-x .ensures .0) (c .before .is-fresh .ensures) (c .if1 .taken)
 
 add-list-entry : tie.Need-add-list-entry Inv-loop μ-loop
-add-list-entry c = omega (arith, parameter-entry (c .before .before .before .before .before .before .before .before .before .before .before .before .pre) (c .before .before .before .before .before .before .loop .inv .0) (c .before .before .before .before .before .loop-test .taken) .within, c .before .before .before .before .before .before .before .before .before .before .before .before .pre .fine .good-tables .laid .list-most)
+add-list-entry c =
+    let at-loop-test = c .before .before .before .before .before in
+    let at-loop = at-loop-test .before in
+    let at-start = at-loop .before .before .before .before .before .before in
+    omega (arith, parameter-entry (at-start .pre) (at-loop .loop .inv .0) (at-loop-test .loop-test .taken) .within, at-start .pre .fine .good-tables .laid .list-most)
 
 list-entry-requires : tie.Need-list-entry-requires Inv-loop μ-loop
-list-entry-requires c κs = parameter-entry (c .before .before .before .before .before .before .before .before .before .before .before .before .pre) (c .before .before .before .before .before .before .loop .inv .0) (c .before .before .before .before .before .loop-test .taken)
+list-entry-requires c κs =
+    let at-loop-test = c .before .before .before .before .before in
+    let at-loop = at-loop-test .before in
+    let at-start = at-loop .before .before .before .before .before .before in
+    parameter-entry (at-start .pre) (at-loop .loop .inv .0) (at-loop-test .loop-test .taken)
 
 add-bind : tie.Need-add-bind Inv-loop μ-loop
-add-bind c = omega (arith, c .before .before .before .before .before .before .before .before .loop-test .taken, c .before .before .before .before .before .before .before .before .before .before .before .before .before .before .before .pre .room, c .before .before .before .before .before .before .before .before .before .before .before .before .before .before .before .pre .fine .good-tables .laid .nodes-most, c .before .before .before .before .before .before .before .before .before .before .before .before .before .before .before .pre .fine .good-tables .laid .built-ins-most)
+add-bind c =
+    let at-loop-test = c .before .before .before .before .before .before .before .before in
+    let at-start = at-loop-test .before .before .before .before .before .before .before in
+    omega (arith, at-loop-test .loop-test .taken, at-start .pre .room, at-start .pre .fine .good-tables .laid .nodes-most, at-start .pre .fine .good-tables .laid .built-ins-most)
 
 bind-requires : tie.Need-bind-requires Inv-loop μ-loop
-bind-requires c κs = parameter-bindable (c .before .before .before .before .before .before .before .before .before .before .before .before .before .before .before .pre) (c .before .before .before .before .before .before .before .before .before .loop .inv .0) (c .before .before .before .before .before .before .before .before .loop-test .taken) (c .before .before .list-entry .ensures .0)
+bind-requires c κs =
+    let at-list-entry = c .before .before in
+    let at-loop-test = at-list-entry .before .before .before .before .before .before in
+    let at-loop = at-loop-test .before in
+    let at-start = at-loop .before .before .before .before .before .before in
+    parameter-bindable (at-start .pre) (at-loop .loop .inv .0) (at-loop-test .loop-test .taken) (at-list-entry .list-entry .ensures .0)
 
 row-requires : tie.Need-row-requires Inv-loop μ-loop
-row-requires c κs = parameter-fits (c .before .before .before .before .before .before .before .before .before .before .before .before .before .before .before .before .before .before .before .before .before .pre) (c .before .before .before .before .before .before .before .before .before .before .before .before .before .before .before .loop .inv .0) (c .before .before .before .before .before .before .before .before .before .before .before .before .before .before .loop-test .taken) (c .before .before .before .before .before .before .before .before .list-entry .ensures .0)
+row-requires c κs =
+    let at-list-entry = c .before .before .before .before .before .before .before .before in
+    let at-loop-test = at-list-entry .before .before .before .before .before .before in
+    let at-loop = at-loop-test .before in
+    let at-start = at-loop .before .before .before .before .before .before in
+    parameter-fits (at-start .pre) (at-loop .loop .inv .0) (at-loop-test .loop-test .taken) (at-list-entry .list-entry .ensures .0)
 
 add-i : tie.Need-add-i Inv-loop μ-loop
-add-i c = omega (arith, c .before .before .before .before .before .before .before .before .before .before .before .before .before .before .before .before .before .loop-test .taken, c .before .before .before .before .before .before .before .before .before .before .before .before .before .before .before .before .before .before .before .before .before .before .before .before .fits .count)
+add-i c =
+    let at-loop-test = c .before .before .before .before .before .before .before .before .before .before .before .before .before .before .before .before .before in
+    let at-start = at-loop-test .before .before .before .before .before .before .before in
+    omega (arith, at-loop-test .loop-test .taken, at-start .fits .count)
 
 loop-less : tie.Need-loop-less Inv-loop μ-loop
-loop-less c = omega (arith, c .before .before .before .before .before .before .before .before .before .before .before .before .before .before .before .before .before .loop-test .taken)
+loop-less c =
+    let at-loop-test = c .before .before .before .before .before .before .before .before .before .before .before .before .before .before .before .before .before in
+    omega (arith, at-loop-test .loop-test .taken)
 
 loop-again : tie.Need-loop-again Inv-loop μ-loop
 loop-again c = (parameter-again (c .before .before .before .before .before .before .before .before .before .before .before .before .before .before .before .before .before .before .before .before .before .before .before .before .pre) (c .before .before .before .before .before .before .before .before .before .before .before .before .before .before .before .before .before .before .loop .inv .0) (c .before .before .before .before .before .before .before .before .before .before .before .before .before .before .before .before .before .loop-test .taken) (c .before .before .before .before .before .before .before .before .before .before .before .before .before .before .before .before .node-x .ensures .0) (c .before .before .before .before .before .before .before .before .before .before .before .before .before .is-fresh .ensures) (c .before .before .before .before .before .before .before .before .before .before .before .before .if1 .left) (c .before .before .before .before .before .before .before .before .before .before .before .list-entry .ensures .0) (c .before .before .before .before .before .before .before .before .bind .ensures) (c .before .before .row .ensures), search needs, search needs, search needs)
 
 returns-2 : tie.Need-returns-2 Inv-loop μ-loop
-returns-2 c = parameters-done (c .before .before .before .before .before .before .before .pre) (c .before .loop .inv .0) (c .loop-test .left)
+returns-2 c =
+    let at-start = c .before .before .before .before .before .before .before in
+    parameters-done (at-start .pre) (c .before .loop .inv .0) (c .loop-test .left)
 
 pub parameters-spec : {M : Type 1} → statement M
 parameters-spec =

@@ -1,7 +1,6 @@
 -- `records::record_of` meets its contract. The loop keeps: no record passed has the name, nor one before the next of the chain. Assumes
 -- nothing.
 use native.Mathlib.Omega.{arith}
-use borrow.Author.Needs.{needs}
 use Rattle.type_index.proofs.LawsRecordChains.{Seeking, head-there, seek-starts, seek-low, seek-found, link-there, seek-falls, seek-on, seek-ends}
 use Rattle.type_index.proofs.records.record_of.Statement.{statement}
 use Rattle.type_index.proofs.records.record_of.Tie as tie
@@ -19,28 +18,57 @@ loop-holds : tie.Need-loop-holds Inv-loop μ-loop
 loop-holds c = seek-starts _ _ _ (c .before .before .before .pre) (c .entry .ensures .0)
 
 sub-i : tie.Need-sub-i Inv-loop μ-loop
-sub-i c = seek-low _ _ _ (c .before .before .before .before .before .before .pre) (c .before .before .loop .inv)
+sub-i c =
+    let at-loop = c .before .before in
+    let at-start = at-loop .before .before .before .before in
+    seek-low _ _ _ (at-start .pre) (at-loop .loop .inv)
 
 struct-name-requires : tie.Need-struct-name-requires Inv-loop μ-loop
-struct-name-requires c κs = record { laid = c .before .before .before .before .before .before .pre .0; within = omega (arith, seek-low _ _ _ (c .before .before .before .before .before .before .pre) (c .before .before .loop .inv), c .before .loop-test .taken) }
+struct-name-requires c κs =
+    let at-loop = c .before .before in
+    let at-start = at-loop .before .before .before .before in
+    record { laid = at-start .pre .0; within = omega (arith, seek-low _ _ _ (at-start .pre) (at-loop .loop .inv), c .before .loop-test .taken) }
 
 returns : tie.Need-returns Inv-loop μ-loop
-returns c = seek-found _ _ _ (c .before .before .before .before .before .before .before .before .pre) (c .before .before .before .before .loop .inv) (c .before .before .before .loop-test .taken) (c .before .struct-name .ensures .0) (c .if1 .taken)
+returns c =
+    let at-loop-test = c .before .before .before in
+    let at-loop = at-loop-test .before in
+    let at-start = at-loop .before .before .before .before in
+    seek-found _ _ _ (at-start .pre) (at-loop .loop .inv) (at-loop-test .loop-test .taken) (c .before .struct-name .ensures .0) (c .if1 .taken)
 
 add-entry : tie.Need-add-entry Inv-loop μ-loop
-add-entry c = omega (arith, seek-low _ _ _ (c .before .before .before .before .before .before .before .before .pre) (c .before .before .before .before .loop .inv), c .before .before .before .before .before .before .before .before .pre .0 .structs-most)
+add-entry c =
+    let at-loop = c .before .before .before .before in
+    let at-start = at-loop .before .before .before .before in
+    omega (arith, seek-low _ _ _ (at-start .pre) (at-loop .loop .inv), at-start .pre .0 .structs-most)
 
 entry-requires-2 : tie.Need-entry-requires-2 Inv-loop μ-loop
-entry-requires-2 c κs = link-there _ _ _ (c .before .before .before .before .before .before .before .before .pre) (c .before .before .before .before .loop .inv) (c .before .before .before .loop-test .taken)
+entry-requires-2 c κs =
+    let at-loop-test = c .before .before .before in
+    let at-loop = at-loop-test .before in
+    let at-start = at-loop .before .before .before .before in
+    link-there _ _ _ (at-start .pre) (at-loop .loop .inv) (at-loop-test .loop-test .taken)
 
 loop-less : tie.Need-loop-less Inv-loop μ-loop
-loop-less c = seek-falls _ _ _ (c .before .before .before .before .before .before .before .before .before .pre) (c .before .before .before .before .before .loop .inv) (c .before .before .before .before .loop-test .taken) (c .entry2 .ensures .0) (c .before .before .struct-name .ensures .0)
+loop-less c =
+    let at-struct-name = c .before .before in
+    let at-loop-test = at-struct-name .before .before in
+    let at-loop = at-loop-test .before in
+    let at-start = at-loop .before .before .before .before in
+    seek-falls _ _ _ (at-start .pre) (at-loop .loop .inv) (at-loop-test .loop-test .taken) (c .entry2 .ensures .0) (at-struct-name .struct-name .ensures .0)
 
 loop-again : tie.Need-loop-again Inv-loop μ-loop
-loop-again c = seek-on _ _ _ (c .before .before .before .before .before .before .before .before .before .pre) (c .before .before .before .before .before .loop .inv) (c .before .before .before .before .loop-test .taken) (c .entry2 .ensures .0) (c .before .before .struct-name .ensures .0) (c .before .if1 .left)
+loop-again c =
+    let at-struct-name = c .before .before in
+    let at-loop-test = at-struct-name .before .before in
+    let at-loop = at-loop-test .before in
+    let at-start = at-loop .before .before .before .before in
+    seek-on _ _ _ (at-start .pre) (at-loop .loop .inv) (at-loop-test .loop-test .taken) (c .entry2 .ensures .0) (at-struct-name .struct-name .ensures .0) (c .before .if1 .left)
 
 returns-2 : tie.Need-returns-2 Inv-loop μ-loop
-returns-2 c = seek-ends _ _ _ (c .before .before .before .before .before .pre) (c .before .loop .inv) (c .loop-test .left)
+returns-2 c =
+    let at-start = c .before .before .before .before .before in
+    seek-ends _ _ _ (at-start .pre) (c .before .loop .inv) (c .loop-test .left)
 
 pub record-of-spec : {M : Type 1} → statement M
 record-of-spec =

@@ -10,16 +10,33 @@ use Rattle.typing.proofs.check.check.Statement.{statement}
 use Rattle.typing.proofs.check.check.Tie as tie
 
 returns : tie.Need-returns
-returns c = with-demands (check-unread (c .before .before .before .before .read .ensures .0) (c .before .before .enum-told .given .1) (c .before .number .ensures) (c .bare .ensures))
+returns c =
+    let at-enum-told = c .before .before in
+    let at-read = at-enum-told .before .before in
+    with-demands (check-unread (at-read .read .ensures .0) (at-enum-told .enum-told .given .1) (c .before .number .ensures) (c .bare .ensures))
 
 mul-needed : tie.Need-mul-needed
-mul-needed c = omega (arith, nodes-few _ (c .before .before .before .before .read .ensures .0) (c .before .before .read2 .given .1))
+mul-needed c =
+    let at-read2 = c .before .before in
+    let at-read = at-read2 .before .before in
+    omega (arith, nodes-few _ (at-read .read .ensures .0) (at-read2 .read2 .given .1))
 
 returns-2 : tie.Need-returns-2
-returns-2 c = with-demands (check-rows-short (bytes-of (now (c .before .before .before .before .before .before .before .before .before .before .args .file)) (c .before .before .before .before .before .before .before .before .before .shared-slice-known .given)) (c .before .before .before .before .before .before .read .ensures .0) (c .before .before .before .before .read2 .given .1) (omega (arith, c .before .if1 .taken)) (c .bare2 .ensures))
+returns-2 c =
+    let at-read2 = c .before .before .before .before in
+    let at-read = at-read2 .before .before in
+    let at-shared-slice-known = at-read .before .before .before in
+    let at-start = at-shared-slice-known .before in
+    with-demands (check-rows-short (bytes-of (now (at-start .args .file)) (at-shared-slice-known .shared-slice-known .given)) (at-read .read .ensures .0) (at-read2 .read2 .given .1) (omega (arith, c .before .if1 .taken)) (c .bare2 .ensures))
 
 returns-3 : tie.Need-returns-3
-returns-3 c = with-demands (check-work-short (bytes-of (now (c .before .before .before .before .before .before .before .before .before .before .before .args .file)) (c .before .before .before .before .before .before .before .before .before .before .shared-slice-known .given)) (c .before .before .before .before .before .before .before .read .ensures .0) (c .before .before .before .before .before .read2 .given .1) (c .before .before .if1 .left) (omega (arith, c .before .if2 .taken)) (c .bare3 .ensures))
+returns-3 c =
+    let at-if1 = c .before .before in
+    let at-read2 = at-if1 .before .before .before in
+    let at-read = at-read2 .before .before in
+    let at-shared-slice-known = at-read .before .before .before in
+    let at-start = at-shared-slice-known .before in
+    with-demands (check-work-short (bytes-of (now (at-start .args .file)) (at-shared-slice-known .shared-slice-known .given)) (at-read .read .ensures .0) (at-read2 .read2 .given .1) (at-if1 .if1 .left) (omega (arith, c .before .if2 .taken)) (c .bare3 .ensures))
 
 slice-aggregate-check-read : tie.Need-slice-aggregate-check-read
 slice-aggregate-check-read c = sym (length-take-le _ _ (c .before .before .if1 .left))
@@ -28,7 +45,14 @@ slice-aggregate-check-read-2 : tie.Need-slice-aggregate-check-read-2
 slice-aggregate-check-read-2 c = sym (length-take-le _ _ (c .before .before .if2 .left))
 
 check-read-requires : tie.Need-check-read-requires
-check-read-requires c κs = check-ready _ _ _ (bytes-of (now (c .before .before .before .before .before .before .before .before .before .before .before .before .args .file)) (c .before .before .before .before .before .before .before .before .before .before .before .shared-slice-known .given)) (c .before .before .before .before .before .before .before .before .read .ensures .0) (c .before .before .before .before .before .before .read2 .given .1) (c .before .before .before .if1 .left) (c .before .before .if2 .left)
+check-read-requires c κs =
+    let at-if2 = c .before .before in
+    let at-if1 = at-if2 .before in
+    let at-read2 = at-if1 .before .before .before in
+    let at-read = at-read2 .before .before in
+    let at-shared-slice-known = at-read .before .before .before in
+    let at-start = at-shared-slice-known .before in
+    check-ready _ _ _ (bytes-of (now (at-start .args .file)) (at-shared-slice-known .shared-slice-known .given)) (at-read .read .ensures .0) (at-read2 .read2 .given .1) (at-if1 .if1 .left) (at-if2 .if2 .left)
 
 returns-4 : tie.Need-returns-4
 returns-4 c =

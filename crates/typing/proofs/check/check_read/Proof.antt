@@ -13,7 +13,10 @@ run-requires : tie.Need-run-requires
 run-requires c κs = (check-run (c .before .before .before .before .before .before .before .before .before .before .before .pre) (c .before .before .before .before .before .before .index-types .ensures) (search needs) (search needs) (λ h l. getD-replicate 4736 h 0 0 (omega arith)), omega (arith, c .before .before .before .before .before .before .before .before .before .before .before .pre .rows-long))
 
 finish-requires : tie.Need-finish-requires
-finish-requires c κs = check-small (c .before .before .before .before .before .before .before .before .before .before .before .before .before .before .before .before .before .before .before .pre) (c .before .before .before .before .before .before .before .run .ensures)
+finish-requires c κs =
+    let at-run = c .before .before .before .before .before .before .before in
+    let at-start = at-run .before .before .before .before .before .before .before .before .before .before .before .before in
+    check-small (at-start .pre) (at-run .run .ensures)
 
 returns : tie.Need-returns
 returns c = check-told (c .before .before .before .before .before .before .before .before .before .before .before .before .before .before .before .before .before .before .before .before .before .before .pre) (c .before .before .before .before .before .before .before .before .before .before .run .ensures) (search needs) (search needs) (c .before .before .finish .ensures .0) (c .before .before .finish .ensures .1)

@@ -25,13 +25,26 @@ body-requires : tie.Need-body-requires Inv-loop μ-loop
 body-requires c κs = (along-ready bodies-group (c .before .before .before .before .before .loop .inv .0) (c .before .before .before .before .before .before .before .before .before .before .before .pre .0) (c .before .before .before .if1 .taken), search needs)
 
 returns : tie.Need-returns Inv-loop μ-loop
-returns c = along-stop bodies-group (c .before .before .before .before .before .before .before .before .before .before .before .before .before .before .loop .inv .0) (c .before .before .before .before .before .before .before .before .before .before .before .before .before .before .before .before .before .before .before .before .pre .0) (c .before .before .before .before .before .before .before .before .before .before .before .before .if1 .taken) (c .before .before .before .before .before .before .before .before .body .ensures) (stopped _ (c .before .match .keys2))
+returns c =
+    let at-body = c .before .before .before .before .before .before .before .before in
+    let at-if1 = at-body .before .before .before .before in
+    let at-loop = at-if1 .before .before in
+    let at-start = at-loop .before .before .before .before .before .before in
+    along-stop bodies-group (at-loop .loop .inv .0) (at-start .pre .0) (at-if1 .if1 .taken) (at-body .body .ensures) (stopped _ (c .before .match .keys2))
 
 past-requires : tie.Need-past-requires Inv-loop μ-loop
-past-requires c κs = along-tree bodies-group (c .before .before .before .before .before .before .before .before .before .before .before .before .before .before .before .loop .inv .0) (c .before .before .before .before .before .before .before .before .before .before .before .before .before .before .before .before .before .before .before .before .before .pre .0) (c .before .before .before .before .before .before .before .before .before .before .before .before .before .if1 .taken)
+past-requires c κs =
+    let at-if1 = c .before .before .before .before .before .before .before .before .before .before .before .before .before in
+    let at-loop = at-if1 .before .before in
+    let at-start = at-loop .before .before .before .before .before .before in
+    along-tree bodies-group (at-loop .loop .inv .0) (at-start .pre .0) (at-if1 .if1 .taken)
 
 loop-less : tie.Need-loop-less Inv-loop μ-loop
-loop-less c = omega (arith, along-falls bodies-group (c .before .before .before .before .before .before .before .before .before .before .before .before .before .before .before .before .loop .inv .0) (c .before .before .before .before .before .before .before .before .before .before .before .before .before .before .before .before .before .before .before .before .before .before .pre .0) (c .before .before .before .before .before .before .before .before .before .before .before .before .before .before .if1 .taken) (c .past .ensures), c .before .before .before .before .before .before .before .before .before .before .before .before .before .before .if1 .taken)
+loop-less c =
+    let at-if1 = c .before .before .before .before .before .before .before .before .before .before .before .before .before .before in
+    let at-loop = at-if1 .before .before in
+    let at-start = at-loop .before .before .before .before .before .before in
+    omega (arith, along-falls bodies-group (at-loop .loop .inv .0) (at-start .pre .0) (at-if1 .if1 .taken) (c .past .ensures), at-if1 .if1 .taken)
 
 loop-again : tie.Need-loop-again Inv-loop μ-loop
 loop-again c = (along-next bodies-group (c .before .before .before .before .before .before .before .before .before .before .before .before .before .before .before .before .loop .inv .0) (c .before .before .before .before .before .before .before .before .before .before .before .before .before .before .before .before .before .before .before .before .before .before .pre .0) (c .before .before .before .before .before .before .before .before .before .before .before .before .before .before .if1 .taken) (c .past .ensures) (c .before .before .before .before .before .before .before .before .before .before .body .ensures) (c .before .before .stepped .given .1), search needs, search needs, search needs)

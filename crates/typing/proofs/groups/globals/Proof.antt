@@ -25,13 +25,26 @@ global-requires : tie.Need-global-requires Inv-loop μ-loop
 global-requires c κs = (along-ready globals-group (c .before .before .before .before .before .loop .inv .0) (c .before .before .before .before .before .before .before .before .before .before .before .pre .0) (c .before .before .before .if1 .taken), search needs)
 
 returns : tie.Need-returns Inv-loop μ-loop
-returns c = along-stop globals-group (c .before .before .before .before .before .before .before .before .before .before .before .before .before .before .loop .inv .0) (c .before .before .before .before .before .before .before .before .before .before .before .before .before .before .before .before .before .before .before .before .pre .0) (c .before .before .before .before .before .before .before .before .before .before .before .before .if1 .taken) (c .before .before .before .before .before .before .before .before .global .ensures) (stopped _ (c .before .match .keys2))
+returns c =
+    let at-global = c .before .before .before .before .before .before .before .before in
+    let at-if1 = at-global .before .before .before .before in
+    let at-loop = at-if1 .before .before in
+    let at-start = at-loop .before .before .before .before .before .before in
+    along-stop globals-group (at-loop .loop .inv .0) (at-start .pre .0) (at-if1 .if1 .taken) (at-global .global .ensures) (stopped _ (c .before .match .keys2))
 
 past-requires : tie.Need-past-requires Inv-loop μ-loop
-past-requires c κs = along-tree globals-group (c .before .before .before .before .before .before .before .before .before .before .before .before .before .before .before .loop .inv .0) (c .before .before .before .before .before .before .before .before .before .before .before .before .before .before .before .before .before .before .before .before .before .pre .0) (c .before .before .before .before .before .before .before .before .before .before .before .before .before .if1 .taken)
+past-requires c κs =
+    let at-if1 = c .before .before .before .before .before .before .before .before .before .before .before .before .before in
+    let at-loop = at-if1 .before .before in
+    let at-start = at-loop .before .before .before .before .before .before in
+    along-tree globals-group (at-loop .loop .inv .0) (at-start .pre .0) (at-if1 .if1 .taken)
 
 loop-less : tie.Need-loop-less Inv-loop μ-loop
-loop-less c = omega (arith, along-falls globals-group (c .before .before .before .before .before .before .before .before .before .before .before .before .before .before .before .before .loop .inv .0) (c .before .before .before .before .before .before .before .before .before .before .before .before .before .before .before .before .before .before .before .before .before .before .pre .0) (c .before .before .before .before .before .before .before .before .before .before .before .before .before .before .if1 .taken) (c .past .ensures), c .before .before .before .before .before .before .before .before .before .before .before .before .before .before .if1 .taken)
+loop-less c =
+    let at-if1 = c .before .before .before .before .before .before .before .before .before .before .before .before .before .before in
+    let at-loop = at-if1 .before .before in
+    let at-start = at-loop .before .before .before .before .before .before in
+    omega (arith, along-falls globals-group (at-loop .loop .inv .0) (at-start .pre .0) (at-if1 .if1 .taken) (c .past .ensures), at-if1 .if1 .taken)
 
 loop-again : tie.Need-loop-again Inv-loop μ-loop
 loop-again c = (along-next globals-group (c .before .before .before .before .before .before .before .before .before .before .before .before .before .before .before .before .loop .inv .0) (c .before .before .before .before .before .before .before .before .before .before .before .before .before .before .before .before .before .before .before .before .before .before .pre .0) (c .before .before .before .before .before .before .before .before .before .before .before .before .before .before .if1 .taken) (c .past .ensures) (c .before .before .before .before .before .before .before .before .before .before .global .ensures) (c .before .before .stepped .given .1), search needs, search needs, search needs)

@@ -1,8 +1,8 @@
 -- What `inits` needs. Assumes nothing.
 use borrow.Author.Needs.{needs}
-use Prim.Native.Nat.{ℕ, _+_, _*_, _-_, _≤_, _<_}
+use Prim.Native.Nat.{ℕ, _-_}
 use native.Mathlib.Omega.{arith}
-use mathlib.Core.Path.{_≡_, refl, sym, _∙_}
+use mathlib.Core.Path.{_≡_, refl}
 use Rattle.expressions.proofs.cycle.+array+binary+call+element+equality+expression+field+filled+filling+inits+length_of+list+operator+structure+unary+zeroed.Lts-inits as inits-lts
 use Rattle.expressions.proofs.cycle.expression.Reads as expression
 use Rattle.expressions.proofs.cycle.inits.Reads as inits
@@ -30,37 +30,79 @@ loop-holds : (t : ℕ) → inits-lts.Need-loop-holds (claims t) (inits-at t) ini
 loop-holds t c = (inits-start (c .before .before .before .before .before .pre .1), refl, refl, refl, refl)
 
 add-still-fits : (t : ℕ) → inits-lts.Need-add-still-fits (claims t) (inits-at t) inits.Post Inv-loop μ-loop
-add-still-fits t c = omega (arith, inits-here (c .before .before .before .before .before .before .before .before .before .before .before .pre .1) (c .before .before .before .before .before .loop .inv .0) (c .before .before .before .before .loop-test .taken) (c .before .before .before .before .before .loop .inv .1), (c .before .before .before .before .before .before .before .before .before .before .before .pre .1) .fine .good-tables .laid .nodes-most)
+add-still-fits t c =
+    let at-loop-test = c .before .before .before .before in
+    let at-loop = at-loop-test .before in
+    let at-start = at-loop .before .before .before .before .before .before in
+    omega (arith, inits-here (at-start .pre .1) (at-loop .loop .inv .0) (at-loop-test .loop-test .taken) (at-loop .loop .inv .1), (at-start .pre .1) .fine .good-tables .laid .nodes-most)
 
 expression-requires : (t : ℕ) → inits-lts.Need-expression-requires (claims t) (inits-at t) inits.Post Inv-loop μ-loop
-expression-requires t c κs = (omega (arith, c .before .before .before .before .before .before .before .before .before .before .before .pre .0, inits-forward (c .before .before .before .before .before .before .before .before .before .before .before .pre .1) (c .before .before .before .before .before .loop .inv .0), inits-here (c .before .before .before .before .before .before .before .before .before .before .before .pre .1) (c .before .before .before .before .before .loop .inv .0) (c .before .before .before .before .loop-test .taken) (c .before .before .before .before .before .loop .inv .1)), inits-ready (c .before .before .before .before .before .before .before .before .before .before .before .pre .1) (c .before .before .before .before .before .loop .inv .0) (c .before .before .before .before .loop-test .taken) (c .before .before .before .before .before .loop .inv .1))
+expression-requires t c κs =
+    let at-loop-test = c .before .before .before .before in
+    let at-loop = at-loop-test .before in
+    let at-start = at-loop .before .before .before .before .before .before in
+    (omega (arith, at-start .pre .0, inits-forward (at-start .pre .1) (at-loop .loop .inv .0), inits-here (at-start .pre .1) (at-loop .loop .inv .0) (at-loop-test .loop-test .taken) (at-loop .loop .inv .1)), inits-ready (at-start .pre .1) (at-loop .loop .inv .0) (at-loop-test .loop-test .taken) (at-loop .loop .inv .1))
 
 returns : (t : ℕ) → inits-lts.Need-returns (claims t) (inits-at t) inits.Post Inv-loop μ-loop
-returns t c = inits-child-no (c .before .before .before .before .before .before .before .before .before .before .before .before .before .before .before .before .before .before .before .pre .1) (c .before .before .before .before .before .before .before .before .before .before .before .before .before .loop .inv .0) (c .before .before .before .before .before .before .before .before .before .before .before .before .loop-test .taken) (c .before .before .before .before .before .before .before .before .before .before .before .before .before .loop .inv .1) (c .before .before .before .before .before .before .before .expression .ensures) (untyped _ (c .match .keys2))
+returns t c =
+    let at-expression = c .before .before .before .before .before .before .before in
+    let at-loop-test = at-expression .before .before .before .before .before in
+    let at-loop = at-loop-test .before in
+    let at-start = at-loop .before .before .before .before .before .before in
+    inits-child-no (at-start .pre .1) (at-loop .loop .inv .0) (at-loop-test .loop-test .taken) (at-loop .loop .inv .1) (at-expression .expression .ensures) (untyped _ (c .match .keys2))
 
 row-requires : (t : ℕ) → inits-lts.Need-row-requires (claims t) (inits-at t) inits.Post Inv-loop μ-loop
-row-requires t c κs = inits-row (c .before .before .before .before .before .before .before .before .before .before .before .before .before .before .before .before .before .before .before .before .before .before .pre .1) (c .before .before .before .before .before .before .before .before .before .before .before .before .before .before .before .before .loop .inv .0) (c .before .before .before .before .before .before .before .before .before .before .before .before .before .before .before .loop-test .taken) (c .before .before .before .before .before .before .before .before .before .before .before .before .before .before .before .before .loop .inv .1) (c .before .before .before .before .before .before .before .before .before .before .expression .ensures) (c .before .before .judgement .given .1)
+row-requires t c κs =
+    let at-judgement = c .before .before in
+    let at-expression = at-judgement .before .before .before .before .before .before .before .before in
+    let at-loop-test = at-expression .before .before .before .before .before in
+    let at-loop = at-loop-test .before in
+    let at-start = at-loop .before .before .before .before .before .before in
+    inits-row (at-start .pre .1) (at-loop .loop .inv .0) (at-loop-test .loop-test .taken) (at-loop .loop .inv .1) (at-expression .expression .ensures) (at-judgement .judgement .given .1)
 
 node-x-requires : (t : ℕ) → inits-lts.Need-node-x-requires (claims t) (inits-at t) inits.Post Inv-loop μ-loop
-node-x-requires t c κs = has-node ((c .before .before .before .before .before .before .before .before .before .before .before .before .before .before .before .before .before .before .before .before .before .before .before .before .before .pre .1) .fine .good-tables) (inits-here (c .before .before .before .before .before .before .before .before .before .before .before .before .before .before .before .before .before .before .before .before .before .before .before .before .before .pre .1) (c .before .before .before .before .before .before .before .before .before .before .before .before .before .before .before .before .before .before .before .loop .inv .0) (c .before .before .before .before .before .before .before .before .before .before .before .before .before .before .before .before .before .before .loop-test .taken) (c .before .before .before .before .before .before .before .before .before .before .before .before .before .before .before .before .before .before .before .loop .inv .1))
+node-x-requires t c κs =
+    let at-loop-test = c .before .before .before .before .before .before .before .before .before .before .before .before .before .before .before .before .before .before in
+    let at-loop = at-loop-test .before in
+    let at-start = at-loop .before .before .before .before .before .before in
+    has-node ((at-start .pre .1) .fine .good-tables) (inits-here (at-start .pre .1) (at-loop .loop .inv .0) (at-loop-test .loop-test .taken) (at-loop .loop .inv .1))
 
 still-fits-requires : (t : ℕ) → inits-lts.Need-still-fits-requires (claims t) (inits-at t) inits.Post Inv-loop μ-loop
-still-fits-requires t c κs = inits-tested (c .before .before .before .before .before .before .before .before .before .before .before .before .before .before .before .before .before .before .before .before .before .before .before .before .before .before .pre .1) (c .before .before .before .before .before .before .before .before .before .before .before .before .before .before .before .before .before .before .before .before .loop .inv .0) (c .before .before .before .before .before .before .before .before .before .before .before .before .before .before .before .before .before .before .before .loop-test .taken) (c .before .before .before .before .before .before .before .before .before .before .before .before .before .before .before .before .before .before .before .before .loop .inv .1) (c .before .before .before .before .before .before .before .before .before .before .before .before .before .before .expression .ensures) (c .before .before .before .before .before .before .judgement .given .1)
+still-fits-requires t c κs =
+    let at-judgement = c .before .before .before .before .before .before in
+    let at-expression = at-judgement .before .before .before .before .before .before .before .before in
+    let at-loop-test = at-expression .before .before .before .before .before in
+    let at-loop = at-loop-test .before in
+    let at-start = at-loop .before .before .before .before .before .before in
+    inits-tested (at-start .pre .1) (at-loop .loop .inv .0) (at-loop-test .loop-test .taken) (at-loop .loop .inv .1) (at-expression .expression .ensures) (at-judgement .judgement .given .1)
 
 add-i : (t : ℕ) → inits-lts.Need-add-i (claims t) (inits-at t) inits.Post Inv-loop μ-loop
-add-i t c = omega (arith, c .before .before .before .before .before .before .before .before .before .before .before .before .before .before .before .before .before .before .before .before .before .loop-test .taken, c .before .before .before .before .before .before .before .before .before .before .before .before .before .before .before .before .before .before .before .before .before .before .before .before .before .before .before .before .fits .count)
+add-i t c =
+    let at-loop-test = c .before .before .before .before .before .before .before .before .before .before .before .before .before .before .before .before .before .before .before .before .before in
+    let at-start = at-loop-test .before .before .before .before .before .before .before in
+    omega (arith, at-loop-test .loop-test .taken, at-start .fits .count)
 
 loop-less : (t : ℕ) → inits-lts.Need-loop-less (claims t) (inits-at t) inits.Post Inv-loop μ-loop
-loop-less t c = omega (arith, c .before .before .before .before .before .before .before .before .before .before .before .before .before .before .before .before .before .before .before .before .before .loop-test .taken)
+loop-less t c =
+    let at-loop-test = c .before .before .before .before .before .before .before .before .before .before .before .before .before .before .before .before .before .before .before .before .before in
+    omega (arith, at-loop-test .loop-test .taken)
 
 loop-again : (t : ℕ) → inits-lts.Need-loop-again (claims t) (inits-at t) inits.Post Inv-loop μ-loop
 loop-again t c = (inits-again (c .before .before .before .before .before .before .before .before .before .before .before .before .before .before .before .before .before .before .before .before .before .before .before .before .before .before .before .before .pre .1) (c .before .before .before .before .before .before .before .before .before .before .before .before .before .before .before .before .before .before .before .before .before .before .loop .inv .0) (c .before .before .before .before .before .before .before .before .before .before .before .before .before .before .before .before .before .before .before .before .before .loop-test .taken) (c .before .before .before .before .before .before .before .before .before .before .before .before .before .before .before .before .before .before .before .before .before .before .loop .inv .1) (c .before .before .before .before .before .before .before .before .before .before .before .before .before .before .before .before .expression .ensures) (c .before .before .before .before .before .before .before .before .judgement .given .1) (c .before .before .before .before .before .row .ensures) (c .before .before .node-x .ensures .0) (c .before .still-fits .ensures), inits-level (c .before .before .before .before .before .before .before .before .before .before .before .before .before .before .before .before .before .before .before .before .before .before .before .before .before .before .before .before .pre .1) (c .before .before .before .before .before .before .before .before .before .before .before .before .before .before .before .before .before .before .before .before .before .before .loop .inv .0) (c .before .before .before .before .before .before .before .before .before .before .before .before .before .before .before .before .before .before .before .before .before .loop-test .taken) (c .before .before .before .before .before .before .before .before .before .before .before .before .before .before .before .before .before .before .before .before .before .before .loop .inv .1) (c .before .before .before .before .before .before .before .before .before .before .before .before .before .before .before .before .expression .ensures) (c .before .before .before .before .before .before .before .before .judgement .given .1), search needs, search needs, search needs)
 
 returns-2 : (t : ℕ) → inits-lts.Need-returns-2 (claims t) (inits-at t) inits.Post Inv-loop μ-loop
-returns-2 t c = inits-unfit (c .before .before .before .before .before .before .before .before .before .pre .1) (c .before .before .before .loop .inv .0) (c .before .before .loop-test .left) (c .before .if1 .taken) (c .refused .ensures .0)
+returns-2 t c =
+    let at-loop-test = c .before .before in
+    let at-loop = at-loop-test .before in
+    let at-start = at-loop .before .before .before .before .before .before in
+    inits-unfit (at-start .pre .1) (at-loop .loop .inv .0) (at-loop-test .loop-test .left) (c .before .if1 .taken) (c .refused .ensures .0)
 
 returns-3 : (t : ℕ) → inits-lts.Need-returns-3 (claims t) (inits-at t) inits.Post Inv-loop μ-loop
-returns-3 t c = inits-done (c .before .before .before .before .before .before .before .before .before .pre .1) (c .before .before .before .loop .inv .0) (c .before .before .loop-test .left) (c .before .if1 .left) refl (c .before .before .before .loop .inv .1) (c .goes-on .ensures)
+returns-3 t c =
+    let at-loop-test = c .before .before in
+    let at-loop = at-loop-test .before in
+    let at-start = at-loop .before .before .before .before .before .before in
+    inits-done (at-start .pre .1) (at-loop .loop .inv .0) (at-loop-test .loop-test .left) (c .before .if1 .left) refl (at-loop .loop .inv .1) (c .goes-on .ensures)
 
 pub closed : {M : Type 1} (t : ℕ) → inits-lts.Closed (claims t) (inits-at t) inits.Post M
 closed t = inits-lts.spec (claims t) (inits-at t) inits.Post Inv-loop μ-loop (loop-holds t) (add-still-fits t) (expression-requires t) (λ c. search needs) (λ c. search needs) (λ c. search needs) (λ c. search needs) (returns t) (row-requires t) (node-x-requires t) (still-fits-requires t) (add-i t) (loop-less t) (loop-again t) (λ c κs. search needs) (λ c. search needs) (λ c. search needs) (λ c. search needs) (returns-2 t) (λ c κs. search needs) (λ c. search needs) (λ c. search needs) (λ c. search needs) (returns-3 t)

@@ -1,8 +1,8 @@
 -- What `list` needs. Assumes nothing.
 use borrow.Author.Needs.{needs}
-use Prim.Native.Nat.{ℕ, _+_, _*_, _-_, _≤_, _<_}
+use Prim.Native.Nat.{ℕ, _-_}
 use native.Mathlib.Omega.{arith}
-use mathlib.Core.Path.{_≡_, refl, sym, _∙_}
+use mathlib.Core.Path.{_≡_, refl}
 use Rattle.expressions.proofs.cycle.+array+binary+call+element+equality+expression+field+filled+filling+inits+length_of+list+operator+structure+unary+zeroed.Lts-list as list-lts
 use Rattle.expressions.proofs.cycle.expression.Reads as expression
 use Rattle.expressions.proofs.cycle.list.Reads as list
@@ -27,28 +27,55 @@ loop-holds : (t : ℕ) → list-lts.Need-loop-holds (claims t) (list-at t) list.
 loop-holds t c = (list-start (c .before .before .before .before .before .pre .1), refl, refl, refl, refl)
 
 expression-requires : (t : ℕ) → list-lts.Need-expression-requires (claims t) (list-at t) list.Post Inv-loop μ-loop
-expression-requires t c κs = (omega (arith, c .before .before .before .before .before .before .before .before .before .before .pre .0, list-forward (c .before .before .before .before .before .before .before .before .before .before .pre .1) (c .before .before .before .before .loop .inv .0), list-ready (c .before .before .before .before .before .before .before .before .before .before .pre .1) (c .before .before .before .before .loop .inv .0) (c .before .before .before .loop-test .taken) (c .before .before .before .before .loop .inv .1) .within), list-ready (c .before .before .before .before .before .before .before .before .before .before .pre .1) (c .before .before .before .before .loop .inv .0) (c .before .before .before .loop-test .taken) (c .before .before .before .before .loop .inv .1))
+expression-requires t c κs =
+    let at-loop-test = c .before .before .before in
+    let at-loop = at-loop-test .before in
+    let at-start = at-loop .before .before .before .before .before .before in
+    (omega (arith, at-start .pre .0, list-forward (at-start .pre .1) (at-loop .loop .inv .0), list-ready (at-start .pre .1) (at-loop .loop .inv .0) (at-loop-test .loop-test .taken) (at-loop .loop .inv .1) .within), list-ready (at-start .pre .1) (at-loop .loop .inv .0) (at-loop-test .loop-test .taken) (at-loop .loop .inv .1))
 
 returns : (t : ℕ) → list-lts.Need-returns (claims t) (list-at t) list.Post Inv-loop μ-loop
-returns t c = list-child-no (c .before .before .before .before .before .before .before .before .before .before .before .before .before .before .before .before .before .before .pre .1) (c .before .before .before .before .before .before .before .before .before .before .before .before .loop .inv .0) (c .before .before .before .before .before .before .before .before .before .before .before .loop-test .taken) (c .before .before .before .before .before .before .before .before .before .before .before .before .loop .inv .1) (c .before .before .before .before .before .before .before .expression .ensures) (untyped _ (c .match .keys2))
+returns t c =
+    let at-expression = c .before .before .before .before .before .before .before in
+    let at-loop-test = at-expression .before .before .before .before in
+    let at-loop = at-loop-test .before in
+    let at-start = at-loop .before .before .before .before .before .before in
+    list-child-no (at-start .pre .1) (at-loop .loop .inv .0) (at-loop-test .loop-test .taken) (at-loop .loop .inv .1) (at-expression .expression .ensures) (untyped _ (c .match .keys2))
 
 still-below-requires : (t : ℕ) → list-lts.Need-still-below-requires (claims t) (list-at t) list.Post Inv-loop μ-loop
-still-below-requires t c κs = list-tested (c .before .before .before .before .before .before .before .before .before .before .before .before .before .before .before .before .before .before .before .before .pre .1) (c .before .before .before .before .before .before .before .before .before .before .before .before .before .before .loop .inv .0) (c .before .before .before .before .before .before .before .before .before .before .before .before .before .loop-test .taken) (c .before .before .before .before .before .before .before .before .before .before .before .before .before .before .loop .inv .1) (c .before .before .before .before .before .before .before .before .before .expression .ensures) (c .before .judgement .given .1)
+still-below-requires t c κs =
+    let at-expression = c .before .before .before .before .before .before .before .before .before in
+    let at-loop-test = at-expression .before .before .before .before in
+    let at-loop = at-loop-test .before in
+    let at-start = at-loop .before .before .before .before .before .before in
+    list-tested (at-start .pre .1) (at-loop .loop .inv .0) (at-loop-test .loop-test .taken) (at-loop .loop .inv .1) (at-expression .expression .ensures) (c .before .judgement .given .1)
 
 add-i : (t : ℕ) → list-lts.Need-add-i (claims t) (list-at t) list.Post Inv-loop μ-loop
-add-i t c = omega (arith, c .before .before .before .before .before .before .before .before .before .before .before .before .before .before .before .loop-test .taken, c .before .before .before .before .before .before .before .before .before .before .before .before .before .before .before .before .before .before .before .before .before .before .fits .count)
+add-i t c =
+    let at-loop-test = c .before .before .before .before .before .before .before .before .before .before .before .before .before .before .before in
+    let at-start = at-loop-test .before .before .before .before .before .before .before in
+    omega (arith, at-loop-test .loop-test .taken, at-start .fits .count)
 
 loop-less : (t : ℕ) → list-lts.Need-loop-less (claims t) (list-at t) list.Post Inv-loop μ-loop
-loop-less t c = omega (arith, c .before .before .before .before .before .before .before .before .before .before .before .before .before .before .before .loop-test .taken)
+loop-less t c =
+    let at-loop-test = c .before .before .before .before .before .before .before .before .before .before .before .before .before .before .before in
+    omega (arith, at-loop-test .loop-test .taken)
 
 loop-again : (t : ℕ) → list-lts.Need-loop-again (claims t) (list-at t) list.Post Inv-loop μ-loop
 loop-again t c = (list-again (c .before .before .before .before .before .before .before .before .before .before .before .before .before .before .before .before .before .before .before .before .before .before .pre .1) (c .before .before .before .before .before .before .before .before .before .before .before .before .before .before .before .before .loop .inv .0) (c .before .before .before .before .before .before .before .before .before .before .before .before .before .before .before .loop-test .taken) (c .before .before .before .before .before .before .before .before .before .before .before .before .before .before .before .before .loop .inv .1) (c .before .before .before .before .before .before .before .before .before .before .before .expression .ensures) (c .before .before .before .judgement .given .1) (c .before .still-below .ensures), list-level (c .before .before .before .before .before .before .before .before .before .before .before .before .before .before .before .before .before .before .before .before .before .before .pre .1) (c .before .before .before .before .before .before .before .before .before .before .before .before .before .before .before .before .loop .inv .0) (c .before .before .before .before .before .before .before .before .before .before .before .before .before .before .before .loop-test .taken) (c .before .before .before .before .before .before .before .before .before .before .before .before .before .before .before .before .loop .inv .1) (c .before .before .before .before .before .before .before .before .before .before .before .expression .ensures) (c .before .before .before .judgement .given .1), search needs, search needs, search needs)
 
 returns-2 : (t : ℕ) → list-lts.Need-returns-2 (claims t) (list-at t) list.Post Inv-loop μ-loop
-returns-2 t c = list-unfit (c .before .before .before .before .before .before .before .before .before .pre .1) (c .before .before .before .loop .inv .0) (c .before .before .loop-test .left) (c .before .if1 .taken) (c .refused .ensures .0)
+returns-2 t c =
+    let at-loop-test = c .before .before in
+    let at-loop = at-loop-test .before in
+    let at-start = at-loop .before .before .before .before .before .before in
+    list-unfit (at-start .pre .1) (at-loop .loop .inv .0) (at-loop-test .loop-test .left) (c .before .if1 .taken) (c .refused .ensures .0)
 
 returns-3 : (t : ℕ) → list-lts.Need-returns-3 (claims t) (list-at t) list.Post Inv-loop μ-loop
-returns-3 t c = list-done (c .before .before .before .before .before .before .before .before .before .pre .1) (c .before .before .before .loop .inv .0) (c .before .before .loop-test .left) (c .before .if1 .left) refl (c .before .before .before .loop .inv .1) (c .goes-on .ensures)
+returns-3 t c =
+    let at-loop-test = c .before .before in
+    let at-loop = at-loop-test .before in
+    let at-start = at-loop .before .before .before .before .before .before in
+    list-done (at-start .pre .1) (at-loop .loop .inv .0) (at-loop-test .loop-test .left) (c .before .if1 .left) refl (at-loop .loop .inv .1) (c .goes-on .ensures)
 
 pub closed : {M : Type 1} (t : ℕ) → list-lts.Closed (claims t) (list-at t) list.Post M
 closed t = list-lts.spec (claims t) (list-at t) list.Post Inv-loop μ-loop (loop-holds t) (expression-requires t) (λ c. search needs) (λ c. search needs) (λ c. search needs) (λ c. search needs) (returns t) (still-below-requires t) (add-i t) (loop-less t) (loop-again t) (λ c κs. search needs) (λ c. search needs) (λ c. search needs) (λ c. search needs) (returns-2 t) (λ c κs. search needs) (λ c. search needs) (λ c. search needs) (λ c. search needs) (returns-3 t)

@@ -1,8 +1,8 @@
 -- What `block` needs. Assumes nothing.
 use borrow.Author.Needs.{needs}
-use Prim.Native.Nat.{ℕ, _+_, _*_, _-_, _≤_, _<_}
+use Prim.Native.Nat.{ℕ, _-_}
 use native.Mathlib.Omega.{arith}
-use mathlib.Core.Path.{_≡_, refl, sym, _∙_}
+use mathlib.Core.Path.{refl}
 use Rattle.answers.proofs.LawsAnswers.{answered}
 use Rattle.statements.proofs.cycle.+arms+block+for_loop+if_else+if_null+statement+statements+step+turn+while_loop.Lts-block as block-lts
 use Rattle.statements.proofs.cycle.block.Reads as block
@@ -19,34 +19,74 @@ abbrev claims : ℕ → block-lts.Claims
 claims t = (node-children-reads.Asked, node-children-reads.Learnt, statements-below t, statements.Post, leave-reads.Asked, leave-reads.Learnt, mark-of-reads.Asked, mark-of-reads.Learnt, ends-reads.Asked, ends-reads.Learnt)
 
 add-ends : (t : ℕ) → block-lts.Need-add-ends (claims t) (block-at t) block.Post
-add-ends t c = omega (arith, (c .before .before .before .before .before .before .before .before .before .pre .1) .within, (c .before .before .before .before .before .before .before .before .before .pre .1) .fine .good-tables .laid .nodes-most)
+add-ends t c =
+    let at-start = c .before .before .before .before .before .before .before .before .before in
+    omega (arith, (at-start .pre .1) .within, (at-start .pre .1) .fine .good-tables .laid .nodes-most)
 
 node-children-requires : (t : ℕ) → block-lts.Need-node-children-requires (claims t) (block-at t) block.Post
-node-children-requires t c κs = block-node (c .before .before .before .before .before .before .before .before .before .pre .1)
+node-children-requires t c κs =
+    let at-start = c .before .before .before .before .before .before .before .before .before in
+    block-node (at-start .pre .1)
 
 statements-requires : (t : ℕ) → block-lts.Need-statements-requires (claims t) (block-at t) block.Post
-statements-requires t c κs = (omega (arith, c .before .before .before .before .before .before .before .before .before .before .pre .0, (c .before .before .before .before .before .before .before .before .before .before .pre .1) .within), block-call (c .before .before .before .before .before .before .before .before .before .before .pre .1) (c .node-children .ensures .0))
+statements-requires t c κs =
+    let at-start = c .before .before .before .before .before .before .before .before .before .before in
+    (omega (arith, at-start .pre .0, (at-start .pre .1) .within), block-call (at-start .pre .1) (c .node-children .ensures .0))
 
 returns : (t : ℕ) → block-lts.Need-returns (claims t) (block-at t) block.Post
-returns t c = block-refused (c .before .before .before .before .before .before .before .before .before .before .before .before .before .before .before .before .before .before .before .pre .1) (c .before .before .before .before .before .before .before .before .before .node-children .ensures .0) (c .before .before .before .before .before .before .before .before .statements .ensures) (c .enum-told .given .1)
+returns t c =
+    let at-statements = c .before .before .before .before .before .before .before .before in
+    let at-node-children = at-statements .before in
+    let at-start = at-node-children .before .before .before .before .before .before .before .before .before .before in
+    block-refused (at-start .pre .1) (at-node-children .node-children .ensures .0) (at-statements .statements .ensures) (c .enum-told .given .1)
 
 leave-requires : (t : ℕ) → block-lts.Need-leave-requires (claims t) (block-at t) block.Post
-leave-requires t c κs = block-left (c .before .before .before .before .before .before .before .before .before .before .before .before .before .before .before .before .before .before .before .before .pre .1) (c .before .before .before .before .before .before .before .before .before .before .node-children .ensures .0) (c .before .before .before .before .before .before .before .before .before .statements .ensures) (unrefused _ (c .before .before .match .keys2))
+leave-requires t c κs =
+    let at-match = c .before .before in
+    let at-statements = at-match .before .before .before .before .before .before .before in
+    let at-node-children = at-statements .before in
+    let at-start = at-node-children .before .before .before .before .before .before .before .before .before .before in
+    block-left (at-start .pre .1) (at-node-children .node-children .ensures .0) (at-statements .statements .ensures) (unrefused _ (at-match .match .keys2))
 
 ends-requires : (t : ℕ) → block-lts.Need-ends-requires (claims t) (block-at t) block.Post
-ends-requires t c κs = block-ends (c .before .before .before .before .before .before .before .before .before .before .before .before .before .before .before .before .before .before .before .before .before .before .before .before .before .pre .1) (c .before .before .before .before .before .before .before .before .before .before .before .before .before .before .before .node-children .ensures .0) (c .before .before .before .before .before .before .before .before .before .before .before .before .before .before .statements .ensures) (unrefused _ (c .before .before .before .before .before .before .before .match .keys2)) (c .mark-of .ensures .1)
+ends-requires t c κs =
+    let at-match = c .before .before .before .before .before .before .before in
+    let at-statements = at-match .before .before .before .before .before .before .before in
+    let at-node-children = at-statements .before in
+    let at-start = at-node-children .before .before .before .before .before .before .before .before .before .before in
+    block-ends (at-start .pre .1) (at-node-children .node-children .ensures .0) (at-statements .statements .ensures) (unrefused _ (at-match .match .keys2)) (c .mark-of .ensures .1)
 
 same-length-4 : (t : ℕ) → block-lts.Need-same-length-4 (claims t) (block-at t) block.Post
-same-length-4 t c = omega (arith, c .before .before .before .before .before .before .before .before .before .before .before .before .before .before .before .before .before .statements, c .before .before .ends, c .before .before .before .before .before .before .before .leave)
+same-length-4 t c =
+    let at-ends = c .before .before in
+    let at-leave = at-ends .before .before .before .before .before in
+    let at-statements = at-leave .before .before .before .before .before .before .before .before .before .before in
+    omega (arith, at-statements .statements, at-ends .ends, at-leave .leave)
 
 same-length-5 : (t : ℕ) → block-lts.Need-same-length-5 (claims t) (block-at t) block.Post
-same-length-5 t c = omega (arith, c .before .before .before .before .before .before .before .before .before .before .before .before .before .before .before .before .before .statements, c .before .before .ends, c .before .before .before .before .before .before .before .leave)
+same-length-5 t c =
+    let at-ends = c .before .before in
+    let at-leave = at-ends .before .before .before .before .before in
+    let at-statements = at-leave .before .before .before .before .before .before .before .before .before .before in
+    omega (arith, at-statements .statements, at-ends .ends, at-leave .leave)
 
 same-length-6 : (t : ℕ) → block-lts.Need-same-length-6 (claims t) (block-at t) block.Post
-same-length-6 t c = omega (arith, c .before .before .before .before .before .before .before .before .before .before .before .before .before .before .before .before .before .statements, c .before .before .ends, c .before .before .before .before .before .before .before .leave)
+same-length-6 t c =
+    let at-ends = c .before .before in
+    let at-leave = at-ends .before .before .before .before .before in
+    let at-statements = at-leave .before .before .before .before .before .before .before .before .before .before in
+    omega (arith, at-statements .statements, at-ends .ends, at-leave .leave)
 
 returns-2 : (t : ℕ) → block-lts.Need-returns-2 (claims t) (block-at t) block.Post
-returns-2 t c = block-ok (c .before .before .before .before .before .before .before .before .before .before .before .before .before .before .before .before .before .before .before .before .before .before .before .before .before .before .before .before .pre .1) (c .before .before .before .before .before .before .before .before .before .before .before .before .before .before .before .before .before .before .node-children .ensures .0) (c .before .before .before .before .before .before .before .before .before .before .before .before .before .before .before .before .before .statements .ensures) (unrefused _ (c .before .before .before .before .before .before .before .before .before .before .match .keys2)) (c .before .before .before .before .before .before .before .leave .ensures) (c .before .before .before .mark-of .ensures .0) (answered (c .before .before .ends .ensures .0) refl refl) (c .before .before .ends .ensures .1)
+returns-2 t c =
+    let at-ends = c .before .before in
+    let at-mark-of = at-ends .before in
+    let at-leave = at-mark-of .before .before .before .before in
+    let at-match = at-leave .before .before .before in
+    let at-statements = at-match .before .before .before .before .before .before .before in
+    let at-node-children = at-statements .before in
+    let at-start = at-node-children .before .before .before .before .before .before .before .before .before .before in
+    block-ok (at-start .pre .1) (at-node-children .node-children .ensures .0) (at-statements .statements .ensures) (unrefused _ (at-match .match .keys2)) (at-leave .leave .ensures) (at-mark-of .mark-of .ensures .0) (answered (at-ends .ends .ensures .0) refl refl) (at-ends .ends .ensures .1)
 
 pub closed : {M : Type 1} (t : ℕ) → block-lts.Closed (claims t) (block-at t) block.Post M
 closed t = block-lts.spec (claims t) (block-at t) block.Post (add-ends t) (node-children-requires t) (statements-requires t) (λ c. search needs) (λ c. search needs) (λ c. search needs) (λ c. search needs) (returns t) (leave-requires t) (λ c κs. search needs) (ends-requires t) (same-length-4 t) (same-length-5 t) (same-length-6 t) (returns-2 t)

@@ -1,8 +1,8 @@
 -- What `statements` needs. Assumes nothing.
 use borrow.Author.Needs.{needs}
-use Prim.Native.Nat.{ℕ, _+_, _*_, _-_, _≤_, _<_}
+use Prim.Native.Nat.{ℕ, _-_}
 use native.Mathlib.Omega.{arith}
-use mathlib.Core.Path.{_≡_, refl, sym, _∙_}
+use mathlib.Core.Path.{_≡_, refl}
 use Rattle.answers.proofs.LawsAnswers.{answered}
 use Rattle.statements.proofs.cycle.+arms+block+for_loop+if_else+if_null+statement+statements+step+turn+while_loop.Lts-statements as statements-lts
 use Rattle.statements.proofs.cycle.statement.Reads as statement′
@@ -28,25 +28,47 @@ loop-holds : (t : ℕ) → statements-lts.Need-loop-holds (claims t) (statements
 loop-holds t c = (run-start (c .before .before .before .before .before .pre .1), refl, refl, refl)
 
 returns : (t : ℕ) → statements-lts.Need-returns (claims t) (statements-at t) statements.Post Inv-loop μ-loop
-returns t c = run-stops (c .before .before .before .before .before .before .before .before .before .pre .1) (c .before .before .before .loop .inv .0) (c .before .before .loop-test .taken) (c .before .if1 .taken) (c .refused .ensures .0)
+returns t c =
+    let at-loop-test = c .before .before in
+    let at-loop = at-loop-test .before in
+    let at-start = at-loop .before .before .before .before .before .before in
+    run-stops (at-start .pre .1) (at-loop .loop .inv .0) (at-loop-test .loop-test .taken) (c .before .if1 .taken) (c .refused .ensures .0)
 
 statement-requires : (t : ℕ) → statements-lts.Need-statement-requires (claims t) (statements-at t) statements.Post Inv-loop μ-loop
-statement-requires t c κs = (omega (arith, c .before .before .before .before .before .before .before .before .before .before .before .pre .0, run-forward (c .before .before .before .before .before .before .before .before .before .before .before .pre .1) (c .before .before .before .before .before .loop .inv .0), run-ready (c .before .before .before .before .before .before .before .before .before .before .before .pre .1) (c .before .before .before .before .before .loop .inv .0) (c .before .before .before .before .loop-test .taken) .within), run-asked (c .before .before .before .before .before .before .before .before .before .before .before .pre .1) (c .before .before .before .before .before .loop .inv .0) (c .before .before .before .before .loop-test .taken))
+statement-requires t c κs =
+    let at-loop-test = c .before .before .before .before in
+    let at-loop = at-loop-test .before in
+    let at-start = at-loop .before .before .before .before .before .before in
+    (omega (arith, at-start .pre .0, run-forward (at-start .pre .1) (at-loop .loop .inv .0), run-ready (at-start .pre .1) (at-loop .loop .inv .0) (at-loop-test .loop-test .taken) .within), run-asked (at-start .pre .1) (at-loop .loop .inv .0) (at-loop-test .loop-test .taken))
 
 returns-2 : (t : ℕ) → statements-lts.Need-returns-2 (claims t) (statements-at t) statements.Post Inv-loop μ-loop
-returns-2 t c = run-no (c .before .before .before .before .before .before .before .before .before .before .before .before .before .before .before .before .before .before .before .before .pre .1) (c .before .before .before .before .before .before .before .before .before .before .before .before .before .before .loop .inv .0) (c .before .before .before .before .before .before .before .before .before .before .before .before .before .loop-test .taken) (c .before .before .before .before .before .before .before .before .before .before .before .before .if1 .left) (c .before .before .before .before .before .before .before .before .statement .ensures) (c .enum-told .given .1)
+returns-2 t c =
+    let at-statement = c .before .before .before .before .before .before .before .before in
+    let at-if1 = at-statement .before .before .before .before in
+    let at-loop-test = at-if1 .before in
+    let at-loop = at-loop-test .before in
+    let at-start = at-loop .before .before .before .before .before .before in
+    run-no (at-start .pre .1) (at-loop .loop .inv .0) (at-loop-test .loop-test .taken) (at-if1 .if1 .left) (at-statement .statement .ensures) (c .enum-told .given .1)
 
 add-i : (t : ℕ) → statements-lts.Need-add-i (claims t) (statements-at t) statements.Post Inv-loop μ-loop
-add-i t c = omega (arith, c .before .before .before .before .before .before .before .before .before .before .before .before .before .before .loop-test .taken, c .before .before .before .before .before .before .before .before .before .before .before .before .before .before .before .before .before .before .before .before .before .fits .count)
+add-i t c =
+    let at-loop-test = c .before .before .before .before .before .before .before .before .before .before .before .before .before .before in
+    let at-start = at-loop-test .before .before .before .before .before .before .before in
+    omega (arith, at-loop-test .loop-test .taken, at-start .fits .count)
 
 loop-less : (t : ℕ) → statements-lts.Need-loop-less (claims t) (statements-at t) statements.Post Inv-loop μ-loop
-loop-less t c = omega (arith, c .before .before .before .before .before .before .before .before .before .before .before .before .before .before .loop-test .taken)
+loop-less t c =
+    let at-loop-test = c .before .before .before .before .before .before .before .before .before .before .before .before .before .before in
+    omega (arith, at-loop-test .loop-test .taken)
 
 loop-again : (t : ℕ) → statements-lts.Need-loop-again (claims t) (statements-at t) statements.Post Inv-loop μ-loop
 loop-again t c = (run-again (c .before .before .before .before .before .before .before .before .before .before .before .before .before .before .before .before .before .before .before .before .before .pre .1) (c .before .before .before .before .before .before .before .before .before .before .before .before .before .before .before .loop .inv .0) (c .before .before .before .before .before .before .before .before .before .before .before .before .before .before .loop-test .taken) (c .before .before .before .before .before .before .before .before .before .before .before .before .before .if1 .left) (c .before .before .before .before .before .before .before .before .before .statement .ensures) (unrefused _ (c .before .before .match .keys2)) (c .before .mark-of .ensures .0), search needs, search needs, search needs)
 
 returns-3 : (t : ℕ) → statements-lts.Need-returns-3 (claims t) (statements-at t) statements.Post Inv-loop μ-loop
-returns-3 t c = run-done (c .before .before .before .before .before .before .before .before .pre .1) (c .before .before .loop .inv .0) (c .before .loop-test .left) (answered (c .with-mark .ensures) refl refl)
+returns-3 t c =
+    let at-loop = c .before .before in
+    let at-start = at-loop .before .before .before .before .before .before in
+    run-done (at-start .pre .1) (at-loop .loop .inv .0) (c .before .loop-test .left) (answered (c .with-mark .ensures) refl refl)
 
 pub closed : {M : Type 1} (t : ℕ) → statements-lts.Closed (claims t) (statements-at t) statements.Post M
 closed t = statements-lts.spec (claims t) (statements-at t) statements.Post Inv-loop μ-loop (loop-holds t) (λ c κs. search needs) (λ c. search needs) (λ c. search needs) (λ c. search needs) (returns t) (statement-requires t) (λ c. search needs) (λ c. search needs) (λ c. search needs) (λ c. search needs) (returns-2 t) (λ c κs. search needs) (add-i t) (loop-less t) (loop-again t) (λ c κs. search needs) (λ c. search needs) (λ c. search needs) (λ c. search needs) (returns-3 t)
