@@ -32,13 +32,13 @@ pub struct Judged {
     pub at: At,
 }
 
-// A refusal, made where the walk stands.
-pub fn refused(number: usize, place: usize, at: At) -> Judged
-    ensures { λ r. ⌜ (r .judgement ≡ Judgement.Refused number place) × (r .at ≡ at) ⌝ }
+// A refusal, found where the walk stands.
+pub fn refused(number: usize, place: usize, found: At) -> Judged
+    ensures { λ r. ⌜ (r .judgement ≡ Judgement.Refused number place) × (r .at ≡ found) ⌝ }
 {
     Judged {
         judgement: Judgement::Refused(number, place),
-        at: at,
+        at: found,
     }
 }
 
