@@ -9,7 +9,7 @@ use lib.ListN.{length}
 use lib.Dec.{T, eqb, leb, ltb}
 use mir.Val.{hasKey}
 use types.Run.{OneOf, hit}
-use borrow.Author.Tests.{eqb-true, eqb-false, leb-true, eq-eqb, ne-eqb, le-leb, lt-leb}
+use borrow.Author.Tests.{eqb-true, eqb-false, leb-true, eq-eqb, ne-eqb, lt-leb}
 use Rattle.oat.specs.Basics.{pick}
 use Rattle.oat.specs.Tables.{Tables}
 use Rattle.oat.specs.TypeRules.{kindAt, isReferenceKind}
@@ -77,14 +77,20 @@ module _ (constant : Bool) (k : ℕ) where
   unfolding isExpression
   expression-not h = simp (outside 10 k 16 (h .0), ne-eqb k 21 (h .1), outside 17 k 20 (h .2), outside 23 k 26 (h .3), and-false)
 
--- the kinds of statements and of targets
-pub statement-from : (k : ℕ) → 30 ≤ k → leb k 38 ≡ isStatement k
-unfolding isStatement
-statement-from k h = rw (le-leb 30 k h)
+-- the kinds of declarations, of statements and of targets
+pub declaration-in : (k : ℕ) → 1 ≤ k → k < 3 → true ≡ (eqb k 1 || eqb k 2)
+declaration-in = at-range (λ i. eqb i 1 || eqb i 2) true 1 2 refl
 
-pub statement-below : (k : ℕ) → k < 30 → leb 30 k ≡ isStatement k
+pub declaration-not : (k : ℕ) → (k ≡ 1 → ⊥) → (k ≡ 2 → ⊥) → false ≡ (eqb k 1 || eqb k 2)
+declaration-not k a b = simp (ne-eqb k 1 a, ne-eqb k 2 b)
+
+pub statement-in : (k : ℕ) → 30 ≤ k → k < 39 → true ≡ isStatement k
 unfolding isStatement
-statement-below k h = rw (lt-leb 30 k h)
+statement-in = at-range (λ i. isStatement i) true 30 9 refl
+
+pub statement-not : (k : ℕ) → (30 ≤ k → 38 < k) → false ≡ isStatement k
+unfolding isStatement
+statement-not k h = simp (outside 30 k 38 h)
 
 abbrev pub targets : List ℕ
 targets = 15 ∷ 19 ∷ 23 ∷ []
@@ -97,13 +103,9 @@ target-not k h = simp (off targets k h, tt {0})
 
 -- what may stand in each role
 module _ (constant : Bool) (role : Role) (k : ℕ) where
-  pub admits-1 : role ≡ Declaration → k ≡ 1 → eqb k 1 ≡ admits constant role k
+  pub admits-declaration : (r : Bool) → role ≡ Declaration → r ≡ (eqb k 1 || eqb k 2) → r ≡ admits constant role k
   unfolding admits
-  admits-1 e h = rw (e, h)
-
-  pub admits-2 : role ≡ Declaration → (k ≡ 1 → ⊥) → eqb k 2 ≡ admits constant role k
-  unfolding admits
-  admits-2 e h = rw (e, ne-eqb k 1 h)
+  admits-declaration r e h = rw e h
 
   pub admits-parameter : role ≡ Parameter → eqb k 3 ≡ admits constant role k
   unfolding admits

@@ -23,6 +23,16 @@ pub enum Role {
     Step,
 }
 
+// The kinds of declarations.
+fn is_declaration(kind: usize) -> bool
+    ensures { λ r. ⌜ r ≡ (eqb kind 1 || eqb kind 2) ⌝ }
+{
+    match kind {
+        1..=2 => true,
+        _ => false,
+    }
+}
+
 // The kinds of expressions; in a global's tree (`constant`) 10 to 16 and 21 alone.
 fn is_expression(constant: bool, kind: usize) -> bool
     ensures { λ r. ⌜ r ≡ isExpression constant kind ⌝ }
@@ -38,7 +48,10 @@ fn is_expression(constant: bool, kind: usize) -> bool
 fn is_statement(kind: usize) -> bool
     ensures { λ r. ⌜ r ≡ isStatement kind ⌝ }
 {
-    30 <= kind && kind <= 38
+    match kind {
+        30..=38 => true,
+        _ => false,
+    }
 }
 
 // The kinds of the left side of an assignment.
@@ -56,7 +69,7 @@ pub fn admits(constant: bool, role: Role, kind: usize) -> bool
     ensures { λ r. ⌜ r ≡ Shape.admits constant role kind ⌝ }
 {
     match role {
-        Role::Declaration => kind == 1 || kind == 2,
+        Role::Declaration => is_declaration(kind),
         Role::Parameter => kind == 3,
         Role::Expression => is_expression(constant, kind),
         Role::Initializer => kind == 22,
