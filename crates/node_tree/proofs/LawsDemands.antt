@@ -15,7 +15,7 @@ use Rattle.oat.specs.TableRules.{hasKind}
 use Rattle.oat.specs.Nodes.{hasReferenceKind}
 use Rattle.oat.proofs.LawsBasics.{and-parts}
 use Rattle.node_tree.specs.Shape.{within, admits, xFits, tFits, countFits}
-use Rattle.node_tree.specs.Demands.{bare, bitOf, standsIn, plainFor, kindOr, Keeps}
+use Rattle.node_tree.specs.Demands.{typed, bitOf, standsIn, plainFor, kindOr, Keeps}
 use Rattle.node_tree.specs.declared.demands.Demand.{Demand}
 use Rattle.node_tree.specs.declared.shape.Role.{Role}
 use Rattle.node_tree.specs.declared.shape.Role.the-variants.{Declaration, Parameter, Expression, Initializer, Target, Var, Statement, Block, Condition, Step}
@@ -199,19 +199,20 @@ tested-keeps k d g = record {
 pub arm-keeps : (n k : ℕ) (d r : Demand) → k ≡ n → r ≡ d → Tested n d → Keeps k r
 arm-keeps n k d r e h g = rw (e, h) (tested-keeps n d g)
 
--- a demand that names no role
-nowhere : (c : Bool) (role : Role) → standsIn (bare 0 0 0 0 0) c role ≡ false
+-- the demand that nothing meets names no role
+nowhere : (c : Bool) (role : Role) → standsIn (typed 65537 0 1 0 0 0) c role ≡ false
 unfolding standsIn
-nowhere true role = at-role (standsIn (bare 0 0 0 0 0) true) (λ r. false) refl role
-nowhere false role = at-role (standsIn (bare 0 0 0 0 0) false) (λ r. false) refl role
+nowhere true role = at-role (standsIn (typed 65537 0 1 0 0 0) true) (λ r. false) refl role
+nowhere false role = at-role (standsIn (typed 65537 0 1 0 0 0) false) (λ r. false) refl role
 
-pub no-demand : (k : ℕ) (r : Demand) → r ≡ bare 0 0 0 0 0 → Keeps k r
+pub no-demand : (k : ℕ) (r : Demand) → r ≡ typed 65537 0 1 0 0 0 → Keeps k r
 no-demand k r h = record {
-  right = λ T c role x t q n er lr st pl. let z : _≡_ {A = Bool} true false = sym st ∙ rw h (nowhere c role) in absurd (true-false z);
+  right =
+      λ T c role x t q n er lr st pl.
+      let z : _≡_ {A = Bool} true false = sym st ∙ rw h (nowhere c role) in
+      let y : _≡_ {A = ℕ} 0 1 = cc in
+      absurd (omega arith);
 }
-  where
-    true-false : _≡_ {A = Bool} true false → ⊥
-    true-false z = let y : _≡_ {A = ℕ} 0 1 = cc in omega arith
 
 -- stands, by its code
 module _ (d : Demand) (c : Bool) (role : Role) (a b : ℕ) (ea : a ≡ pick c (d .constant) (d .roles)) (eb : b ≡ bitOf role) where

@@ -90,7 +90,7 @@ fn typed(
 }
 
 // The demand of a kind. There is an arm for each kind, since the compiler makes tables of constants so, and of a range a chain of tests. Of a
-// function (2) and an if? (36) more is asked than a demand says, so that they have none.
+// function (2) and an if? (36) more is asked than a demand says, so that they have the one that nothing meets.
 pub fn demand_of(kind: usize) -> Demand
     ensures { λ r. ⌜ Keeps kind r ⌝ }
 {
@@ -124,7 +124,7 @@ pub fn demand_of(kind: usize) -> Demand
         38 => bare(0, 2, 2, STATEMENT, STATEMENT),
         39 => bare(0, 0, ANY, BLOCK, BLOCK),
         40 => bare(0, 0, 0, ABSENT, ABSENT),
-        _ => bare(0, 0, 0, NOWHERE, NOWHERE),
+        _ => typed(NO_KIND, 0, 1, 0, NOWHERE, NOWHERE),
     }
 }
 
