@@ -1,11 +1,13 @@
 //! Times the proved check and the peer's side by side on packed files, one call of each in turn, best of many runs.
 //!     check FILE...        a line for each size of file: nanoseconds per node of both, and the ratio
 //!     check -each FILE...  a line for each file, the slowest against the peer first
+//!     check -read FILE...  a line for each size of file, of reading alone
 use std::fs;
 use std::hint::black_box;
 use std::time::Instant;
 
 extern "C" {
+    fn oat_read(file: *const u8, length: usize) -> u16;
     fn oat_check(file: *const u8, length: usize, rows: *mut u16, rows_length: usize, work: *mut u16, work_length: usize, step: &mut u16, place: &mut u16) -> u16;
 }
 
@@ -15,6 +17,11 @@ fn proved(file: &[u8], rows: &mut [u16], work: &mut [u16]) -> u16 {
     let (mut step, mut place) = (0, 0);
     // SAFETY: every pointer points to as many elements as its length says, and none overlap
     unsafe { oat_check(file.as_ptr(), file.len(), rows.as_mut_ptr(), rows.len(), work.as_mut_ptr(), work.len(), &mut step, &mut place) }
+}
+
+fn proved_read(file: &[u8]) -> u16 {
+    // SAFETY: the pointer points to as many bytes as the length says
+    unsafe { oat_read(file.as_ptr(), file.len()) }
 }
 
 /// Nanoseconds of one call: `calls` calls are timed together.
@@ -34,17 +41,27 @@ struct Timed {
     peer: f64,
 }
 
-fn measure(name: String, file: &[u8], rows: &mut [u16], work: &mut [u16]) -> Timed {
-    let number = proved(file, rows, work);
-    let nodes = oat_peer::node_count(file);
-    let once = time(1, || { black_box(proved(black_box(file), rows, work)); }).max(50.0);
+/// The best times of two operations that take turns, each on the file and the same buffers.
+fn race(file: &[u8], rows: &mut [u16], work: &mut [u16], one: impl Fn(&[u8], &mut [u16], &mut [u16]), other: impl Fn(&[u8], &mut [u16], &mut [u16])) -> (f64, f64) {
+    let once = time(1, || one(file, rows, work)).max(50.0);
     let calls = (20_000.0 / once).ceil() as usize;
     let (mut ours, mut theirs) = (f64::INFINITY, f64::INFINITY);
     for _ in 0..100 {
-        ours = ours.min(time(calls, || { black_box(proved(black_box(file), rows, work)); }));
-        theirs = theirs.min(time(calls, || { black_box(oat_peer::check(black_box(file), rows, work)); }));
+        ours = ours.min(time(calls, || one(black_box(file), rows, work)));
+        theirs = theirs.min(time(calls, || other(black_box(file), rows, work)));
     }
-    Timed { name, nodes, number, proved: ours, peer: theirs }
+    (ours, theirs)
+}
+
+fn measure(name: String, file: &[u8], rows: &mut [u16], work: &mut [u16], reading: bool) -> Timed {
+    let number = proved(file, rows, work);
+    let nodes = oat_peer::node_count(file);
+    let (proved, peer) = if reading {
+        race(file, rows, work, |f, _, _| { black_box(proved_read(f)); }, |f, _, _| { black_box(oat_peer::read(f)); })
+    } else {
+        race(file, rows, work, |f, r, w| { black_box(proved(f, r, w)); }, |f, r, w| { black_box(oat_peer::check(f, r, w)); })
+    };
+    Timed { name, nodes, number, proved, peer }
 }
 
 fn unpack(many: &[u8]) -> Vec<&[u8]> {
@@ -68,7 +85,8 @@ fn total(label: &str, timed: &[&Timed]) {
 fn main() {
     let mut paths: Vec<String> = std::env::args().skip(1).collect();
     let each = paths.first().is_some_and(|p| p == "-each");
-    if each {
+    let reading = paths.first().is_some_and(|p| p == "-read");
+    if each || reading {
         paths.remove(0);
     }
     let (mut rows, mut work) = (vec![0u16; NUMBERS], vec![0u16; NUMBERS]);
@@ -76,7 +94,7 @@ fn main() {
     for path in &paths {
         let many = fs::read(path).expect("the file can be read");
         for (i, file) in unpack(&many).into_iter().enumerate() {
-            timed.push(measure(format!("{path}:{i}"), file, &mut rows, &mut work));
+            timed.push(measure(format!("{path}:{i}"), file, &mut rows, &mut work, reading));
         }
     }
     if each {

@@ -16,11 +16,9 @@ use Rattle.oat.specs.Tables.{Tables, typeAt, nodeAt}
 use Rattle.oat.specs.Syntax.{truth, falsity, integer, text, Expr, null, literal, name, arrayLiteral, defaultArray, arrayWith, index, lengthOf, structLiteral, field, call, unary, binary, Exprs, none, also, Inits, noInit, init, Target, nameTarget, indexTarget, fieldTarget, targetExpr, Vars, noVar, nextVar, Condition, noCondition, condition, Stmt, assign, var, returnValue, returnVoid, callStmt, ifElse, ifNull, for, while, Step, noStep, step, Block, block, Stmts, empty, then, Decl, global, function, size, sizes, sizeInits, sizeTarget, sizeVars, sizeCondition, sizeStmt, sizeStep, sizeBlock, sizeStmts, sizeDecl, sizeDecls, count, countInits, countVars, countStmts, depth, depths, depthInits, depthVars, depthCondition, depthStmt, depthStep, depthBlock, depthStmts, depthDecl, depthDecls, isConstant, areConstant, initsConstant}
 use Rattle.oat.specs.Nodes.{Node, Stands, StandAll, InitsStand, VarsStand, ConditionStands, StmtStands, StepStands, BlockStands, StmtsStand, ParametersStand, DeclStands, DeclsStand}
 use Rattle.node_tree.specs.Shape.{isExpression, isStatement, admits, xFits, tFits, paramsOf, countFits, forRole, childRole}
-use Rattle.node_tree.specs.Tree.{nodeFits, nodeRight, childrenOf, treeOf, declarationsFrom, treesRight}
+use Rattle.node_tree.specs.Tree.{Ending, Broken, At, nodeFits, nodeRight, childrenOf, treeOf, declarationsFrom, treesRight}
 use Rattle.node_tree.specs.declared.shape.Role.{Role}
 use Rattle.node_tree.specs.declared.shape.Role.the-variants.{Declaration, Parameter, Expression, Initializer, Var, Statement}
-use Rattle.node_tree.specs.declared.tree.Ending.{Ending}
-use Rattle.node_tree.specs.declared.tree.Ending.the-variants.{Broken, At}
 
 -- the tree in this role at the node n ends at m
 record Ends (T : Tables) (d : ℕ) (c : Bool) (role : Role) (n m : ℕ) : Type 0 where

@@ -20,11 +20,9 @@ use Rattle.oat.specs.Tables.{Tables, nodeAt}
 use Rattle.oat.specs.Syntax.{Decl, sizeDecls, depthDecls}
 use Rattle.oat.specs.Nodes.{DeclsStand}
 use Rattle.node_tree.specs.Shape.{admits}
-use Rattle.node_tree.specs.Tree.{treeOf, endsAt, declarationsFrom, treesRight}
+use Rattle.node_tree.specs.Tree.{Ending, Broken, At, treeOf, endsAt, declarationsFrom, treesRight}
 use Rattle.node_tree.specs.declared.shape.Role.{Role}
 use Rattle.node_tree.specs.declared.shape.Role.the-variants.{Declaration, Parameter, Expression, Initializer, Target, Var, Statement, Block, Condition, Step}
-use Rattle.node_tree.specs.declared.tree.Ending.{Ending}
-use Rattle.node_tree.specs.declared.tree.Ending.the-variants.{Broken, At}
 use Rattle.node_tree.proofs.Found.Sorts.{Sort, Found, found-nothing, found-next, found-as, sortOf}
 use Rattle.node_tree.proofs.Found.Fitting.{Fits, node-fits, at-kind, either}
 use Rattle.node_tree.proofs.Found.Descent.{Levels}

@@ -1,23 +1,22 @@
 -- The shape of a node by its kind: what each arm of a `match` on the kind answers. Assumes nothing.
-use mathlib.Core.Path.{_≡_, refl, sym, _∙_}
+use mathlib.Core.Path.{_≡_, refl, sym, _∙_, ap}
 use mathlib.Core.Bool.{Bool, true, false, not, _&&_, _||_, and-true, and-false}
 use mathlib.Core.List.{List, [], _∷_, map}
 use mathlib.Core.Logic.{⊎-elim}
 use Prim.Native.Nat.{ℕ, zero, suc, _+_, _<_, _≤_}
 use native.Mathlib.Omega.{arith}
-use lib.Dec.{T, eqb, leb}
+use lib.ListN.{length}
+use lib.Dec.{T, eqb, leb, ltb}
 use mir.Val.{hasKey}
 use types.Run.{OneOf, hit}
-use borrow.Author.Tests.{eqb-true, eqb-false, leb-true, eq-eqb, ne-eqb, le-leb, lt-leb, lt-ltb, le-ltb}
+use borrow.Author.Tests.{eqb-true, eqb-false, leb-true, eq-eqb, ne-eqb, lt-leb}
 use Rattle.oat.specs.Basics.{pick}
-use Rattle.oat.specs.Tables.{Tables, typeAt}
-use Rattle.oat.specs.TypeRules.{isReferenceKind}
+use Rattle.oat.specs.Tables.{Tables}
+use Rattle.oat.specs.TypeRules.{kindAt, isReferenceKind}
 use Rattle.oat.specs.TableRules.{hasKind}
 use Rattle.oat.specs.Nodes.{hasReferenceKind}
-use Rattle.file_sections.specs.declared.Sections.{Sections}
-use Rattle.file_sections.specs.Layout.{tablesOf}
-use Rattle.file_sections.proofs.LawsRecords.{types-long}
-use Rattle.node_tree.specs.Shape.{within, isExpression, isStatement, admits, xFits, tFits, paramsOf, countFits, forRole, childRole}
+use Rattle.node_tree.specs.Shape.{within, isExpression, isStatement, admits, xFits, tFits, countFits, forRole, childRole}
+use Rattle.node_tree.specs.Demands.{kindOr, TypeFits}
 use Rattle.node_tree.specs.declared.shape.Role.{Role}
 use Rattle.node_tree.specs.declared.shape.Role.the-variants.{Declaration, Parameter, Expression, Initializer, Target, Var, Statement, Block, Condition, Step}
 
@@ -78,14 +77,20 @@ module _ (constant : Bool) (k : ℕ) where
   unfolding isExpression
   expression-not h = simp (outside 10 k 16 (h .0), ne-eqb k 21 (h .1), outside 17 k 20 (h .2), outside 23 k 26 (h .3), and-false)
 
--- the kinds of statements and of targets
-pub statement-from : (k : ℕ) → 30 ≤ k → leb k 38 ≡ isStatement k
-unfolding isStatement
-statement-from k h = rw (le-leb 30 k h)
+-- the kinds of declarations, of statements and of targets
+pub declaration-in : (k : ℕ) → 1 ≤ k → k < 3 → true ≡ (eqb k 1 || eqb k 2)
+declaration-in = at-range (λ i. eqb i 1 || eqb i 2) true 1 2 refl
 
-pub statement-below : (k : ℕ) → k < 30 → leb 30 k ≡ isStatement k
+pub declaration-not : (k : ℕ) → (k ≡ 1 → ⊥) → (k ≡ 2 → ⊥) → false ≡ (eqb k 1 || eqb k 2)
+declaration-not k a b = simp (ne-eqb k 1 a, ne-eqb k 2 b)
+
+pub statement-in : (k : ℕ) → 30 ≤ k → k < 39 → true ≡ isStatement k
 unfolding isStatement
-statement-below k h = rw (lt-leb 30 k h)
+statement-in = at-range (λ i. isStatement i) true 30 9 refl
+
+pub statement-not : (k : ℕ) → (30 ≤ k → 38 < k) → false ≡ isStatement k
+unfolding isStatement
+statement-not k h = simp (outside 30 k 38 h)
 
 abbrev pub targets : List ℕ
 targets = 15 ∷ 19 ∷ 23 ∷ []
@@ -98,13 +103,9 @@ target-not k h = simp (off targets k h, tt {0})
 
 -- what may stand in each role
 module _ (constant : Bool) (role : Role) (k : ℕ) where
-  pub admits-1 : role ≡ Declaration → k ≡ 1 → eqb k 1 ≡ admits constant role k
+  pub admits-declaration : (r : Bool) → role ≡ Declaration → r ≡ (eqb k 1 || eqb k 2) → r ≡ admits constant role k
   unfolding admits
-  admits-1 e h = rw (e, h)
-
-  pub admits-2 : role ≡ Declaration → (k ≡ 1 → ⊥) → eqb k 2 ≡ admits constant role k
-  unfolding admits
-  admits-2 e h = rw (e, ne-eqb k 1 h)
+  admits-declaration r e h = rw e h
 
   pub admits-parameter : role ≡ Parameter → eqb k 3 ≡ admits constant role k
   unfolding admits
@@ -184,50 +185,52 @@ module _ (k x : ℕ) where
   x-other h a b r =
       simp (off named k h, tt {0}, ne-eqb k 25 a, ne-eqb k 26 b, outside 1 k 3 (r .0), outside 13 k 15 (r .1), ne-eqb k 22 (r .2), ne-eqb k 23 (r .3))
 
--- the type t
-module _ (s : List ℕ) (S : Sections) (t : ℕ) where
-  pub reference-past : S .types ≤ t → false ≡ hasReferenceKind (tablesOf s S) t
-  unfolding hasReferenceKind
-  reference-past h = rw (types-long, le-ltb t (S .types) h)
+-- the type t: its kind, where there is such a type, answers what is asked of it
+pub kind-asked : (T : Tables) (t r q : ℕ) → r ≡ kindOr T t → q < 65536 → eqb r q ≡ hasKind T t q
+unfolding kindOr hasKind
+kind-asked T t r q e h = ap (λ (m : ℕ). eqb m q) e ∙ go (ltb t (length (T .types)))
+  where
+    go : (b : Bool) → eqb (pick b (kindAt T t) 65536) q ≡ (b && eqb (kindAt T t) q)
+    go true = refl
+    go false = ne-eqb 65536 q (λ f. omega arith)
 
-  pub reference-here : (r : Bool) (n : ℕ) → t < S .types → n ≡ typeAt (tablesOf s S) t .kind → r ≡ isReferenceKind n → r ≡ hasReferenceKind (tablesOf s S) t
-  unfolding hasReferenceKind
-  reference-here r n h e i = i ∙ rw (types-long, lt-ltb t (S .types) h, e)
+reference-asked : (T : Tables) (t r : ℕ) → r ≡ kindOr T t → isReferenceKind r ≡ hasReferenceKind T t
+unfolding kindOr isReferenceKind hasReferenceKind
+reference-asked T t r e = ap isReferenceKind e ∙ go (ltb t (length (T .types)))
+  where
+    go : (b : Bool) → isReferenceKind (pick b (kindAt T t) 65536) ≡ (b && isReferenceKind (kindAt T t))
+    go true = refl
+    go false = refl
 
-module _ (T : Tables) (k t : ℕ) (r : Bool) where
-  pub t-2 : k ≡ 2 → r ≡ hasKind T t 6 → r ≡ tFits T k t
+module _ (k t kind : ℕ) where
+  pub t-2 : k ≡ 2 → TypeFits k t kind (eqb kind 6)
   unfolding tFits
-  t-2 e h = rw e h
+  t-2 e = record { is = λ T f. rw e (kind-asked T t kind 6 f (omega arith)) }
 
-  pub t-10 : k ≡ 10 → r ≡ hasKind T t 7 → r ≡ tFits T k t
+  pub t-10 : k ≡ 10 → TypeFits k t kind (eqb kind 7)
   unfolding tFits
-  t-10 e h = rw e h
+  t-10 e = record { is = λ T f. rw e (kind-asked T t kind 7 f (omega arith)) }
 
-  pub t-16 : 16 ≤ k → k < 19 → r ≡ hasKind T t 5 → r ≡ tFits T k t
+  pub t-16 : 16 ≤ k → k < 19 → TypeFits k t kind (eqb kind 5)
   unfolding tFits
-  t-16 a b h = h ∙ at-range (λ i. tFits T i t) (hasKind T t 5) 16 3 refl k a b
+  t-16 a b = record {
+    is =
+        λ T f. kind-asked T t kind 5 f (omega arith) ∙ at-range (λ i. tFits T i t) (hasKind T t 5) 16 3 refl k a b;
+  }
 
-  pub t-21 : k ≡ 21 → r ≡ hasKind T t 4 → r ≡ tFits T k t
+  pub t-21 : k ≡ 21 → TypeFits k t kind (eqb kind 4)
   unfolding tFits
-  t-21 e h = rw e h
+  t-21 e = record { is = λ T f. rw e (kind-asked T t kind 4 f (omega arith)) }
 
-  pub t-36 : k ≡ 36 → r ≡ hasReferenceKind T t → r ≡ tFits T k t
+  pub t-36 : (r : Bool) → k ≡ 36 → r ≡ isReferenceKind kind → TypeFits k t kind r
   unfolding tFits
-  t-36 e h = rw e h
+  t-36 r e h = record { is = λ T f. h ∙ rw e (reference-asked T t kind f) }
 
-pub t-other : (T : Tables) (k t : ℕ) → (k ≡ 2 → ⊥) → (k ≡ 10 → ⊥) → (k ≡ 21 → ⊥) → (k ≡ 36 → ⊥) → (16 ≤ k → 18 < k) → eqb t 0 ≡ tFits T k t
-unfolding tFits
-t-other T k t a b c d r = simp (ne-eqb k 2 a, ne-eqb k 10 b, outside 16 k 18 r, ne-eqb k 21 c, ne-eqb k 36 d)
-
--- parameters
-module _ (T : Tables) (k t : ℕ) where
-  pub params-some : (n : ℕ) → k ≡ 2 → n ≡ typeAt T t .c → n ≡ paramsOf T k t
-  unfolding paramsOf
-  params-some n e h = rw e h
-
-  pub params-none : (k ≡ 2 → ⊥) → 0 ≡ paramsOf T k t
-  unfolding paramsOf
-  params-none h = rw (ne-eqb k 2 h)
+  pub t-other : (k ≡ 2 → ⊥) → (k ≡ 10 → ⊥) → (k ≡ 21 → ⊥) → (k ≡ 36 → ⊥) → (16 ≤ k → 18 < k) → TypeFits k t kind (eqb t 0)
+  unfolding tFits
+  t-other a b c d r = record {
+    is = λ T f. simp (ne-eqb k 2 a, ne-eqb k 10 b, outside 16 k 18 r, ne-eqb k 21 c, ne-eqb k 36 d);
+  }
 
 -- the child count; single numbers of an arm that have one child, two, at least one, and any number
 abbrev pub one : List ℕ

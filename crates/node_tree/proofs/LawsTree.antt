@@ -7,21 +7,17 @@ use native.Mathlib.Numerals.{sub-one}
 use native.Mathlib.Omega.{arith}
 use lib.ListN.{length}
 use lib.Dec.{eqb, ltb}
-use borrow.Author.Tests.{not-true, not-false, ltb-true, lt-ltb, le-ltb, eq-eqb, ne-eqb}
+use borrow.Author.Tests.{not-true, not-false, ltb-true, le-ltb, eq-eqb, ne-eqb}
 use Rattle.oat.specs.Basics.{pick}
 use Rattle.oat.specs.Tables.{Tables, nodeAt}
-use Rattle.oat.specs.TypeRules.{kindAt}
-use Rattle.oat.specs.TableRules.{hasKind}
 use Rattle.oat.proofs.LawsBasics.{and-parts}
 use Rattle.file_sections.specs.declared.Sections.{Sections}
 use Rattle.file_sections.specs.Layout.{tablesOf}
-use Rattle.file_sections.proofs.LawsRecords.{types-long, nodes-long}
+use Rattle.file_sections.proofs.LawsRecords.{nodes-long}
 use Rattle.node_tree.specs.Shape.{admits, xFits, tFits, paramsOf, countFits, childRole}
-use Rattle.node_tree.specs.Tree.{nodeFits, nodeRight, thenAt, childrenOf, treeOf, endsAt, declarationsFrom, treesRight}
+use Rattle.node_tree.specs.Tree.{Ending, Broken, At, nodeFits, nodeRight, thenAt, childrenOf, treeOf, endsAt, declarationsFrom, treesRight}
 use Rattle.node_tree.specs.declared.shape.Role.{Role}
 use Rattle.node_tree.specs.declared.shape.Role.the-variants.{Declaration}
-use Rattle.node_tree.specs.declared.tree.Ending.{Ending}
-use Rattle.node_tree.specs.declared.tree.Ending.the-variants.{Broken, At}
 
 -- the node's operands and child count
 module _ (T : Tables) (n k x : ℕ) (a : Bool) (ek : k ≡ nodeAt T n .kind) (ex : x ≡ nodeAt T n .x) (ea : a ≡ xFits k x) where
@@ -38,13 +34,6 @@ module _ (T : Tables) (n k x : ℕ) (a : Bool) (ek : k ≡ nodeAt T n .kind) (ex
     unfolding nodeFits
     count-is h p c r ec ep er = rw (← ek, ← ex, ← et, ← ec, ← ep, ← ea, ← eb, ← er, not-false a right, not-false b h)
 
--- a function's type is one of the file
-pub function-type : (s : List ℕ) (S : Sections) (k t : ℕ) (r : Bool) → r ≡ tFits (tablesOf s S) k t → not r ≡ false → k ≡ 2 → t < S .types
-unfolding tFits hasKind
-function-type s S k t r e h z =
-    let f = rw (z, types-long) at (sym e ∙ not-false r h) in
-    ltb-true t (S .types) (and-parts (ltb t (S .types)) (eqb (kindAt (tablesOf s S) t) 6) f .0)
-
 -- below a global everything is constant
 pub constant-above : (c : Bool) (k : ℕ) → c ≡ true → c ≡ (c || eqb k 1)
 constant-above c k e = rw e
@@ -57,7 +46,7 @@ pub tree-none : (d : ℕ) (T : Tables) (c : Bool) (role : Role) (n : ℕ) → d 
 unfolding treeOf
 tree-none d T c role n e = rw e
 
-tree-wrong : (d : ℕ) (T : Tables) (c : Bool) (role : Role) (n : ℕ) → nodeRight T c role n ≡ false → Broken ≡ treeOf d T c role n
+pub tree-wrong : (d : ℕ) (T : Tables) (c : Bool) (role : Role) (n : ℕ) → nodeRight T c role n ≡ false → Broken ≡ treeOf d T c role n
 unfolding treeOf
 tree-wrong zero T c role n e = refl
 tree-wrong (suc d) T c role n e = rw e
@@ -73,33 +62,14 @@ belowOf d T c n =
     (n + 1)
 
 -- a tree ends where the children of its node do
-tree-right : (d : ℕ) (T : Tables) (c : Bool) (role : Role) (n : ℕ) → (d ≡ 0 → ⊥) → nodeRight T c role n ≡ true → belowOf (d - 1) T c n ≡ treeOf d T c role n
+pub tree-right : (d : ℕ) (T : Tables) (c : Bool) (role : Role) (n : ℕ) → (d ≡ 0 → ⊥) → nodeRight T c role n ≡ true → belowOf (d - 1) T c n ≡ treeOf d T c role n
 unfolding treeOf
 tree-right zero T c role n z e = absurd (z refl)
 tree-right (suc d) T c role n z e = rw (sub-one, e)
 
-module _ (d : ℕ) (s : List ℕ) (S : Sections) (c : Bool) (role : Role) (n : ℕ) where
-  pub tree-past : S .nodes ≤ n → Broken ≡ treeOf d (tablesOf s S) c role n
-  unfolding nodeRight
-  tree-past h = tree-wrong d (tablesOf s S) c role n (rw (nodes-long, le-ltb n (S .nodes) h))
-
-  module _ (here : n < S .nodes) (k : ℕ) (a : Bool) (ek : k ≡ nodeAt (tablesOf s S) n .kind) (ea : a ≡ admits c role k) where
-    pub tree-not-admitted : not a ≡ true → Broken ≡ treeOf d (tablesOf s S) c role n
-    unfolding nodeRight
-    tree-not-admitted h =
-        tree-wrong d (tablesOf s S) c role n (rw (nodes-long, lt-ltb n (S .nodes) here, ← ek, ← ea, not-true a h))
-
-    module _ (admitted : not a ≡ false) (b : Bool) (eb : b ≡ nodeFits (tablesOf s S) n) where
-      node-is : nodeRight (tablesOf s S) c role n ≡ b
-      unfolding nodeRight
-      node-is = rw (nodes-long, lt-ltb n (S .nodes) here, ← ek, ← ea, ← eb, not-false a admitted)
-
-      pub tree-not-fitting : not b ≡ true → Broken ≡ treeOf d (tablesOf s S) c role n
-      tree-not-fitting h = tree-wrong d (tablesOf s S) c role n (node-is ∙ not-true b h)
-
-      module _ (levels : d ≡ 0 → ⊥) (fits : not b ≡ false) (m : ℕ) (below : Bool) (em : m ≡ nodeAt (tablesOf s S) n .children) (ec : below ≡ (c || eqb k 1)) where
-        pub tree-is : (r : Ending) → r ≡ childrenOf (treeOf (d - 1) (tablesOf s S) below) (childRole k m) m 0 (n + 1) → r ≡ treeOf d (tablesOf s S) c role n
-        tree-is r e = e ∙ rw (ec, ek, em) (tree-right d (tablesOf s S) c role n levels (node-is ∙ not-false b fits))
+pub tree-past : (d : ℕ) (s : List ℕ) (S : Sections) (c : Bool) (role : Role) (n : ℕ) → S .nodes ≤ n → Broken ≡ treeOf d (tablesOf s S) c role n
+unfolding nodeRight
+tree-past d s S c role n h = tree-wrong d (tablesOf s S) c role n (rw (nodes-long, le-ltb n (S .nodes) h))
 
 -- one child after another
 module _ (f : Role → ℕ → Ending) (role : ℕ → Role) (count first : ℕ) where

@@ -1,2 +1,4 @@
+pub mod Demands
+pub mod Places
 pub mod Shape
 pub mod Tree

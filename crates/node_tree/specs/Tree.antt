@@ -8,8 +8,11 @@ use Rattle.oat.specs.Tables.{Tables, nodeAt}
 use Rattle.node_tree.specs.Shape.{admits, xFits, tFits, paramsOf, countFits, childRole}
 use Rattle.node_tree.specs.declared.shape.Role.{Role}
 use Rattle.node_tree.specs.declared.shape.Role.the-variants.{Declaration}
-use Rattle.node_tree.specs.declared.tree.Ending.{Ending}
-use Rattle.node_tree.specs.declared.tree.Ending.the-variants.{Broken, At}
+
+-- where a tree ends: at the node after it
+pub data Ending : Type 0 where
+  Broken : Ending
+  At : (n : ℕ) → Ending
 
 -- the operands and the child count of the node n are those of its kind
 unfoldable pub nodeFits : Tables → ℕ → Bool

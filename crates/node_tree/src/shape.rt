@@ -1,18 +1,13 @@
 // The shape of a node by its kind: where it may stand, its operands, its children (document 01, 'The program file').
-use file_sections::Sections;
-use file_sections::records::type_c;
-use file_sections::records::type_kind;
-use type_tables::tables::has_kind;
 use type_tables::types::reference_kind;
 ghost use mathlib.Core.Path.{_≡_};
 ghost use mathlib.Core.Bool.{_||_};
 ghost use Prim.Native.Nat.{_+_, _<_};
 ghost use lib.Dec.{eqb};
 ghost use Rattle.oat.specs.Basics.{pick};
-ghost use Rattle.oat.specs.Nodes.{hasReferenceKind};
-ghost use Rattle.file_sections.specs.Layout.{Laid, tablesOf};
 ghost use Rattle.node_tree.specs.Shape;
-ghost use Rattle.node_tree.specs.Shape.{isExpression, isStatement, xFits, tFits, paramsOf, countFits, forRole, childRole};
+ghost use Rattle.node_tree.specs.Shape.{isExpression, isStatement, xFits, countFits, forRole, childRole};
+ghost use Rattle.node_tree.specs.Demands.{TypeFits};
 
 // What stands at a place of the tree.
 pub enum Role {
@@ -26,6 +21,16 @@ pub enum Role {
     Block,
     Condition,
     Step,
+}
+
+// The kinds of declarations.
+fn is_declaration(kind: usize) -> bool
+    ensures { λ r. ⌜ r ≡ (eqb kind 1 || eqb kind 2) ⌝ }
+{
+    match kind {
+        1..=2 => true,
+        _ => false,
+    }
 }
 
 // The kinds of expressions; in a global's tree (`constant`) 10 to 16 and 21 alone.
@@ -43,7 +48,10 @@ fn is_expression(constant: bool, kind: usize) -> bool
 fn is_statement(kind: usize) -> bool
     ensures { λ r. ⌜ r ≡ isStatement kind ⌝ }
 {
-    30 <= kind && kind <= 38
+    match kind {
+        30..=38 => true,
+        _ => false,
+    }
 }
 
 // The kinds of the left side of an assignment.
@@ -61,7 +69,7 @@ pub fn admits(constant: bool, role: Role, kind: usize) -> bool
     ensures { λ r. ⌜ r ≡ Shape.admits constant role kind ⌝ }
 {
     match role {
-        Role::Declaration => kind == 1 || kind == 2,
+        Role::Declaration => is_declaration(kind),
         Role::Parameter => kind == 3,
         Role::Expression => is_expression(constant, kind),
         Role::Initializer => kind == 22,
@@ -86,41 +94,18 @@ pub fn x_fits(kind: usize, x: usize) -> bool
     }
 }
 
-// The type t is of kind 2, 4, 5 or 6.
-fn has_reference_kind(file: &[u8], sections: Sections, t: usize) -> bool
-    requires { ⌜ Laid (now file) sections ⌝ }
-    ensures { λ r. ⌜ r ≡ hasReferenceKind (tablesOf (now (file .entry)) sections) t ⌝ }
-{
-    if sections.types <= t {
-        return false;
-    }
-    reference_kind(type_kind(file, sections, t))
-}
-
-// t is an operand of the kind, or 0.
-pub fn t_fits(file: &[u8], sections: Sections, kind: usize, t: usize) -> bool
-    requires { ⌜ Laid (now file) sections ⌝ }
-    ensures { λ r. ⌜ r ≡ tFits (tablesOf (now (file .entry)) sections) kind t ⌝ }
+// t, a type of the kind `typed`, is an operand of the kind, or 0.
+pub fn t_fits(kind: usize, t: usize, typed: usize) -> bool
+    ensures { λ r. ⌜ TypeFits kind t typed r ⌝ }
 {
     match kind {
-        2 => has_kind(file, sections, t, 6),
-        10 => has_kind(file, sections, t, 7),
-        16..=18 => has_kind(file, sections, t, 5),
-        21 => has_kind(file, sections, t, 4),
-        36 => has_reference_kind(file, sections, t),
+        2 => typed == 6,
+        10 => typed == 7,
+        16..=18 => typed == 5,
+        21 => typed == 4,
+        36 => reference_kind(typed),
         _ => t == 0,
     }
-}
-
-// How many parameters a function of type t has; 0 for other kinds.
-pub fn params(file: &[u8], sections: Sections, kind: usize, t: usize) -> usize
-    requires { ⌜ Laid (now file) sections × (kind ≡ 2 → t < sections .types) ⌝ }
-    ensures { λ r. ⌜ (r ≡ paramsOf (tablesOf (now (file .entry)) sections) kind t) × (r < 65536) ⌝ }
-{
-    if kind == 2 {
-        return type_c(file, sections, t);
-    }
-    0
 }
 
 // A node of this kind has so many children.

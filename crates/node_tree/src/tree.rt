@@ -1,44 +1,93 @@
-// The rules on the node tree (number 5).
+// The rules on the node tree (number 5). Nodes are read by their place, counted in numbers; the first number of a file is no node's place, so that 0 says
+// that a tree is broken.
+use crate::demands::demand_of;
+use crate::demands::plain;
+use crate::demands::stands;
 use crate::shape::Role;
 use crate::shape::admits;
 use crate::shape::child_role;
 use crate::shape::count_fits;
-use crate::shape::params;
 use crate::shape::t_fits;
 use crate::shape::x_fits;
 use file_sections::Sections;
-use file_sections::records::node_children;
-use file_sections::records::node_kind;
-use file_sections::records::node_t;
-use file_sections::records::node_x;
+use file_sections::numbers::number;
 ghost use mathlib.Core.Path.{_≡_};
 ghost use mathlib.Core.Bool.{_||_};
-ghost use Prim.Native.Nat.{_<_};
+ghost use Prim.Native.Nat.{_+_, _*_, _<_, _≤_};
+ghost use lib.ListN.{length};
 ghost use lib.Dec.{eqb};
-ghost use Rattle.oat.specs.Tables.{nodeAt};
-ghost use Rattle.file_sections.specs.Layout.{Laid, Has, tablesOf};
-ghost use Rattle.node_tree.specs.Shape.{childRole};
-ghost use Rattle.node_tree.specs.Tree.{nodeFits, treeOf, childrenOf, treesRight};
+ghost use Rattle.oat.specs.Basics.{pick};
+ghost use Rattle.file_sections.specs.Numbers.{numberAt};
+ghost use Rattle.file_sections.specs.Layout.{Laid, tablesOf};
+ghost use Rattle.node_tree.specs.Places.{Standing, Whole, RightAt, PlainAt, Ends, kindFor};
+ghost use Rattle.node_tree.specs.Tree.{treesRight};
 
-// Where a tree ends: the node after it.
-pub enum Ending {
-    Broken,
-    At(usize),
+// The kind of the type t; 65,536 where the file has no such type.
+fn kind_of(file: &[u8], types: usize, t: usize) -> usize
+    requires { ⌜ types * 8 + 2 ≤ length (now file) ⌝ }
+    ensures { λ r. ⌜ (r ≡ kindFor (now (file .entry)) types t) × (r < 65537) ⌝ }
+{
+    if types <= t {
+        return 65536;
+    }
+    number(file, 1 + t * 4)
 }
 
-// The operands and the child count of the node are those of its kind.
-fn node_fits(file: &[u8], sections: Sections, node: usize, kind: usize, count: usize) -> bool
-    requires { ⌜ Has (now file) sections node (sections .nodes) × (kind ≡ nodeAt (tablesOf (now file) sections) node .kind) × (count ≡ nodeAt (tablesOf (now file) sections) node .children) ⌝ }
-    ensures { λ r. ⌜ r ≡ nodeFits (tablesOf (now (file .entry)) sections) node ⌝ }
+// How many parameters a function of type t has; 0 for other kinds.
+fn params(file: &[u8], types: usize, kind: usize, t: usize) -> usize
+    requires { ⌜ (types * 8 + 2 ≤ length (now file)) × (kind ≡ 2 → t < types) ⌝ }
+    ensures { λ r. ⌜ (r ≡ pick (eqb kind 2) (numberAt (now (file .entry)) (1 + t * 4 + 3)) 0) × (r < 65536) ⌝ }
 {
-    let t = node_t(file, sections, node);
-    if !x_fits(kind, node_x(file, sections, node)) {
+    if kind == 2 {
+        return number(file, 1 + t * 4 + 3);
+    }
+    0
+}
+
+// The node may stand in this role, and its operands and its child count are those of its kind.
+fn node_right(file: &[u8], types: usize, constant: bool, role: Role, at: usize) -> bool
+    requires { ⌜ Whole (now file) types at ⌝ }
+    ensures { λ r. ⌜ RightAt (now (file .entry)) types at constant role r ⌝ }
+{
+    let kind = number(file, at);
+    let t = number(file, at + 2);
+    if !admits(constant, role, kind) {
         return false;
     }
-    if !t_fits(file, sections, kind, t) {
+    if !x_fits(kind, number(file, at + 1)) {
         return false;
     }
-    count_fits(kind, params(file, sections, kind, t), count)
+    if !t_fits(kind, t, kind_of(file, types, t)) {
+        return false;
+    }
+    count_fits(kind, params(file, types, kind, t), number(file, at + 3))
+}
+
+// The node meets the demand of its kind, so that nothing more is to be asked.
+fn is_plain(file: &[u8], types: usize, constant: bool, role: Role, at: usize) -> bool
+    requires { ⌜ Whole (now file) types at ⌝ }
+    ensures { λ r. ⌜ PlainAt (now (file .entry)) types at constant role r ⌝ }
+{
+    let kind = number(file, at);
+    let x = number(file, at + 1);
+    let t = number(file, at + 2);
+    let count = number(file, at + 3);
+    let demand = demand_of(kind);
+    if !stands(demand, constant, role) {
+        return false;
+    }
+    plain(demand, x, t, kind_of(file, types, t), count)
+}
+
+// As `node_right`; most nodes are plain.
+fn child_right(file: &[u8], types: usize, constant: bool, role: Role, at: usize) -> bool
+    requires { ⌜ Whole (now file) types at ⌝ }
+    ensures { λ r. ⌜ RightAt (now (file .entry)) types at constant role r ⌝ }
+{
+    if is_plain(file, types, constant, role, at) {
+        return true;
+    }
+    node_right(file, types, constant, role, at)
 }
 
 // Below a global everything is constant.
@@ -48,74 +97,54 @@ fn constant_below(constant: bool, kind: usize) -> bool
     constant || kind == 1
 }
 
-// The tree that stands at the node in this role, at most `levels` deep.
-fn tree(
-    file: &[u8],
-    sections: Sections,
-    constant: bool,
-    role: Role,
-    node: usize,
-    levels: usize,
-) -> Ending
-    requires { ⌜ Laid (now file) sections ⌝ }
-    ensures { λ r. ⌜ r ≡ treeOf levels (tablesOf (now (file .entry)) sections) constant role node ⌝ }
-{
-    if levels == 0 {
-        return Ending::Broken;
-    }
-    if sections.nodes <= node {
-        return Ending::Broken;
-    }
-    let kind = node_kind(file, sections, node);
-    let count = node_children(file, sections, node);
-    if !admits(constant, role, kind) {
-        return Ending::Broken;
-    }
-    if !node_fits(file, sections, node, kind, count) {
-        return Ending::Broken;
-    }
-    children(
-        file,
-        sections,
-        constant_below(constant, kind),
-        kind,
-        count,
-        node + 1,
-        levels - 1,
-    )
-}
-
-// The children of a node, one after another from the node `first` on.
+// Where the children of a node of this kind end, the first of which stands at the place `first`, at most `levels` deep; 0 where one of them is broken. It
+// calls itself for children that have children alone.
 fn children(
     file: &[u8],
-    sections: Sections,
-    constant: bool,
+    types: usize,
     kind: usize,
+    constant: bool,
     count: usize,
     first: usize,
     levels: usize,
-) -> Ending
-    requires { ⌜ Laid (now file) sections × (count < 65536) ⌝ }
-    ensures { λ r. ⌜ r ≡ childrenOf (treeOf levels (tablesOf (now (file .entry)) sections) constant) (childRole kind count) count 0 first ⌝ }
+) -> usize
+    requires { ⌜ Standing (now file) types first × (0 < count) × (count < 65536) ⌝ }
+    ensures { λ r. ⌜ Ends (now (file .entry)) types kind constant count first levels r ⌝ }
 {
+    if levels == 0 {
+        return 0;
+    }
     let mut at = first;
     let mut i = 0;
     while i < count {
-        let child = tree(
-            file,
-            sections,
-            constant,
-            child_role(kind, count, i),
-            at,
-            levels,
-        );
-        let Ending::At(next) = child else {
-            return Ending::Broken;
-        };
-        at = next;
+        if file.len() <= at * 2 {
+            return 0;
+        }
+        if !child_right(file, types, constant, child_role(kind, count, i), at) {
+            return 0;
+        }
+        let inner = number(file, at + 3);
+        if inner == 0 {
+            at = at + 4;
+        } else {
+            let below = number(file, at);
+            let next = children(
+                file,
+                types,
+                below,
+                constant_below(constant, below),
+                inner,
+                at + 4,
+                levels - 1,
+            );
+            if next == 0 {
+                return 0;
+            }
+            at = next;
+        }
         i += 1;
     }
-    Ending::At(at)
+    at
 }
 
 // The declarations stand one after another from node 0 on, and use up the nodes.
@@ -123,12 +152,27 @@ pub fn trees_right(file: &[u8], sections: Sections, depth: usize) -> bool
     requires { ⌜ Laid (now file) sections ⌝ }
     ensures { λ r. ⌜ r ≡ treesRight depth (tablesOf (now (file .entry)) sections) ⌝ }
 {
-    let mut at = 0;
-    while at < sections.nodes {
-        let declaration = tree(file, sections, false, Role::Declaration, at, depth);
-        let Ending::At(next) = declaration else {
+    let mut at = sections.nodes_at;
+    while at * 2 < file.len() {
+        if depth == 0 {
             return false;
-        };
+        }
+        if !node_right(file, sections.types, false, Role::Declaration, at) {
+            return false;
+        }
+        let kind = number(file, at);
+        let next = children(
+            file,
+            sections.types,
+            kind,
+            constant_below(false, kind),
+            number(file, at + 3),
+            at + 4,
+            depth - 1,
+        );
+        if next == 0 {
+            return false;
+        }
         at = next;
     }
     true

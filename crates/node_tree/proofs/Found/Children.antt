@@ -6,10 +6,8 @@ use Prim.Native.Nat.{ℕ, zero, suc, _+_, _<_}
 use native.Mathlib.Nat.{zero-add, add-zero, suc-add}
 use native.Mathlib.Omega.{arith}
 use Rattle.oat.specs.Tables.{Tables}
-use Rattle.node_tree.specs.Tree.{thenAt, childrenOf}
+use Rattle.node_tree.specs.Tree.{Ending, Broken, At, thenAt, childrenOf}
 use Rattle.node_tree.specs.declared.shape.Role.{Role}
-use Rattle.node_tree.specs.declared.tree.Ending.{Ending}
-use Rattle.node_tree.specs.declared.tree.Ending.the-variants.{Broken, At}
 use Rattle.node_tree.proofs.Found.Sorts.{Sort, Found, nothing, next, found-nothing, found-next, sortOf}
 
 then-at : (a : Ending) (k : ℕ → Ending) (j : ℕ) → thenAt a k ≡ At j → (m : ℕ) × (a ≡ At m) × (k m ≡ At j)

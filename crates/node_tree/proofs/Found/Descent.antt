@@ -7,10 +7,9 @@ use lib.Dec.{eqb}
 use Rattle.oat.specs.Tables.{Tables}
 use Rattle.oat.specs.Nodes.{Node}
 use Rattle.node_tree.specs.Shape.{childRole}
-use Rattle.node_tree.specs.Tree.{childrenOf, treeOf}
+use Rattle.node_tree.specs.Tree.{At, childrenOf, treeOf}
 use Rattle.node_tree.specs.declared.shape.Role.{Role}
 use Rattle.node_tree.specs.declared.shape.Role.the-variants.{Expression}
-use Rattle.node_tree.specs.declared.tree.Ending.the-variants.{At}
 use Rattle.node_tree.proofs.Found.Sorts.{Sort, Found, next, found-next, found-as, expression, sortOf, expressions}
 use Rattle.node_tree.proofs.Found.Children.{Below, sorts, first-found, children-found, whole-list}
 use Rattle.node_tree.proofs.Found.Lists.{expression-list}

@@ -12,10 +12,8 @@ use Rattle.oat.specs.Tables.{Tables, nodeAt}
 use Rattle.oat.specs.Nodes.{Node}
 use Rattle.oat.proofs.LawsBasics.{and-parts}
 use Rattle.node_tree.specs.Shape.{within, isExpression, admits, xFits, tFits, paramsOf, countFits, childRole}
-use Rattle.node_tree.specs.Tree.{nodeFits, nodeRight, childrenOf, treeOf}
+use Rattle.node_tree.specs.Tree.{Ending, Broken, At, nodeFits, nodeRight, childrenOf, treeOf}
 use Rattle.node_tree.specs.declared.shape.Role.{Role}
-use Rattle.node_tree.specs.declared.tree.Ending.{Ending}
-use Rattle.node_tree.specs.declared.tree.Ending.the-variants.{Broken, At}
 
 -- a choice
 pub either : {X : Type 0} (a b : Bool) → (a || b) ≡ true → (a ≡ true → X) → (b ≡ true → X) → X

@@ -8,10 +8,9 @@ use borrow.Author.Tests.{leb-true, eqb-true, eq-eqb, ne-eqb}
 use Rattle.oat.specs.Tables.{Tables, typeAt}
 use Rattle.oat.specs.Syntax.{assign, var, returnValue, returnVoid, callStmt, ifElse, ifNull, for, while, noCondition, condition, noStep, step, block, global, function}
 use Rattle.node_tree.specs.Shape.{isExpression, isStatement, xFits, tFits, paramsOf, countFits, forRole, childRole}
-use Rattle.node_tree.specs.Tree.{childrenOf, treeOf}
+use Rattle.node_tree.specs.Tree.{At, childrenOf, treeOf}
 use Rattle.node_tree.specs.declared.shape.Role.{Role}
 use Rattle.node_tree.specs.declared.shape.Role.the-variants.{Declaration, Parameter, Var, Statement, Block, Condition, Step}
-use Rattle.node_tree.specs.declared.tree.Ending.the-variants.{At}
 use Rattle.node_tree.proofs.Found.Sorts.{Sort, Found, nothing, next, found-next, found-as, sortOf, vars, parameters}
 use Rattle.node_tree.proofs.Found.Children.{children-found, list-found, whole-list}
 use Rattle.node_tree.proofs.Found.Lists.{var-list, statement-list, parameter-list}

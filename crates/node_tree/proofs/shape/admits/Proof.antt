@@ -1,6 +1,6 @@
 -- `shape::admits` meets its contract. Assumes nothing.
 use borrow.Author.Needs.{needs}
-use Rattle.node_tree.proofs.LawsShape.{admits-1, admits-2, admits-parameter, admits-expression, admits-initializer, admits-target, admits-var, admits-statement, admits-block, no-condition, admits-condition, no-step, admits-step}
+use Rattle.node_tree.proofs.LawsShape.{admits-declaration, admits-parameter, admits-expression, admits-initializer, admits-target, admits-var, admits-statement, admits-block, no-condition, admits-condition, no-step, admits-step}
 use Rattle.node_tree.proofs.shape.admits.Statement.{statement}
 use Rattle.node_tree.proofs.shape.admits.Tie as tie
 
@@ -9,8 +9,6 @@ admits-spec =
     tie.close
     (tie.spec
     (λ c. search needs)
-    (λ c. search needs)
-    (λ c. search needs)
     (λ c κs. search needs)
     (λ c. search needs)
     (λ c. search needs)
@@ -22,9 +20,11 @@ admits-spec =
     (λ c. search needs)
     (λ c κs. search needs)
     (λ c. search needs)
+    (λ c. search needs)
     (λ c κs. search needs)
-    (λ c. search (admits-1, needs))
-    (λ c. search (admits-2, needs))
+    (λ c. search needs)
+    (λ c κs. search needs)
+    (λ c. search (admits-declaration, needs))
     (λ c. search (admits-parameter, needs))
     (λ c. search (admits-expression, needs))
     (λ c. search (admits-initializer, needs))

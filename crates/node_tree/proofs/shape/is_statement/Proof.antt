@@ -1,6 +1,7 @@
 -- `shape::is_statement` meets its contract. Assumes nothing.
+use native.Mathlib.Omega.{arith}
 use borrow.Author.Needs.{needs}
-use Rattle.node_tree.proofs.LawsShape.{statement-from, statement-below}
+use Rattle.node_tree.proofs.LawsShape.{statement-in, statement-not}
 use Rattle.node_tree.proofs.shape.is_statement.Statement.{statement}
 use Rattle.node_tree.proofs.shape.is_statement.Tie as tie
 
@@ -8,5 +9,6 @@ pub is-statement-spec : {M : Type 1} → statement M
 is-statement-spec =
     tie.close
     (tie.spec
-    (λ c. search (statement-from, needs))
-    (λ c. search (statement-below, needs)))
+    (λ c. search (statement-in, needs))
+    (λ c. statement-not _ (omega arith))
+    (λ c. statement-not _ (omega arith)))

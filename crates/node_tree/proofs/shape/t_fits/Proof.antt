@@ -11,10 +11,6 @@ t-fits-spec =
     tie.close
     (tie.spec
     (λ c κs. search needs)
-    (λ c κs. search needs)
-    (λ c κs. search needs)
-    (λ c κs. search needs)
-    (λ c κs. search needs)
     (λ c. search (t-2, needs))
     (λ c. search (t-10, needs))
     (λ c. search (t-21, needs))
