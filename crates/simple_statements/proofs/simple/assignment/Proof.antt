@@ -54,7 +54,16 @@ returns-3 c =
     assignment-no-2 (at-start .pre .0) (at-start .pre .1) (at-assigns .assigns .ensures) (at-if1 .if1 .left) (at-expression .expression .ensures) (at-first .first .given .1) (at-expression2 .expression2 .ensures) (untyped _ (c .match2 .keys2))
 
 below-requires : tie.Need-below-requires
-below-requires c κs = (c .before .before .before .before .before .before .before .before .before .before .before .before .before .before .before .before .before .before .before .before .before .before .before .before .before .before .before .before .before .before .before .before .before .before .before .before .before .pre .0 .fine .good-tables, c .before .before .before .before .before .before .before .before .before .before .before .before .before .before .before .before .before .before .before .before .before .before .before .before .before .before .before .before .before .before .before .before .before .before .before .before .before .pre .0 .fine .indexed, search (child-within (assignment-second (c .before .before .before .before .before .before .before .before .before .before .before .before .before .before .before .before .before .before .before .before .before .before .before .before .before .before .before .before .before .before .before .before .before .before .before .before .before .pre .0) (c .before .before .before .before .before .before .before .before .before .before .before .before .before .before .before .before .before .before .before .before .before .before .before .before .before .before .before .before .before .before .before .before .before .before .before .before .before .pre .1) (c .before .before .before .before .before .before .before .before .before .before .before .before .before .before .before .before .before .before .before .before .before .before .before .before .before .before .before .before .assigns .ensures) (c .before .before .before .before .before .before .before .before .before .before .before .before .before .before .before .before .before .before .before .before .before .before .before .before .before .before .before .if1 .left) (c .before .before .before .before .before .before .before .before .before .before .before .before .before .before .before .before .before .before .before .before .before .before .expression .ensures) (c .before .before .before .before .before .before .before .before .before .before .before .before .before .before .first .given .1)) (c .before .before .before .before .before .before .before .before .before .expression2 .ensures) (c .before .second .given .1), child-within (assignment-first (c .before .before .before .before .before .before .before .before .before .before .before .before .before .before .before .before .before .before .before .before .before .before .before .before .before .before .before .before .before .before .before .before .before .before .before .before .before .pre .0) (c .before .before .before .before .before .before .before .before .before .before .before .before .before .before .before .before .before .before .before .before .before .before .before .before .before .before .before .before .before .before .before .before .before .before .before .before .before .pre .1)) (c .before .before .before .before .before .before .before .before .before .before .before .before .before .before .before .before .before .before .before .before .before .before .expression .ensures) (c .before .before .before .before .before .before .before .before .before .before .before .before .before .before .first .given .1)), search (child-within (assignment-second (c .before .before .before .before .before .before .before .before .before .before .before .before .before .before .before .before .before .before .before .before .before .before .before .before .before .before .before .before .before .before .before .before .before .before .before .before .before .pre .0) (c .before .before .before .before .before .before .before .before .before .before .before .before .before .before .before .before .before .before .before .before .before .before .before .before .before .before .before .before .before .before .before .before .before .before .before .before .before .pre .1) (c .before .before .before .before .before .before .before .before .before .before .before .before .before .before .before .before .before .before .before .before .before .before .before .before .before .before .before .before .assigns .ensures) (c .before .before .before .before .before .before .before .before .before .before .before .before .before .before .before .before .before .before .before .before .before .before .before .before .before .before .before .if1 .left) (c .before .before .before .before .before .before .before .before .before .before .before .before .before .before .before .before .before .before .before .before .before .before .expression .ensures) (c .before .before .before .before .before .before .before .before .before .before .before .before .before .before .first .given .1)) (c .before .before .before .before .before .before .before .before .before .expression2 .ensures) (c .before .second .given .1), child-within (assignment-first (c .before .before .before .before .before .before .before .before .before .before .before .before .before .before .before .before .before .before .before .before .before .before .before .before .before .before .before .before .before .before .before .before .before .before .before .before .before .pre .0) (c .before .before .before .before .before .before .before .before .before .before .before .before .before .before .before .before .before .before .before .before .before .before .before .before .before .before .before .before .before .before .before .before .before .before .before .before .before .pre .1)) (c .before .before .before .before .before .before .before .before .before .before .before .before .before .before .before .before .before .before .before .before .before .before .expression .ensures) (c .before .before .before .before .before .before .before .before .before .before .before .before .before .before .first .given .1)))
+below-requires c κs =
+    let at-expression2 = c .before .before .before .before .before .before .before .before .before in
+    let at-first = at-expression2 .before .before .before .before .before in
+    let at-expression = at-first .before .before .before .before .before .before .before .before in
+    let at-if1 = at-expression .before .before .before .before .before in
+    let at-assigns = at-if1 .before in
+    let at-start = at-assigns .before .before .before .before .before .before .before .before .before in
+    let first-there = child-within (assignment-second (at-start .pre .0) (at-start .pre .1) (at-assigns .assigns .ensures) (at-if1 .if1 .left) (at-expression .expression .ensures) (at-first .first .given .1)) (at-expression2 .expression2 .ensures) (c .before .second .given .1) in
+    let second-there = child-within (assignment-first (at-start .pre .0) (at-start .pre .1)) (at-expression .expression .ensures) (at-first .first .given .1) in
+    (at-start .pre .0 .fine .good-tables, at-start .pre .0 .fine .indexed, search (first-there, second-there), search (first-there, second-there))
 
 returns-4 : tie.Need-returns-4
 returns-4 c =
@@ -114,7 +123,25 @@ returns-5 c =
     let at-start = at-assigns .before .before .before .before .before .before .before .before .before in
     assignment-ok (at-start .pre .0) (at-start .pre .1) (at-assigns .assigns .ensures) (at-if1 .if1 .left) (at-expression .expression .ensures) (at-first .first .given .1) (at-expression2 .expression2 .ensures) (at-second .second .given .1) (at-below .below .ensures) (at-if2 .if2 .left) (answered (at-ends .ends .ensures .0) refl refl) (at-ends .ends .ensures .1)
 
+same-length-9 : tie.Need-same-length-9
+same-length-9 c =
+    let at-expression2 = c .before .before .before .before .before .before .before .before .before .before .before .before in
+    let at-expression = at-expression2 .before .before .before .before .before .before .before .before .before .before .before .before .before in
+    omega (arith, at-expression .expression, at-expression2 .expression2)
+
+same-length-10 : tie.Need-same-length-10
+same-length-10 c =
+    let at-expression2 = c .before .before .before .before .before .before .before .before .before .before .before .before in
+    let at-expression = at-expression2 .before .before .before .before .before .before .before .before .before .before .before .before .before in
+    omega (arith, at-expression .expression, at-expression2 .expression2)
+
+same-length-11 : tie.Need-same-length-11
+same-length-11 c =
+    let at-expression2 = c .before .before .before .before .before .before .before .before .before .before .before .before in
+    let at-expression = at-expression2 .before .before .before .before .before .before .before .before .before .before .before .before .before in
+    omega (arith, at-expression .expression, at-expression2 .expression2)
+
 pub assignment-spec : {M : Type 1} → statement M
 assignment-spec =
     tie.close
-    (tie.spec (λ c. search needs) assigns-requires (λ c κs. search needs) (λ c. search needs) (λ c. search needs) returns (λ c. search needs) expression-requires (λ c. search needs) (λ c. search needs) (λ c. search needs) (λ c. search needs) returns-2 expression-requires-2 (λ c. search needs) (λ c. search needs) (λ c. search needs) (λ c. search needs) returns-3 below-requires (λ c κs. search needs) (λ c. omega (arith, c .before .before .before .before .before .before .before .before .before .before .before .before .before .before .before .before .before .before .before .before .before .before .before .before .before .expression, c .before .before .before .before .before .before .before .before .before .before .before .before .expression2)) (λ c. omega (arith, c .before .before .before .before .before .before .before .before .before .before .before .before .before .before .before .before .before .before .before .before .before .before .before .before .before .expression, c .before .before .before .before .before .before .before .before .before .before .before .before .expression2)) (λ c. omega (arith, c .before .before .before .before .before .before .before .before .before .before .before .before .before .before .before .before .before .before .before .before .before .before .before .before .before .expression, c .before .before .before .before .before .before .before .before .before .before .before .before .expression2)) returns-4 ends-requires same-length-12 same-length-13 same-length-14 returns-5)
+    (tie.spec (λ c. search needs) assigns-requires (λ c κs. search needs) (λ c. search needs) (λ c. search needs) returns (λ c. search needs) expression-requires (λ c. search needs) (λ c. search needs) (λ c. search needs) (λ c. search needs) returns-2 expression-requires-2 (λ c. search needs) (λ c. search needs) (λ c. search needs) (λ c. search needs) returns-3 below-requires (λ c κs. search needs) same-length-9 same-length-10 same-length-11 returns-4 ends-requires same-length-12 same-length-13 same-length-14 returns-5)

@@ -35,7 +35,12 @@ returns-2 c =
     value-no (at-start .pre .0 .0) (at-start .pre .1) (at-type-kind .type-kind .ensures .0) (at-if1 .if1 .left) (at-expression .expression .ensures) (untyped _ (c .match .keys2))
 
 below-requires : tie.Need-below-requires
-below-requires c κs = (c .before .before .before .before .before .before .before .before .before .before .before .before .before .before .before .before .before .before .before .before .before .pre .0 .0 .fine .good-tables, c .before .before .before .before .before .before .before .before .before .before .before .before .before .before .before .before .before .before .before .before .before .pre .0 .0 .fine .indexed, search (child-within (value-first (c .before .before .before .before .before .before .before .before .before .before .before .before .before .before .before .before .before .before .before .before .before .pre .0 .0) (c .before .before .before .before .before .before .before .before .before .before .before .before .before .before .before .before .before .before .before .before .before .pre .1)) (c .before .before .before .before .before .before .before .before .before .expression .ensures) (c .before .judgement .given .1), c .before .before .before .before .before .before .before .before .before .before .before .before .before .before .before .before .before .before .before .before .before .pre .0 .1), search (child-within (value-first (c .before .before .before .before .before .before .before .before .before .before .before .before .before .before .before .before .before .before .before .before .before .pre .0 .0) (c .before .before .before .before .before .before .before .before .before .before .before .before .before .before .before .before .before .before .before .before .before .pre .1)) (c .before .before .before .before .before .before .before .before .before .expression .ensures) (c .before .judgement .given .1), c .before .before .before .before .before .before .before .before .before .before .before .before .before .before .before .before .before .before .before .before .before .pre .0 .1))
+below-requires c κs =
+    let at-expression = c .before .before .before .before .before .before .before .before .before in
+    let at-start = at-expression .before .before .before .before .before .before .before .before .before .before .before .before in
+    let first-there = child-within (value-first (at-start .pre .0 .0) (at-start .pre .1)) (at-expression .expression .ensures) (c .before .judgement .given .1) in
+    let second-there = at-start .pre .0 .1 in
+    (at-start .pre .0 .0 .fine .good-tables, at-start .pre .0 .0 .fine .indexed, search (first-there, second-there), search (first-there, second-there))
 
 returns-3 : tie.Need-returns-3
 returns-3 c =

@@ -47,7 +47,17 @@ loop-less c =
     omega (arith, at-loop-test .loop-test .taken)
 
 loop-again : tie.Need-loop-again Inv-loop μ-loop
-loop-again c = (vars-again (c .before .before .before .before .before .before .before .before .before .before .before .before .before .before .before .before .before .before .before .before .pre) (c .before .before .before .before .before .before .before .before .before .before .before .before .before .before .loop .inv .0) (c .before .before .before .before .before .before .before .before .before .before .before .before .before .loop-test .taken) (c .before .before .before .before .before .before .before .before .before .variable .ensures) (c .before .enum-told .given .1), search needs, search needs, search needs)
+loop-again c = (
+  (
+      let at-variable = c .before .before .before .before .before .before .before .before .before in
+      let at-loop-test = at-variable .before .before .before .before in
+      let at-loop = at-loop-test .before in
+      let at-start = at-loop .before .before .before .before .before .before in
+      vars-again (at-start .pre) (at-loop .loop .inv .0) (at-loop-test .loop-test .taken) (at-variable .variable .ensures) (c .before .enum-told .given .1)),
+  search needs,
+  search needs,
+  search needs,
+)
 
 returns-2 : tie.Need-returns-2 Inv-loop μ-loop
 returns-2 c =

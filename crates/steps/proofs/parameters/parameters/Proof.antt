@@ -95,7 +95,22 @@ loop-less c =
     omega (arith, at-loop-test .loop-test .taken)
 
 loop-again : tie.Need-loop-again Inv-loop μ-loop
-loop-again c = (parameter-again (c .before .before .before .before .before .before .before .before .before .before .before .before .before .before .before .before .before .before .before .before .before .before .before .before .pre) (c .before .before .before .before .before .before .before .before .before .before .before .before .before .before .before .before .before .before .loop .inv .0) (c .before .before .before .before .before .before .before .before .before .before .before .before .before .before .before .before .before .loop-test .taken) (c .before .before .before .before .before .before .before .before .before .before .before .before .before .before .before .before .node-x .ensures .0) (c .before .before .before .before .before .before .before .before .before .before .before .before .before .is-fresh .ensures) (c .before .before .before .before .before .before .before .before .before .before .before .before .if1 .left) (c .before .before .before .before .before .before .before .before .before .before .before .list-entry .ensures .0) (c .before .before .before .before .before .before .before .before .bind .ensures) (c .before .before .row .ensures), search needs, search needs, search needs)
+loop-again c = (
+  (
+      let at-row = c .before .before in
+      let at-bind = at-row .before .before .before .before .before .before in
+      let at-list-entry = at-bind .before .before .before in
+      let at-if1 = at-list-entry .before in
+      let at-is-fresh = at-if1 .before in
+      let at-node-x = at-is-fresh .before .before .before in
+      let at-loop-test = at-node-x .before in
+      let at-loop = at-loop-test .before in
+      let at-start = at-loop .before .before .before .before .before .before in
+      parameter-again (at-start .pre) (at-loop .loop .inv .0) (at-loop-test .loop-test .taken) (at-node-x .node-x .ensures .0) (at-is-fresh .is-fresh .ensures) (at-if1 .if1 .left) (at-list-entry .list-entry .ensures .0) (at-bind .bind .ensures) (at-row .row .ensures)),
+  search needs,
+  search needs,
+  search needs,
+)
 
 returns-2 : tie.Need-returns-2 Inv-loop μ-loop
 returns-2 c =

@@ -58,10 +58,15 @@ returns-3 c =
     all-fields-stop (at-start .pre .0) (at-run-first .run-first .ensures) (at-first .first .given .1) (at-globals .globals .ensures) (at-second .second .given .1) (at-struct-fields .struct-fields .ensures) (stopped _ (c .before .match3 .keys2))
 
 bodies-requires : tie.Need-bodies-requires
-bodies-requires c κs = (
-  all-bodies (c .before .before .before .before .before .before .before .before .before .before .before .before .before .before .before .before .before .before .before .before .before .before .before .before .before .before .before .before .before .before .before .before .before .before .before .before .before .before .before .before .before .before .pre .0) (c .before .before .before .before .before .before .before .before .before .before .before .before .before .before .before .before .before .before .before .before .before .before .before .before .before .before .before .before .before .before .before .before .run-first .ensures) (c .before .before .before .before .before .before .before .before .before .before .before .before .before .before .before .before .before .before .before .before .before .before .before .before .first .given .1) (c .before .before .before .before .before .before .before .before .before .before .before .before .before .before .before .before .before .before .before .globals .ensures) (c .before .before .before .before .before .before .before .before .before .before .before .second .given .1) (c .before .before .before .before .before .before .before .before .struct-fields .ensures) (c .before .before .before .before .third .given .1),
-  omega (arith, c .before .before .before .before .before .before .before .before .before .before .before .before .before .before .before .before .before .before .before .globals, c .before .before .before .before .before .before .before .before .before .before .before .before .before .before .before .before .before .before .before .before .before .before .before .before .before .before .before .before .before .before .before .before .before .before .before .before .before .before .before .before .before .before .pre .1),
-)
+bodies-requires c κs =
+    let at-third = c .before .before .before .before in
+    let at-struct-fields = at-third .before .before .before .before in
+    let at-second = at-struct-fields .before .before .before in
+    let at-globals = at-second .before .before .before .before .before .before .before .before in
+    let at-first = at-globals .before .before .before .before .before in
+    let at-run-first = at-first .before .before .before .before .before .before .before .before in
+    let at-start = at-run-first .before .before .before .before .before .before .before .before .before .before in
+    (all-bodies (at-start .pre .0) (at-run-first .run-first .ensures) (at-first .first .given .1) (at-globals .globals .ensures) (at-second .second .given .1) (at-struct-fields .struct-fields .ensures) (at-third .third .given .1), omega (arith, at-globals .globals, at-start .pre .1))
 
 same-length-12 : tie.Need-same-length-12
 same-length-12 c =

@@ -62,7 +62,19 @@ loop-less t c =
     omega (arith, at-loop-test .loop-test .taken)
 
 loop-again : (t : ℕ) → statements-lts.Need-loop-again (claims t) (statements-at t) statements.Post Inv-loop μ-loop
-loop-again t c = (run-again (c .before .before .before .before .before .before .before .before .before .before .before .before .before .before .before .before .before .before .before .before .before .pre .1) (c .before .before .before .before .before .before .before .before .before .before .before .before .before .before .before .loop .inv .0) (c .before .before .before .before .before .before .before .before .before .before .before .before .before .before .loop-test .taken) (c .before .before .before .before .before .before .before .before .before .before .before .before .before .if1 .left) (c .before .before .before .before .before .before .before .before .before .statement .ensures) (unrefused _ (c .before .before .match .keys2)) (c .before .mark-of .ensures .0), search needs, search needs, search needs)
+loop-again t c = (
+  (
+      let at-match = c .before .before in
+      let at-statement = at-match .before .before .before .before .before .before .before in
+      let at-if1 = at-statement .before .before .before .before in
+      let at-loop-test = at-if1 .before in
+      let at-loop = at-loop-test .before in
+      let at-start = at-loop .before .before .before .before .before .before in
+      run-again (at-start .pre .1) (at-loop .loop .inv .0) (at-loop-test .loop-test .taken) (at-if1 .if1 .left) (at-statement .statement .ensures) (unrefused _ (at-match .match .keys2)) (c .before .mark-of .ensures .0)),
+  search needs,
+  search needs,
+  search needs,
+)
 
 returns-3 : (t : ℕ) → statements-lts.Need-returns-3 (claims t) (statements-at t) statements.Post Inv-loop μ-loop
 returns-3 t c =
