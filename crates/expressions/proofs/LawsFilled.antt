@@ -14,7 +14,7 @@ use Rattle.oat.specs.Nodes.{Stands}
 use Rattle.oat.proofs.LawsTables.{has-kind}
 use Rattle.typing_rules.specs.Contexts.{binds, isFresh}
 use Rattle.typing_rules.specs.Labels.{Label}
-use Rattle.typing_rules.specs.Judge.{Out, ok, no, andThen, needs, plain, referred, isBelow, formed, judge}
+use Rattle.typing_rules.specs.Judge.{Out, ok, no, andThen, needs, plain, isKind, referred, isBelow, formed, judge}
 use Rattle.file_sections.specs.declared.Sections.{Sections}
 use Rattle.file_sections.specs.Layout.{Has, tablesOf, GoodTables}
 use Rattle.file_sections.proofs.LawsRecords.{nodes-long}
@@ -30,6 +30,7 @@ use Rattle.expressions.proofs.LawsMeets.{Untyped, stops, passes, child-
 use Rattle.expressions.proofs.LawsAfter.{ready, typing-of, after-append, rule-typed}
 use Rattle.expressions.proofs.LawsLabels.{expr-long, expr-closed}
 use Rattle.expressions.proofs.LawsChild.{has-node, has-type, base-within, kind-within, element-within, type-entered, formed-is}
+use Rattle.expressions.proofs.LawsRules.{needs-true, First, first-no, first-sort}
 use Rattle.expressions.proofs.LawsShape.{on-filled, size-one, stands-within}
 
 -- the element of an array type
@@ -251,27 +252,19 @@ module _ {F : List ℕ} {S : Sections} {X R W K : List ℕ} {base n s : ℕ} (g 
             }
 
         module _ (f₁ : not b₁ ≡ false) {R₁ W₁ K₁ : List ℕ} {r₁ : Judged} (m₁ : Told F S X R W base (n + 1) s R₁ W₁ K₁ r₁) where
-          pub filled-no : Untyped r₁ → Told F S X R W base n s R₁ W₁ K₁ r₁
+          filled-child : (e : Expr) → Stands (tablesOf F S) n e → First F S W base n s (λ u. isKind (tablesOf F S) u 0) e
           unfolding judge
-          filled-no u =
-              record {
-                tells = on-filled (Answers F S X R W base n s R₁ W₁ K₁ r₁)
-                    (λ t x a b h.
-                    passes _ 9 n _ (formed-at t (h .0 .t-is) ∙ not-false _ f₁)
-                    (child-no _ _ u (m₁ .tells a (h .2)))) kind;
-              }
+          filled-child =
+              on-filled (First F S W base n s _)
+              (λ t x a b h.
+              record { child = a; stands = h .2; smaller = omega arith; more = _; judged = needs-true _ 9 n _ (formed-at t (h .0 .t-is) ∙ not-false _ f₁) }) kind
+
+          pub filled-no : Untyped r₁ → Told F S X R W base n s R₁ W₁ K₁ r₁
+          filled-no = first-no filled-child m₁
 
           module _ {u k₁ : ℕ} (y₁ : r₁ .judgement ≡ Typed u) (e₁ : k₁ ≡ typeAt (tablesOf F S) u .kind) where
             pub filled-sort : {r : Judged} → (k₁ ≡ 0 → ⊥) → r .judgement ≡ Refused 10 n → Told F S X R W base n s R₁ W₁ K₁ r
-            unfolding judge
-            filled-sort {r} f e =
-                record {
-                  tells = on-filled (Answers F S X R W base n s R₁ W₁ K₁ r)
-                      (λ t x a b h.
-                      passes _ 9 n _ (formed-at t (h .0 .t-is) ∙ not-false _ f₁)
-                      (child-ok _ _ u y₁ (m₁ .tells a (h .2)) λ L q p.
-                      stops _ 10 n _ (ne-eqb _ _ (λ i. f (e₁ ∙ i))) e)) kind;
-                }
+            filled-sort f = first-sort filled-child m₁ y₁ (ne-eqb _ _ (λ i. f (e₁ ∙ i)))
 
             module _ (k : k₁ ≡ 0) {x₂ : ℕ} {b₂ : Bool} (ex : x₂ ≡ nodeAt (tablesOf F S) n .x) (fresh : Freshness F S W₁ K₁ base x₂ b₂) where
               fresh-is : (x : ℕ) → nodeAt (tablesOf F S) n .x ≡ x → Same (entryOf (tablesOf F S) s) W W₁ → isFresh x (scopeOf (tablesOf F S) W base s) ≡ b₂

@@ -14,7 +14,7 @@ use Rattle.oat.specs.Syntax.{Expr, arrayLiteral, structLiteral, call, size, Exp
 use Rattle.oat.specs.Nodes.{Stands, StandAll, InitsStand}
 use Rattle.oat.proofs.LawsTables.{has-kind}
 use Rattle.typing_rules.specs.Labels.{Label}
-use Rattle.typing_rules.specs.Judge.{Out, ok, no, andThen, needs, onDeclared, plain, referred, formed, eachBelow, argumentsBelow, judge}
+use Rattle.typing_rules.specs.Judge.{Out, ok, no, andThen, needs, onDeclared, plain, isKind, referred, formed, eachBelow, argumentsBelow, judge}
 use Rattle.file_sections.specs.declared.Sections.{Sections}
 use Rattle.file_sections.specs.Layout.{Has, tablesOf}
 use Rattle.file_sections.proofs.LawsRecords.{nodes-long, structs-long, built-ins-long}
@@ -29,12 +29,13 @@ use Rattle.answers.specs.declared.leaves.Expected.{Expected}
 use Rattle.answers.specs.declared.leaves.Expected.the-variants.{Each, Run}
 use Rattle.answers.specs.Answers.{withRow}
 use Rattle.expressions.specs.Contract.{contextOf, Fine, After, Typing, Listing, Meets, accepts, refuses, Answers, Ready, Told, expectedBelow, listed, ReadyList, ToldList, initialized, ReadyInits, ToldInits}
-use Rattle.expressions.proofs.LawsMeets.{Untyped, Unlisted, stops, passes, child-no, child-ok, list-no, list-ok}
-use Rattle.expressions.proofs.LawsAfter.{same-more, fine-stack, ready, typing-of, after-append, rule-typed}
+use Rattle.expressions.proofs.LawsMeets.{Untyped, Unlisted, stops, passes, child-ok, list-no, list-ok}
+use Rattle.expressions.proofs.LawsAfter.{same-more, fine-stack, typing-of, after-append, rule-typed}
 use Rattle.expressions.proofs.LawsChild.{child-within, has-type, kind-within, element-within, returned-within, type-entered, formed-is, parameters-within}
 use Rattle.expressions.proofs.LawsList.{exprIn, judgedIn, listedIn, listed-fine}
 use Rattle.expressions.proofs.LawsInits.{initsIn, fitsIn, initializedIn, initialized-fine}
 use Rattle.expressions.proofs.LawsLabels.{expr-long, expr-closed}
+use Rattle.expressions.proofs.LawsRules.{First, first-ready, first-no, first-sort}
 use Rattle.expressions.proofs.LawsShape.{on-array, on-struct, on-call, stands-end}
 
 -- a premise on a list, tested within the list's part, then what goes on with it
@@ -163,24 +164,20 @@ module _ {F : List ℕ} {S : Sections} {X R W K : List ℕ} {base n s : ℕ} (g 
 
 -- call
 module _ {F : List ℕ} {S : Sections} {X R W K : List ℕ} {base n s : ℕ} (g : Ready F S X R W K base n s) (kind : nodeAt (tablesOf F S) n .kind ≡ 24) where
+  call-child : (e : Expr) → Stands (tablesOf F S) n e → First F S W base n s (λ f. isKind (tablesOf F S) f 6) e
+  unfolding judge
+  call-child = on-call (First F S W base n s _) (λ a es h. record { child = a; stands = h .1; smaller = omega arith; more = _; judged = refl }) kind
+
   pub call-first : Ready F S X R W K base (n + 1) s
-  call-first =
-      on-call (λ e. s + size e ≤ S .«built_ins» + S .nodes → Ready F S X R W K base (n + 1) s) (λ a es h l. ready (n + 1) a (g .fine) (h .1) (omega arith)) kind
-      (g .tree) (g .stands) (g .room)
+  call-first = first-ready call-child g
 
   module _ {R₁ W₁ K₁ : List ℕ} {r₁ : Judged} (m₁ : Told F S X R W base (n + 1) s R₁ W₁ K₁ r₁) where
     pub call-no : Untyped r₁ → Told F S X R W base n s R₁ W₁ K₁ r₁
-    unfolding judge
-    call-no u = record { tells = on-call (Answers F S X R W base n s R₁ W₁ K₁ r₁) (λ a es h. child-no _ _ u (m₁ .tells a (h .1))) kind }
+    call-no = first-no call-child m₁
 
     module _ {f k₁ : ℕ} (y₁ : r₁ .judgement ≡ Typed f) (e₁ : k₁ ≡ typeAt (tablesOf F S) f .kind) where
       pub call-sort : {r : Judged} → (k₁ ≡ 6 → ⊥) → r .judgement ≡ Refused 10 n → Told F S X R W base n s R₁ W₁ K₁ r
-      unfolding judge
-      call-sort {r} z e =
-          record {
-            tells = on-call (Answers F S X R W base n s R₁ W₁ K₁ r)
-                (λ a es h. child-ok _ _ f y₁ (m₁ .tells a (h .1)) λ L q p. stops _ 10 n _ (ne-eqb _ _ (λ i. z (e₁ ∙ i))) e) kind;
-          }
+      call-sort z = first-sort call-child m₁ y₁ (ne-eqb _ _ (λ i. z (e₁ ∙ i)))
 
       module _ (six : k₁ ≡ 6) {u : ℕ} (eu : u ≡ typeAt (tablesOf F S) f .a) where
         pub call-within : u < S .types

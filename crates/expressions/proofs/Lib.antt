@@ -3,6 +3,7 @@ pub mod LawsLabels
 pub mod LawsShape
 pub mod LawsAfter
 pub mod LawsChild
+pub mod LawsRules
 pub mod LawsSorts
 pub mod LawsPairs
 pub mod LawsList
