@@ -5,22 +5,24 @@ use mathlib.Core.Bool.{Bool, true, false, not}
 use mathlib.Core.List.{List, _∷_}
 use Prim.Native.Nat.{ℕ, zero, suc, _+_, _-_, _*_, _%_, _≤_, _<_}
 use native.Mathlib.Numerals.{add-one}
-use native.Mathlib.Nat.{not-suc-le-zero, mod-lt}
+use native.Mathlib.Nat.{not-suc-le-zero, zero-add, mod-lt}
 use native.Mathlib.Omega.{arith}
 use lib.ListN.{length, getD, set, length-set}
 use lib.Seq.{getD-set-same, getD-set-other}
 use lib.Dec.{eqb, ltb}
 use borrow.Author.Count.{below-more}
-use borrow.Author.Tests.{ltb-true, ltb-false, lt-ltb, le-ltb, eqb-true, eqb-false, eq-eqb, ne-eqb}
+use borrow.Author.Tests.{ltb-true, ltb-false, lt-ltb, le-ltb}
 use Rattle.oat.specs.Basics.{pick}
 use Rattle.oat.specs.Tables.{Tables, builtInAt, nodeAt}
+use Rattle.chains.specs.Chains.{highest, Chains}
+use Rattle.chains.proofs.LawsChains.{Walks, highest-most, highest-reaches, walk-starts, walk-falls, walk-on, walk-highest, chains-same, chains-none, linked, unlinked}
 use Rattle.typing_rules.specs.Contexts.{empty, binds, Hit, hit, miss, Entry, find, findName, isFresh, isFixed, orElse}
 use Rattle.file_sections.specs.declared.Sections.{Sections}
 use Rattle.file_sections.specs.Layout.{Laid, Has, tablesOf}
 use Rattle.file_sections.proofs.LawsRecords.{built-ins-long}
 use Rattle.bindings.specs.declared.Found.{Found}
 use Rattle.bindings.specs.declared.Found.the-variants.{At, Nothing}
-use Rattle.bindings.specs.Bindings.{entryOf, binderOf, typeBound, nameBound, isGlobal, namesOf, scopeOf, latest, topOf, Chained, Position, Scoped, Some, SomeFrom, Same, Finds, Freshness, Assignability, Bindable, Bound}
+use Rattle.bindings.specs.Bindings.{entryOf, binderOf, typeBound, nameBound, isGlobal, namesOf, scopeOf, foundBelow, latest, Chained, Position, Scoped, Some, SomeFrom, Same, Finds, Freshness, Assignability, Bindable, Bound}
 
 -- a position of a built-in
 module _ (F : List ℕ) (S : Sections) (W : List ℕ) (j : ℕ) (h : j < S .«built_ins») where
@@ -113,10 +115,8 @@ module _ (T : Tables) (s : ℕ) {W W′ : List ℕ} (same : Same (entryOf T s) W
   pub scope-same : (base : ℕ) → scopeOf T W′ base s ≡ scopeOf T W base s
   scope-same base = scope-below base s (omega arith)
 
-  top-same : (h n : ℕ) → n ≤ s → topOf T W′ h n ≡ topOf T W h n
-  unfolding topOf
-  top-same h zero l = refl
-  top-same h (suc n) l = rw (name-same n (omega arith), top-same h n (omega arith))
+  chains-kept : {K : List ℕ} → Chains 0 512 512 (λ j. nameBound T W j % 512) K s → Chains 0 512 512 (λ j. nameBound T W′ j % 512) K s
+  chains-kept c = chains-same (λ j. nameBound T W′ j % 512) (λ k l. ap (λ m. m % 512) (name-same k l)) c
 
 pub same-less : (a b : ℕ) {l m : List ℕ} → a ≤ b → Same b l m → Same a l m
 same-less a b h s = record { at = λ i k. s .at i (omega arith) }
@@ -144,11 +144,7 @@ scoped-same {F} {S} {W} {W′} {K} {s} c same l =
       high = c .high;
       binders = λ j h k. rw (same .at (entryOf (tablesOf F S) j) (omega (arith, built-ins-long F S))) (c .binders j h k);
       types = λ j h. rw (type-same (tablesOf F S) s same j h) (c .types j h);
-      chained = record {
-        long = c .chained .long;
-        heads = λ h l. c .chained .heads h l ∙ sym (top-same (tablesOf F S) s same h s (omega arith));
-        links = λ j h. rw (name-same (tablesOf F S) s same j h) (c .chained .links j h ∙ sym (top-same (tablesOf F S) s same _ j (omega arith)));
-      };
+      chained = record { long = c .chained .long; chains = chains-kept (tablesOf F S) s same (c .chained .chains) };
     }
 
 -- induction from `base` on
@@ -189,16 +185,16 @@ assignFrom T W base Nothing = true
 
 module _ (T : Tables) (W : List ℕ) (x : ℕ) where
   name-meant : (s : ℕ) → findName x (namesOf T W s) ≡ meant T W (latest T W x s)
-  unfolding findName namesOf latest
+  unfolding findName namesOf latest highest
   name-meant zero = refl
   name-meant (suc n) = go (eqb (nameBound T W n) x) (name-meant n)
     where
-      go : (b : Bool) → findName x (namesOf T W n) ≡ meant T W (latest T W x n) → pick b (hit (typeBound T W n) (binderOf T W n)) (findName x (namesOf T W n)) ≡ meant T W (pick b (At n) (latest T W x n))
+      go : (b : Bool) → findName x (namesOf T W n) ≡ meant T W (latest T W x n) → pick b (hit (typeBound T W n) (binderOf T W n)) (findName x (namesOf T W n)) ≡ meant T W (foundBelow (pick b (suc n) (highest (nameBound T W) x n)))
       go true r = refl
       go false r = r
 
   scope-meant : (base s : ℕ) → base ≤ s → orElse (find x (scopeOf T W base s)) (findName x (namesOf T W base)) ≡ meant T W (latest T W x s)
-  unfolding find latest
+  unfolding find latest highest
   scope-meant base s h = from-base
       (λ n. orElse (find x (scopeOf T W base n)) (findName x (namesOf T W base)) ≡ meant T W (latest T W x n))
       base
@@ -207,16 +203,16 @@ module _ (T : Tables) (W : List ℕ) (x : ℕ) where
       s
       h
     where
-      go : (n : ℕ) (b : Bool) → orElse (find x (scopeOf T W base n)) (findName x (namesOf T W base)) ≡ meant T W (latest T W x n) → orElse (pick b (hit (typeBound T W n) (binderOf T W n)) (find x (scopeOf T W base n))) (findName x (namesOf T W base)) ≡ meant T W (pick b (At n) (latest T W x n))
+      go : (n : ℕ) (b : Bool) → orElse (find x (scopeOf T W base n)) (findName x (namesOf T W base)) ≡ meant T W (latest T W x n) → orElse (pick b (hit (typeBound T W n) (binderOf T W n)) (find x (scopeOf T W base n))) (findName x (namesOf T W base)) ≡ meant T W (foundBelow (pick b (suc n) (highest (nameBound T W) x n)))
       go n true r = refl
       go n false r = r
 
   fresh-from : (base s : ℕ) → isFresh x (scopeOf T W base s) ≡ freshFrom base (latest T W x s)
-  unfolding isFresh scopeOf latest
+  unfolding isFresh scopeOf latest highest
   fresh-from base zero = refl
   fresh-from base (suc n) = go (ltb n base) refl (fresh-from base n)
     where
-      old-step : (n : ℕ) (b : Bool) → n < base → freshFrom base (latest T W x n) ≡ true → freshFrom base (pick b (At n) (latest T W x n)) ≡ true
+      old-step : (n : ℕ) (b : Bool) → n < base → freshFrom base (latest T W x n) ≡ true → freshFrom base (foundBelow (pick b (suc n) (highest (nameBound T W) x n))) ≡ true
       old-step n true l r = lt-ltb n base l
       old-step n false l r = r
 
@@ -224,7 +220,7 @@ module _ (T : Tables) (W : List ℕ) (x : ℕ) where
       old zero l = refl
       old (suc n) l = old-step n (eqb (nameBound T W n) x) (omega arith) (old n (omega arith))
 
-      own : (b : Bool) → base ≤ n → isFresh x (scopeOf T W base n) ≡ freshFrom base (latest T W x n) → pick b false (isFresh x (scopeOf T W base n)) ≡ freshFrom base (pick b (At n) (latest T W x n))
+      own : (b : Bool) → base ≤ n → isFresh x (scopeOf T W base n) ≡ freshFrom base (latest T W x n) → pick b false (isFresh x (scopeOf T W base n)) ≡ freshFrom base (foundBelow (pick b (suc n) (highest (nameBound T W) x n)))
       own true l r = sym (le-ltb n base l)
       own false l r = r
 
@@ -233,17 +229,17 @@ module _ (T : Tables) (W : List ℕ) (x : ℕ) where
       go false e r = own (eqb (nameBound T W n) x) (ltb-false n base e) r
 
   assign-names : (base n : ℕ) → n ≤ base → not (isFixed x (namesOf T W n)) ≡ assignFrom T W base (latest T W x n)
-  unfolding isFixed namesOf latest
+  unfolding isFixed namesOf latest highest
   assign-names base zero h = refl
   assign-names base (suc n) h = go (eqb (nameBound T W n) x) (isGlobal T W n) refl (omega arith) (assign-names base n (omega arith))
     where
-      go : (b g : Bool) → isGlobal T W n ≡ g → n < base → not (isFixed x (namesOf T W n)) ≡ assignFrom T W base (latest T W x n) → not (pick b (pick (isGlobal T W n) false true) (isFixed x (namesOf T W n))) ≡ assignFrom T W base (pick b (At n) (latest T W x n))
+      go : (b g : Bool) → isGlobal T W n ≡ g → n < base → not (isFixed x (namesOf T W n)) ≡ assignFrom T W base (latest T W x n) → not (pick b (pick (isGlobal T W n) false true) (isFixed x (namesOf T W n))) ≡ assignFrom T W base (foundBelow (pick b (suc n) (highest (nameBound T W) x n)))
       go true true e l r = rw (lt-ltb n base l, e)
       go true false e l r = rw (lt-ltb n base l, e)
       go false g e l r = r
 
   assign-from : (base s : ℕ) → base ≤ s → pick (isFresh x (scopeOf T W base s)) (not (isFixed x (namesOf T W base))) true ≡ assignFrom T W base (latest T W x s)
-  unfolding isFresh latest
+  unfolding isFresh latest highest
   assign-from base s h = from-base
       (λ n. pick (isFresh x (scopeOf T W base n)) (not (isFixed x (namesOf T W base))) true ≡ assignFrom T W base (latest T W x n))
       base
@@ -252,18 +248,17 @@ module _ (T : Tables) (W : List ℕ) (x : ℕ) where
       s
       h
     where
-      go : (n : ℕ) (b : Bool) → base ≤ n → pick (isFresh x (scopeOf T W base n)) (not (isFixed x (namesOf T W base))) true ≡ assignFrom T W base (latest T W x n) → pick (pick b false (isFresh x (scopeOf T W base n))) (not (isFixed x (namesOf T W base))) true ≡ assignFrom T W base (pick b (At n) (latest T W x n))
+      go : (n : ℕ) (b : Bool) → base ≤ n → pick (isFresh x (scopeOf T W base n)) (not (isFixed x (namesOf T W base))) true ≡ assignFrom T W base (latest T W x n) → pick (pick b false (isFresh x (scopeOf T W base n))) (not (isFixed x (namesOf T W base))) true ≡ assignFrom T W base (foundBelow (pick b (suc n) (highest (nameBound T W) x n)))
       go n true l r = rw (le-ltb n base l)
       go n false l r = r
 
   pub latest-low : (s j : ℕ) → latest T W x s ≡ At j → j < s
   unfolding latest
-  latest-low zero j e = absurd (let z : _≡_ {A = ℕ} 0 1 = cc in omega arith)
-  latest-low (suc n) j e = go (eqb (nameBound T W n) x) (latest-low n j) e
+  latest-low s j e = omega (arith, low (highest (nameBound T W) x s) e, highest-most (nameBound T W) x s)
     where
-      go : (b : Bool) → (latest T W x n ≡ At j → j < n) → pick b (At n) (latest T W x n) ≡ At j → j < suc n
-      go true r e = let z : n ≡ j = cc in omega arith
-      go false r e = omega (arith, r e)
+      low : (n : ℕ) → foundBelow n ≡ At j → j < n
+      low zero e = absurd (let z : _≡_ {A = ℕ} 0 1 = cc in omega arith)
+      low (suc n) e = let z : n ≡ j = cc in omega arith
 
   -- the name's meaning by its latest position
   pub name-found : (s j : ℕ) → latest T W x s ≡ At j → findName x (namesOf T W s) ≡ hit (typeBound T W j) (binderOf T W j)
@@ -278,156 +273,68 @@ module _ (T : Tables) (W : List ℕ) (x : ℕ) where
   pub missing-is : (base s : ℕ) → latest T W x s ≡ Nothing → base ≤ s → orElse (find x (scopeOf T W base s)) (findName x (namesOf T W base)) ≡ miss
   missing-is base s e h = scope-meant base s h ∙ ap (meant T W) e
 
--- the tops of chains
-top-most : (T : Tables) (W : List ℕ) (h s : ℕ) → topOf T W h s ≤ s
-unfolding topOf
-top-most T W h zero = omega arith
-top-most T W h (suc n) = go (eqb (nameBound T W n % 512) h) (top-most T W h n)
-  where
-    go : (b : Bool) → topOf T W h n ≤ n → pick b (suc n) (topOf T W h n) ≤ suc n
-    go true r = omega arith
-    go false r = omega arith
+-- the latest position of a name, at the end of the way along its chain
+abbrev NameWalk : Tables → List ℕ → ℕ → ℕ → ℕ → Type 0
+NameWalk T W x s after = Walks (λ j. nameBound T W j % 512) (x % 512) (λ j. nameBound T W j ≡ x) s after
 
-record Top (T : Tables) (W : List ℕ) (x s j : ℕ) : Type 0 where
-  pub low : j < s
-  pub remainder : nameBound T W j % 512 ≡ x % 512
-  pub here : nameBound T W j ≡ x → latest T W x s ≡ At j
-  pub before : (nameBound T W j ≡ x → ⊥) → latest T W x s ≡ latest T W x j
+found-below : (n : ℕ) → 0 < n → foundBelow n ≡ At (n - 1)
+found-below zero l = absurd (not-suc-le-zero l)
+found-below (suc n) l = ap At (omega arith)
 
-module _ (T : Tables) (W : List ℕ) (x : ℕ) where
-  latest-here : (n : ℕ) → nameBound T W n ≡ x → latest T W x (suc n) ≡ At n
+module _ (T : Tables) (W : List ℕ) (x s after : ℕ) (w : NameWalk T W x s after) where
+  latest-at : 0 < after → nameBound T W (after - 1) ≡ x → At (after - 1) ≡ latest T W x s
   unfolding latest
-  latest-here n e = rw (eq-eqb (nameBound T W n) x e)
+  latest-at l e = sym (ap foundBelow (walk-highest (nameBound T W) x s after (w .most) (λ k. e) (w .none)) ∙ found-below after l)
 
-  latest-before : (n : ℕ) → (nameBound T W n ≡ x → ⊥) → latest T W x (suc n) ≡ latest T W x n
+  latest-none : after ≤ 0 → Nothing ≡ latest T W x s
   unfolding latest
-  latest-before n e = rw (ne-eqb (nameBound T W n) x e)
+  latest-none l = sym (ap foundBelow (walk-highest (nameBound T W) x s 0 (omega arith) (λ k. absurd (not-suc-le-zero k)) (λ k p. w .none k (omega arith))))
 
-  other-name : (n : ℕ) → (nameBound T W n % 512 ≡ x % 512 → ⊥) → nameBound T W n ≡ x → ⊥
-  other-name n f e = f (ap (λ m. m % 512) e)
+name-inside : (T : Tables) (W : List ℕ) (x s k : ℕ) → k < s → nameBound T W k ≡ x → nameBound T W k % 512 ≡ x % 512
+name-inside T W x s k l e = ap (λ m. m % 512) e
 
-  top-none : (s : ℕ) → topOf T W (x % 512) s ≡ 0 → latest T W x s ≡ Nothing
-  unfolding topOf latest
-  top-none zero e = refl
-  top-none (suc n) e = go (eqb (nameBound T W n % 512) (x % 512)) refl (top-none n) e
-    where
-      go : (b : Bool) → eqb (nameBound T W n % 512) (x % 512) ≡ b → (topOf T W (x % 512) n ≡ 0 → latest T W x n ≡ Nothing) → pick b (suc n) (topOf T W (x % 512) n) ≡ 0 → latest T W x (suc n) ≡ Nothing
-      go true f r e = absurd (omega arith)
-      go false f r e = latest-before n (other-name n (eqb-false _ _ f)) ∙ r e
-
-  top-own : (n : ℕ) → nameBound T W n % 512 ≡ x % 512 → Top T W x (suc n) n
-  top-own n e = record { low = omega arith; remainder = e; here = latest-here n; before = latest-before n }
-
-  top-older : (n j : ℕ) → (nameBound T W n % 512 ≡ x % 512 → ⊥) → Top T W x n j → Top T W x (suc n) j
-  top-older n j f t = record {
-    low = omega (arith, t .low);
-    remainder = t .remainder;
-    here = λ e. latest-before n (other-name n f) ∙ t .here e;
-    before = λ e. latest-before n (other-name n f) ∙ t .before e;
-  }
-
-  top-some : (s j : ℕ) → topOf T W (x % 512) s ≡ suc j → Top T W x s j
-  unfolding topOf
-  top-some zero j e = absurd (omega arith)
-  top-some (suc n) j e = go (eqb (nameBound T W n % 512) (x % 512)) refl (top-some n j) e
-    where
-      go : (b : Bool) → eqb (nameBound T W n % 512) (x % 512) ≡ b → (topOf T W (x % 512) n ≡ suc j → Top T W x n j) → pick b (suc n) (topOf T W (x % 512) n) ≡ suc j → Top T W x (suc n) j
-      go true f r e =
-          let same : n ≡ j = omega arith in
-          subst (Top T W x (suc n)) same (top-own n (eqb-true _ _ f))
-      go false f r e = top-older n j (eqb-false _ _ f) (r e)
-
--- the way along a chain: in each scope that the buffers hold, `after` is a top, and the name is not bound above it
-pub record Reached (T : Tables) (W : List ℕ) (x s after : ℕ) : Type 0 where
-  pub height : ℕ
-  pub low : height ≤ s
-  pub top : after ≡ topOf T W (x % 512) height
-  pub same : latest T W x s ≡ latest T W x height
-
-pub record Walks (F : List ℕ) (S : Sections) (W K : List ℕ) (x after : ℕ) : Type 0 where
+-- the way along the chain of a name, in each scope that the buffers hold
+pub record FindWalk (F : List ℕ) (S : Sections) (W K : List ℕ) (x after : ℕ) : Type 0 where
   pub most : after ≤ 4224
-  pub reached : (s : ℕ) → Scoped F S W K s → Reached (tablesOf F S) W x s after
-
-reached-none : (T : Tables) (W : List ℕ) (x s after : ℕ) → Reached T W x s after → after ≤ 0 → Nothing ≡ latest T W x s
-reached-none T W x s after r h =
-    let e : topOf T W (x % 512) (r .height) ≡ 0 = omega (arith, r .top) in
-    sym (r .same ∙ top-none T W x (r .height) e)
-
-reached-top : (T : Tables) (W : List ℕ) (x s after : ℕ) → (r : Reached T W x s after) → 0 < after → Top T W x (r .height) (after - 1)
-reached-top T W x s after r h = top-some T W x (r .height) (after - 1) (sym (r .top) ∙ omega arith)
+  pub walks : (s : ℕ) → Scoped F S W K s → NameWalk (tablesOf F S) W x s after
 
 scoped-most : {F : List ℕ} {S : Sections} {W K : List ℕ} {s : ℕ} → Scoped F S W K s → s ≤ 4224
 scoped-most c = omega (arith, c .high, c .laid .built-ins-most, c .laid .nodes-most)
 
-walk-first : {F : List ℕ} {S : Sections} {W K : List ℕ} {s : ℕ} (x after : ℕ) → after ≡ getD K (x % 512) 0 → Scoped F S W K s → after ≡ topOf (tablesOf F S) W (x % 512) s
-walk-first x after e c = e ∙ c .chained .heads (x % 512) (mod-lt x (omega arith))
-
 module _ {F : List ℕ} {S : Sections} {W K : List ℕ} {x : ℕ} where
-  pub walk-starts : (after : ℕ) → Some F S W K → after ≡ getD K (x % 512) 0 → Walks F S W K x after
-  walk-starts after o e = record {
-    most = omega (arith, walk-first x after e (o .scoped), top-most (tablesOf F S) W (x % 512) (o .height), scoped-most (o .scoped));
-    reached = λ s c. record {
-      height = s;
-      low = omega arith;
-      top = walk-first x after e c;
-      same = refl;
-    };
-  }
+  pub find-starts : (after : ℕ) → Some F S W K → after ≡ getD K (x % 512) 0 → FindWalk F S W K x after
+  find-starts after o e = record { most = omega (arith, starts (o .height) (o .scoped) .most, scoped-most (o .scoped)); walks = starts }
+    where
+      starts : (s : ℕ) → Scoped F S W K s → NameWalk (tablesOf F S) W x s after
+      starts s c = walk-starts _ _ _ s (name-inside (tablesOf F S) W x s) (c .chained .chains) (x % 512) after (mod-lt x (omega arith)) (omega arith) e
 
-  module _ (after : ℕ) (walk : Walks F S W K x after) (h : 0 < after) where
-    walk-low : (s : ℕ) → Scoped F S W K s → after - 1 < s
-    walk-low s c =
-        let r = walk .reached s c in
-        omega (arith, r .low, reached-top (tablesOf F S) W x s after r h .low)
+  module _ (after : ℕ) (walk : FindWalk F S W K x after) (h : 0 < after) where
+    pub find-position : Some F S W K → Position F S W (after - 1)
+    find-position o = position-of (after - 1) (o .scoped) (omega (arith, walk .walks (o .height) (o .scoped) .most))
 
-    pub walk-position : Some F S W K → Position F S W (after - 1)
-    walk-position o = position-of (after - 1) (o .scoped) (walk-low (o .height) (o .scoped))
-
-    pub walk-found : (y : ℕ) → y ≡ nameBound (tablesOf F S) W (after - 1) → y ≡ x → Finds F S W K x (At (after - 1))
-    walk-found y e f = record {
-      found = λ s c.
-          let r = walk .reached s c in
-          sym (r .same ∙ reached-top (tablesOf F S) W x s after r h .here (sym e ∙ f));
-    }
+    pub find-found : (y : ℕ) → y ≡ nameBound (tablesOf F S) W (after - 1) → y ≡ x → Finds F S W K x (At (after - 1))
+    find-found y e f = record { found = λ s c. latest-at (tablesOf F S) W x s after (walk .walks s c) h (sym e ∙ f) }
 
     module _ (n : ℕ) (o : Some F S W K) (en : n ≡ getD K (512 + (after - 1)) 0) where
-      walk-link : (s : ℕ) → Scoped F S W K s → n ≡ topOf (tablesOf F S) W (x % 512) (after - 1)
-      walk-link s c =
-          let r = walk .reached s c in
-          en ∙ c .chained .links (after - 1) (walk-low s c) ∙ ap (λ m. topOf (tablesOf F S) W m (after - 1)) (reached-top (tablesOf F S) W x s after r h .remainder)
+      pub find-falls : n < after
+      find-falls = walk-falls _ _ _ (o .height) (name-inside (tablesOf F S) W x (o .height)) (o .scoped .chained .chains) _ after n (walk .walks (o .height) (o .scoped)) h refl en
 
-      pub walk-falls : n < after
-      walk-falls = omega (arith, walk-link (o .height) (o .scoped), top-most (tablesOf F S) W (x % 512) (after - 1))
-
-      pub walk-on : (y : ℕ) → y ≡ nameBound (tablesOf F S) W (after - 1) → (y ≡ x → ⊥) → Walks F S W K x n
-      walk-on y e f = record {
-        most = omega (arith, walk .most, walk-falls);
-        reached = λ s c.
-            let r = walk .reached s c in
-            let low = walk-low s c in
-            record {
-              height = after - 1;
-              low = omega arith;
-              top = walk-link s c;
-              same = r .same ∙ reached-top (tablesOf F S) W x s after r h .before (λ g. f (e ∙ g));
-            };
+      pub find-on : (y : ℕ) → y ≡ nameBound (tablesOf F S) W (after - 1) → (y ≡ x → ⊥) → FindWalk F S W K x n
+      find-on y e f = record {
+        most = omega (arith, walk .most, find-falls);
+        walks = λ s c. walk-on _ _ _ s (name-inside (tablesOf F S) W x s) (c .chained .chains) _ after n (walk .walks s c) h refl en (λ g. f (e ∙ g));
       }
 
-  pub walk-ends : (after : ℕ) → Walks F S W K x after → after ≤ 0 → Finds F S W K x Nothing
-  walk-ends after walk h = record { found = λ s c. reached-none (tablesOf F S) W x s after (walk .reached s c) h }
+  pub find-ends : (after : ℕ) → FindWalk F S W K x after → after ≤ 0 → Finds F S W K x Nothing
+  find-ends after walk h = record { found = λ s c. latest-none (tablesOf F S) W x s after (walk .walks s c) h }
 
 -- buffers hold a scope of one height alone
-top-last : (T : Tables) (W : List ℕ) (n : ℕ) → topOf T W (nameBound T W n % 512) (suc n) ≡ suc n
-unfolding topOf
-top-last T W n = rw (eq-eqb (nameBound T W n % 512) (nameBound T W n % 512) refl)
-
 scoped-highest : {F : List ℕ} {S : Sections} {W K : List ℕ} {s : ℕ} (t : ℕ) → Scoped F S W K s → Scoped F S W K t → t ≤ s
 scoped-highest zero c d = omega arith
 scoped-highest {F} {S} {W} {K} {s} (suc n) c d =
-    let h = nameBound (tablesOf F S) W n % 512 in
-    let l : h < 512 = mod-lt (nameBound (tablesOf F S) W n) (omega arith) in
-    let e : suc n ≡ topOf (tablesOf F S) W h s = sym (top-last (tablesOf F S) W n) ∙ sym (d .chained .heads h l) ∙ c .chained .heads h l in
-    omega (arith, e, top-most (tablesOf F S) W h s)
+    let b : ℕ → ℕ = λ j. nameBound (tablesOf F S) W j % 512 in
+    let l : b n < 512 = mod-lt (nameBound (tablesOf F S) W n) (omega arith) in
+    omega (arith, highest-reaches b (b n) (suc n) n (omega arith) refl, d .chained .chains .head (b n) l, c .chained .chains .head (b n) l, highest-most b (b n) s)
 
 from-low : {F : List ℕ} {S : Sections} {W K : List ℕ} {base : ℕ} → SomeFrom F S W K base → (s : ℕ) → Scoped F S W K s → base ≤ s
 from-low o s c = omega (arith, o .low, scoped-highest (o .some .height) c (o .some .scoped))
@@ -474,37 +381,6 @@ module _ {F : List ℕ} {S : Sections} {W K : List ℕ} {x : ℕ} (base : ℕ) (
       pub assign-stack : (b n : ℕ) → j < base → S .«built_ins» ≤ j → b ≡ binderOf (tablesOf F S) W j → n ≡ nodeAt (tablesOf F S) b .kind → Assignability F S W K base x (eqb n 1)
       assign-stack b n h k eb en = assign-at (eqb n 1) (rw (lt-ltb j base h) (stack-global F S W j k b eb ∙ ap (λ m. eqb m 1) (sym en)))
 
--- the top of a chain with one position more
-top-own-is : (T : Tables) (W : List ℕ) (h n : ℕ) → nameBound T W n % 512 ≡ h → topOf T W h (n + 1) ≡ n + 1
-unfolding topOf
-top-own-is T W h n e = rw (add-one, eq-eqb (nameBound T W n % 512) h e)
-
-top-other : (T : Tables) (W : List ℕ) (h n : ℕ) → (nameBound T W n % 512 ≡ h → ⊥) → topOf T W h (n + 1) ≡ topOf T W h n
-unfolding topOf
-top-other T W h n e = rw (add-one, ne-eqb (nameBound T W n % 512) h e)
-
--- the chains with one position less
-module _ (T : Tables) (W K : List ℕ) (q : ℕ) (c : Chained T W K (q + 1)) (low : q < 4224) where
-  abbrev shorter : List ℕ
-  shorter = set K (nameBound T W q % 512) (getD K (512 + q) 0)
-
-  heads-less : (h : ℕ) → h < 512 → getD shorter h 0 ≡ topOf T W h q
-  heads-less h l = go (eqb (nameBound T W q % 512) h) refl
-    where
-      go : (b : Bool) → eqb (nameBound T W q % 512) h ≡ b → getD shorter h 0 ≡ topOf T W h q
-      go true e =
-          subst (λ m. getD shorter m 0 ≡ topOf T W m q) (eqb-true (nameBound T W q % 512) h e)
-          (getD-set-same K (nameBound T W q % 512) _ 0 (omega (arith, c .long)) ∙ c .links q (omega arith))
-      go false e =
-          getD-set-other K (nameBound T W q % 512) h _ 0 (λ x. eqb-false (nameBound T W q % 512) h e (sym x)) ∙ c .heads h l ∙ top-other T W h q (eqb-false (nameBound T W q % 512) h e)
-
-  chained-less : Chained T W shorter q
-  chained-less = record {
-    long = simp length-set (c .long);
-    heads = heads-less;
-    links = λ j l. getD-set-other K (nameBound T W q % 512) (512 + j) _ 0 (λ x. omega arith) ∙ c .links j (omega arith);
-  }
-
 -- leaving a binding
 left-to : (F : List ℕ) (S : Sections) (W K : List ℕ) (q : ℕ) → Scoped F S W K (q + 1) → Scoped F S W (set K (nameBound (tablesOf F S) W q % 512) (getD K (512 + q) 0)) q
 left-to F S W K q c = record {
@@ -513,7 +389,10 @@ left-to F S W K q c = record {
   high = omega (arith, c .high);
   binders = λ j l. c .binders j (omega arith);
   types = λ j l. c .types j (omega arith);
-  chained = chained-less (tablesOf F S) W K q (c .chained) (omega (arith, c .high, c .laid .built-ins-most, c .laid .nodes-most));
+  chained = record {
+    long = simp length-set (c .chained .long);
+    chains = unlinked 0 512 512 (λ j. nameBound (tablesOf F S) W j % 512) K q _ _ refl (mod-lt _ (omega arith)) (omega arith) (omega (arith, c .chained .long)) (λ g j l m e. omega arith) (c .chained .chains);
+  };
 }
 
 module _ {F : List ℕ} {S : Sections} {W K : List ℕ} (to p : ℕ) (c : Scoped F S W K p) (h : to < p) where
@@ -532,47 +411,10 @@ left-all to p c h k =
 
 -- the chains with one position more
 module _ (T : Tables) (W W′ K : List ℕ) (s x : ℕ) (same : Same (entryOf T s) W W′) (c : Chained T W K s) (low : s < 4224) (named : nameBound T W′ s ≡ x) where
-  abbrev inner : List ℕ
-  inner = set K (512 + s) (getD K (x % 512) 0)
-
-  abbrev longer : List ℕ
-  longer = set inner (x % 512) (s + 1)
-
-  named-by : nameBound T W′ s % 512 ≡ x % 512
-  named-by = ap (λ m. m % 512) named
-
-  heads-more : (h : ℕ) → h < 512 → getD longer h 0 ≡ topOf T W′ h (s + 1)
-  heads-more h l = go (eqb (x % 512) h) refl
-    where
-      go : (b : Bool) → eqb (x % 512) h ≡ b → getD longer h 0 ≡ topOf T W′ h (s + 1)
-      go true e =
-          subst (λ m. getD longer m 0 ≡ topOf T W′ m (s + 1)) (eqb-true (x % 512) h e)
-          (getD-set-same inner (x % 512) (s + 1) 0 (simp length-set (omega (arith, c .long))) ∙ sym (top-own-is T W′ (x % 512) s named-by))
-      go false e =
-          getD-set-other inner (x % 512) h (s + 1) 0 (λ m. eqb-false (x % 512) h e (sym m))
-          ∙ getD-set-other K (512 + s) h _ 0 (λ m. omega arith)
-          ∙ c .heads h l
-          ∙ sym (top-other T W′ h s (λ m. eqb-false (x % 512) h e (sym named-by ∙ m)) ∙ top-same T s same h s (omega arith))
-
-  link-own : getD longer (512 + s) 0 ≡ topOf T W′ (nameBound T W′ s % 512) s
-  link-own =
-      getD-set-other inner (x % 512) (512 + s) (s + 1) 0 (λ m. omega arith)
-      ∙ getD-set-same K (512 + s) _ 0 (omega (arith, c .long))
-      ∙ c .heads (x % 512) (mod-lt x (omega arith))
-      ∙ sym (ap (λ m. topOf T W′ m s) named-by ∙ top-same T s same (x % 512) s (omega arith))
-
-  link-older : (k : ℕ) → k < s → getD longer (512 + k) 0 ≡ topOf T W′ (nameBound T W′ k % 512) k
-  link-older k l =
-      getD-set-other inner (x % 512) (512 + k) (s + 1) 0 (λ m. omega arith)
-      ∙ getD-set-other K (512 + s) (512 + k) _ 0 (λ m. omega arith)
-      ∙ c .links k l
-      ∙ sym (ap (λ m. topOf T W′ (m % 512) k) (name-same T s same k l) ∙ top-same T s same (nameBound T W k % 512) k (omega arith))
-
-  chained-more : Chained T W′ longer (s + 1)
+  chained-more : Chained T W′ (set (set K (512 + s) (getD K (x % 512) 0)) (x % 512) (s + 1)) (s + 1)
   chained-more = record {
     long = simp length-set (c .long);
-    heads = heads-more;
-    links = below-more (λ k. getD longer (512 + k) 0 ≡ topOf T W′ (nameBound T W′ k % 512) k) s link-older link-own;
+    chains = linked 0 512 512 (λ j. nameBound T W′ j % 512) K s (x % 512) (x % 512) (ap (λ m. m % 512) named) (mod-lt x (omega arith)) (omega arith) (omega (arith, c .long)) (λ g j l m e. omega arith) (chains-kept T s same (c .chains)) (omega (arith, c .long));
   }
 
 -- binding
@@ -646,14 +488,13 @@ module _ {F : List ℕ} {S : Sections} {W K W′ K′ : List ℕ} {s node t : �
 
 -- no binding yet
 pub scoped-none : (F : List ℕ) (S : Sections) (W K : List ℕ) → Laid F S → S .nodes * 2 ≤ length W → 4736 ≤ length K → ((h : ℕ) → h < 512 → getD K h 0 ≡ 0) → Scoped F S W K 0
-unfolding topOf
 scoped-none F S W K laid w k e = record {
   laid = laid;
   long = w;
   high = omega arith;
   binders = λ j l. absurd (not-suc-le-zero l);
   types = λ j l. absurd (not-suc-le-zero l);
-  chained = record { long = k; heads = e; links = λ j l. absurd (not-suc-le-zero l) };
+  chained = record { long = k; chains = chains-none (λ h l. rw (zero-add h) (e h l)) };
 }
 
 -- the binding of a built-in: only the chains have it

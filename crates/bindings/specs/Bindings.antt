@@ -8,6 +8,7 @@ use lib.ListN.{length, getD}
 use lib.Dec.{eqb, ltb}
 use Rattle.oat.specs.Basics.{pick}
 use Rattle.oat.specs.Tables.{Tables, builtInAt, nodeAt}
+use Rattle.chains.specs.Chains.{highest, Chains}
 use Rattle.typing_rules.specs.Contexts.{Scope, empty, binds, Entry, isFresh, isFixed}
 use Rattle.file_sections.specs.declared.Sections.{Sections}
 use Rattle.file_sections.specs.Layout.{Laid, tablesOf}
@@ -42,21 +43,19 @@ unfoldable pub scopeOf : Tables → List ℕ → ℕ → ℕ → Scope ℕ
 scopeOf T W base zero = empty
 scopeOf T W base (suc j) = pick (ltb j base) empty (binds (scopeOf T W base j) (nameBound T W j) (typeBound T W j) (binderOf T W j))
 
+-- the position one below the number; none below 0
+abbrev pub foundBelow : ℕ → Found
+foundBelow zero = Nothing
+foundBelow (suc j) = At j
+
 -- the latest position of the name x below s
 unfoldable pub latest : Tables → List ℕ → ℕ → ℕ → Found
-latest T W x zero = Nothing
-latest T W x (suc j) = pick (eqb (nameBound T W j) x) (At j) (latest T W x j)
+latest T W x s = foundBelow (highest (nameBound T W) x s)
 
--- one more than the latest position below s whose name leaves the remainder h by 512; 0 where there is none
-unfoldable pub topOf : Tables → List ℕ → ℕ → ℕ → ℕ
-topOf T W h zero = 0
-topOf T W h (suc j) = pick (eqb (nameBound T W j % 512) h) (suc j) (topOf T W h j)
-
--- the chains K lead through the positions below s
+-- the chains K lead through the positions below s, by the remainders of their names by 512
 pub record Chained (T : Tables) (W K : List ℕ) (s : ℕ) : Type 0 where
   pub long : 4736 ≤ length K
-  pub heads : (h : ℕ) → h < 512 → getD K h 0 ≡ topOf T W h s
-  pub links : (j : ℕ) → j < s → getD K (512 + j) 0 ≡ topOf T W (nameBound T W j % 512) j
+  pub chains : Chains 0 512 512 (λ j. nameBound T W j % 512) K s
 
 -- the stack has the position j: a built-in, or an entry whose binder is a node
 pub record Position (F : List ℕ) (S : Sections) (W : List ℕ) (j : ℕ) : Type 0 where

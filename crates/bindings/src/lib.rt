@@ -67,9 +67,7 @@ pub fn link(chains: &mut [u16], position: usize, name: usize)
     requires { ⌜ (4736 ≤ length (now chains)) × (position < 4224) ⌝ }
     ensures { λ _. ⌜ now (chains .exit) ≡ set (set (now (chains .entry)) (512 + position) (getD (now (chains .entry)) (name % 512) 0)) (name % 512) (position + 1) ⌝ }
 {
-    let head = name % 512;
-    chains[512 + position] = chains[head];
-    chains[head] = (position + 1) as u16;
+    chains::link(chains, name % 512, 512 + position, position + 1);
 }
 
 // Takes the position, which has the name and is first in its chain, out of it.

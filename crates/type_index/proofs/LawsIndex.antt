@@ -5,7 +5,6 @@ use mathlib.Core.Bool.{Bool, true, false, not, false≢true}
 use mathlib.Core.List.{List}
 use mathlib.Core.Logic.{⊎-elim}
 use Prim.Native.Nat.{ℕ, zero, suc, _+_, _≤_, _<_}
-use native.Mathlib.Numerals.{add-one}
 use native.Mathlib.Nat.{not-suc-le-zero, le-of-suc-le-suc, eq-or-lt-of-le}
 use native.Mathlib.Omega.{arith}
 use lib.ListN.{length, getD, set, length-set}
@@ -44,14 +43,6 @@ none-tested p = refl
 
 -- the first number that passes
 module _ (p : ℕ → Bool) where
-  first-none : firstBelow 0 p ≡ 0
-  unfolding firstBelow
-  first-none = refl
-
-  first-more : (n : ℕ) → firstBelow n p ≡ n → p n ≡ false → firstBelow (n + 1) p ≡ n + 1
-  unfolding firstBelow
-  first-more n e f = rw (add-one, e, eq-eqb n n refl, f)
-
   first-last : (n : ℕ) → firstBelow n p ≡ n → p n ≡ true → firstBelow (suc n) p ≡ n
   unfolding firstBelow
   first-last n e t = rw (e, eq-eqb n n refl, t)
@@ -60,7 +51,7 @@ module _ (p : ℕ → Bool) where
   unfolding firstBelow
   first-before n i e h = rw (e, ne-eqb i n (λ x. omega arith))
 
-  first-at : (n i : ℕ) → i < n → firstBelow i p ≡ i → p i ≡ true → firstBelow n p ≡ i
+  pub first-at : (n i : ℕ) → i < n → firstBelow i p ≡ i → p i ≡ true → firstBelow n p ≡ i
   first-at zero i h = absurd (not-suc-le-zero h)
   first-at (suc n) i h =
       below-or-last
@@ -100,6 +91,9 @@ module _ (p : ℕ → Bool) where
       go true true e f r l = r (omega (arith, eqb-true (firstBelow n p) n e))
       go true false e f r l = below-or-last (λ k. p k ≡ false) n j l (λ s. r (omega (arith, eqb-true (firstBelow n p) n e))) f
       go false b e f r l = r l
+
+  pub first-nowhere : (n : ℕ) → ((i : ℕ) → i < n → p i ≡ true → ⊥) → firstBelow n p ≡ n
+  first-nowhere n f = ⊎-elim (λ e. e) (λ l. absurd (f (firstBelow n p) l (first-passes n l))) (eq-or-lt-of-le (first-most n))
 
 -- the struct that a name means
 module _ (x : ℕ) where

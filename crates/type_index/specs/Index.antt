@@ -13,6 +13,7 @@ use Rattle.oat.specs.Tables.{Tables, typeAt, entryAt, structAt}
 use Rattle.oat.specs.TypeRules.{kindAt}
 use Rattle.oat.specs.Types.{Struct, typeOf, structsOf}
 use Rattle.oat.specs.Decide.{sameTy, isFormed}
+use Rattle.chains.specs.Chains.{Chains}
 use Rattle.file_sections.specs.declared.Sections.{Sections}
 use Rattle.file_sections.specs.Layout.{Laid, tablesOf}
 
@@ -64,16 +65,10 @@ bucketOf T i =
     (pick (eqb (kindAt T i) 4) (typeAt T i .a % 64)
     ((firstBelow (typeAt T i .a) (λ k. sameTy (typeOf T k) (typeOf T (typeAt T i .a))) + kindAt T i) % 64))
 
--- one more than the latest of the first n types that is in the chain h; 0 where there is none
-unfoldable pub topOf : Tables → ℕ → ℕ → ℕ
-topOf T h zero = 0
-topOf T h (suc j) = pick (eqb (bucketOf T j) h) (suc j) (topOf T h j)
-
 -- the chains lead through the first n types
 pub record Chained (index : List ℕ) (T : Tables) (n : ℕ) : Type 0 where
   pub long : 2112 ≤ length index
-  pub heads : (h : ℕ) → h < 64 → getD index (2048 + h) 0 ≡ topOf T h n
-  pub links : (j : ℕ) → j < n → getD index (1536 + j) 0 ≡ topOf T (bucketOf T j) j
+  pub chains : Chains 2048 64 1536 (bucketOf T) index n
 
 -- the first n chains are empty
 pub record Cleared (index : List ℕ) (n : ℕ) : Type 0 where

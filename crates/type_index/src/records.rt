@@ -2,24 +2,13 @@
 // 64; the number 64 + k leads from a record to the next of its chain. Records count from the last one here, so that a chain leads
 // from lower to higher records: k stands for the record `structs - 1 - k`. All one higher, 0 for none.
 use crate::entries::entry;
+use chains::link;
 use file_sections::Sections;
 use file_sections::records::struct_name;
 ghost use mathlib.Core.Path.{_≡_};
-ghost use Prim.Native.Nat.{_+_, _%_, _≤_, _<_};
-ghost use lib.ListN.{length, getD, set};
 ghost use Rattle.file_sections.specs.Layout.{Laid, tablesOf};
 ghost use Rattle.type_index.specs.Index.{recordOf};
 ghost use Rattle.type_index.specs.Records.{Recorded, RecordsFresh};
-
-// Puts k, whose record has the name, first in its chain.
-fn link_record(records: &mut [u16], k: usize, name: usize)
-    requires { ⌜ (320 ≤ length (now records)) × (k < 256) ⌝ }
-    ensures { λ _. ⌜ now (records .exit) ≡ set (set (now (records .entry)) (64 + k) (getD (now (records .entry)) (name % 64) 0)) (name % 64) (k + 1) ⌝ }
-{
-    let head = name % 64;
-    records[64 + k] = records[head];
-    records[head] = (k + 1) as u16;
-}
 
 // Chains all records; `records` comes with no chain in it.
 pub fn chain_records(file: &[u8], sections: Sections, records: &mut [u16])
@@ -29,7 +18,7 @@ pub fn chain_records(file: &[u8], sections: Sections, records: &mut [u16])
     let mut k = 0;
     while k < sections.structs {
         let name = struct_name(file, sections, sections.structs - 1 - k);
-        link_record(records, k, name);
+        link(records, name % 64, 64 + k, k + 1);
         k += 1;
     }
 }

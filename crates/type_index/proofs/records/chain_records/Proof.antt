@@ -5,7 +5,7 @@ use lib.ListN.{length}
 use borrow.Author.Needs.{needs}
 use Rattle.file_sections.specs.Layout.{tablesOf}
 use Rattle.type_index.specs.Records.{Recorded}
-use Rattle.type_index.proofs.LawsRecordChains.{records-none, records-more, records-all}
+use Rattle.type_index.proofs.LawsRecordChains.{head-there, records-none, records-more, records-all}
 use Rattle.type_index.proofs.records.chain_records.Statement.{statement}
 use Rattle.type_index.proofs.records.chain_records.Tie as tie
 
@@ -25,7 +25,9 @@ chain-records-spec =
     (λ c. search needs)
     (λ c. search needs)
     (λ c κs. search needs)
-    (λ c κs. search needs)
+    (λ c. search needs)
+    (λ c. search needs)
+    (λ c κs. (search (head-there, needs), search needs, search needs))
     (λ c. search needs)
     (λ c. search needs)
     (λ c. (search needs, search (records-more, needs), search needs))

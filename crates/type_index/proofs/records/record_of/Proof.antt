@@ -1,33 +1,31 @@
 -- `records::record_of` meets its contract. The loop keeps: no record passed has the name, nor one before the next of the chain. Assumes
 -- nothing.
 use native.Mathlib.Omega.{arith}
-use Rattle.type_index.proofs.LawsRecordChains.{Seeking, head-there, seek-starts, seek-low, seek-found, link-there, seek-falls, seek-on, seek-ends}
+use Rattle.type_index.proofs.LawsRecordChains.{RecordWalk, head-there, seek-starts, seek-found, link-there, seek-falls, seek-on, seek-ends}
 use Rattle.type_index.proofs.records.record_of.Statement.{statement}
 use Rattle.type_index.proofs.records.record_of.Tie as tie
 
 abbrev Inv-loop : tie.InvT-loop
-Inv-loop file sections records name after₀ after = Seeking file sections name after
+Inv-loop file sections records name after₀ after = RecordWalk file sections name after
 
 abbrev μ-loop : tie.MeasureT-loop
 μ-loop file sections records name after₀ after = after
 
 entry-requires : tie.Need-entry-requires Inv-loop μ-loop
-entry-requires c κs = head-there _ _ _ (c .before .before .pre)
+entry-requires c κs = head-there _ (c .before .before .pre .1)
 
 loop-holds : tie.Need-loop-holds Inv-loop μ-loop
 loop-holds c = seek-starts _ _ _ (c .before .before .before .pre) (c .entry .ensures .0)
 
 sub-i : tie.Need-sub-i Inv-loop μ-loop
 sub-i c =
-    let at-loop = c .before .before in
-    let at-start = at-loop .before .before .before .before in
-    seek-low _ _ _ (at-start .pre) (at-loop .loop .inv)
+    c .before .before .loop .inv .most
 
 struct-name-requires : tie.Need-struct-name-requires Inv-loop μ-loop
 struct-name-requires c κs =
     let at-loop = c .before .before in
     let at-start = at-loop .before .before .before .before in
-    record { laid = at-start .pre .0; within = omega (arith, seek-low _ _ _ (at-start .pre) (at-loop .loop .inv), c .before .loop-test .taken) }
+    record { laid = at-start .pre .0; within = omega (arith, at-loop .loop .inv .most, c .before .loop-test .taken) }
 
 returns : tie.Need-returns Inv-loop μ-loop
 returns c =
@@ -40,7 +38,7 @@ add-entry : tie.Need-add-entry Inv-loop μ-loop
 add-entry c =
     let at-loop = c .before .before .before .before in
     let at-start = at-loop .before .before .before .before in
-    omega (arith, seek-low _ _ _ (at-start .pre) (at-loop .loop .inv), at-start .pre .0 .structs-most)
+    omega (arith, at-loop .loop .inv .most, at-start .pre .0 .structs-most)
 
 entry-requires-2 : tie.Need-entry-requires-2 Inv-loop μ-loop
 entry-requires-2 c κs =
