@@ -1,5 +1,5 @@
 -- Array with initializer: the answers of its returns, and those of its value, with the index name bound. Assumes nothing.
-use mathlib.Core.Path.{_≡_, refl, ap, sym, subst, _∙_}
+use mathlib.Core.Path.{_≡_, ap, sym, subst, _∙_}
 use mathlib.Core.Bool.{Bool, true, false, not}
 use mathlib.Core.List.{List, _++_}
 use Prim.Native.Nat.{ℕ, _+_, _≤_, _<_}
@@ -26,7 +26,7 @@ use Rattle.answers.specs.declared.answer.At.{At}
 use Rattle.answers.specs.declared.answer.Judged.{Judged}
 use Rattle.answers.specs.Answers.{withRow}
 use Rattle.expressions.specs.Contract.{contextOf, Fine, After, Typing, Meets, accepts, Answers, Ready, Told, fills, ReadyFilling, ToldFilling}
-use Rattle.expressions.proofs.LawsMeets.{Untyped, stops, passes, child-no, child-ok}
+use Rattle.expressions.proofs.LawsMeets.{Untyped, stops, passes, then-tested, child-no, child-ok}
 use Rattle.expressions.proofs.LawsAfter.{ready, typing-of, after-append, rule-typed}
 use Rattle.expressions.proofs.LawsLabels.{expr-long, expr-closed}
 use Rattle.expressions.proofs.LawsChild.{has-node, has-type, base-within, kind-within, element-within, type-entered, formed-is}
@@ -151,16 +151,6 @@ module _ {F : List ℕ} {S : Sections} {X R W K : List ℕ} {base n s m : ℕ} (
                         after = after-leave (g .fine .above) b (p .after) c;
                       }));
                 }
-
--- a value and its test, as a part of what comes after
-fills-then : {A B : Type 0} (o : Out A) (t : A → Bool) (p q : ℕ) (k : A → List (Label ℕ) → Out B)
-    → andThen (andThen o λ v M. needs (t v) p q (ok v M)) k ≡ andThen o λ v M. needs (t v) p q (k v M)
-fills-then (no i j) t p q k = refl
-fills-then {A} {B} (ok v M) t p q k = go (t v)
-  where
-    go : (b : Bool) → andThen (needs b p q (ok v M)) k ≡ needs b p q (k v M)
-    go true = refl
-    go false = refl
 
 -- the part after the first child sees the scope and the names before it
 retell-filling : {F : List ℕ} {S : Sections} {X W R₁ W₁ R₂ W₂ K₂ : List ℕ} {base n s m i : ℕ} {r : Judged} → Same (entryOf (tablesOf F S) s) W W₁ → base ≤ s → m ≡ i
@@ -296,9 +286,8 @@ module _ {F : List ℕ} {S : Sections} {X R W K : List ℕ} {base n s : ℕ} (g 
                           (child-ok _ _ u y₁ (m₁ .tells a (h .2)) λ L q p.
                           passes _ 10 n _ (eq-eqb _ _ (sym e₁ ∙ k))
                           (passes _ 7 n _ (fresh-is x (h .0 .x-is) (p .after .same) ∙ not-false _ f₂)
-                          (subst (Meets (Typing F S X base n (size (arrayWith t x a b)) s R W R₂ W₂ K₂ r₂) r₂)
-                          (fills-then (judge (tablesOf F S) (contextOf (tablesOf F S) W base) b (n + 1 + size a) (binds (scopeOf (tablesOf F S) W base s) x 0 n))
-                          (λ v. isBelow (tablesOf F S) (contextOf (tablesOf F S) W base) v (referred (tablesOf F S) t)) 11 n (λ v M. plain t (scopeOf (tablesOf F S) W base s) (L ++ M)))
+                          (then-tested (judge (tablesOf F S) (contextOf (tablesOf F S) W base) b (n + 1 + size a) (binds (scopeOf (tablesOf F S) W base s) x 0 n))
+                          (λ v. isBelow (tablesOf F S) (contextOf (tablesOf F S) W base) v (referred (tablesOf F S) t)) 11 n (λ v M. plain t (scopeOf (tablesOf F S) W base s) (L ++ M))
                           (child-no _ (λ v M. plain t (scopeOf (tablesOf F S) W base s) (L ++ M)) z (retell-filling (p .after .same) (g .fine .above) (p .next) m₂ t x (h .0 .t-is) (h .0 .x-is) b (h .3))))))) kind;
                     }
 
@@ -313,9 +302,8 @@ module _ {F : List ℕ} {S : Sections} {X R W K : List ℕ} {base n s : ℕ} (g 
                           (child-ok _ _ u y₁ (m₁ .tells a (h .2)) λ L q p.
                           passes _ 10 n _ (eq-eqb _ _ (sym e₁ ∙ k))
                           (passes _ 7 n _ (fresh-is x (h .0 .x-is) (p .after .same) ∙ not-false _ f₂)
-                          (subst (Meets (Typing F S X base n (size (arrayWith t x a b)) s R W R′ W₂ K₂ r) r)
-                          (fills-then (judge (tablesOf F S) (contextOf (tablesOf F S) W base) b (n + 1 + size a) (binds (scopeOf (tablesOf F S) W base s) x 0 n))
-                          (λ v. isBelow (tablesOf F S) (contextOf (tablesOf F S) W base) v (referred (tablesOf F S) t)) 11 n (λ v M. plain t (scopeOf (tablesOf F S) W base s) (L ++ M)))
+                          (then-tested (judge (tablesOf F S) (contextOf (tablesOf F S) W base) b (n + 1 + size a) (binds (scopeOf (tablesOf F S) W base s) x 0 n))
+                          (λ v. isBelow (tablesOf F S) (contextOf (tablesOf F S) W base) v (referred (tablesOf F S) t)) 11 n (λ v M. plain t (scopeOf (tablesOf F S) W base s) (L ++ M))
                           (child-ok _ (λ v M. plain t (scopeOf (tablesOf F S) W base s) (L ++ M)) v y₂ (retell-filling (p .after .same) (g .fine .above) (p .next) m₂ t x (h .0 .t-is) (h .0 .x-is) b (h .3)) λ M q₂ p₂.
                           subst (λ i. Meets (Typing F S X base n (size (arrayWith t x a b)) s R W R′ W₂ K₂ r) r (plain i (scopeOf (tablesOf F S) W base s) (L ++ M))) (et ∙ h .0 .t-is)
                           (accepts _ _ (rule-typed (g .within) filled-within (after-append (expr-long _ _ a (n + 1) _ u L q) (expr-closed _ _ a (n + 1) _ u L q) (p .after) (p₂ .after)) er (p₂ .next ∙ omega arith) (p₂ .scope) (omega arith) eR))))))) kind;

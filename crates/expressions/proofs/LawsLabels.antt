@@ -16,7 +16,7 @@ use Rattle.typing_rules.specs.Operators.{isEquality, operandType, unaryType}
 use Rattle.typing_rules.specs.Rules.{namesFit}
 use Rattle.typing_rules.specs.Judge.{ok, typedAs, markedAs, isKind, referred, isBelow, formed, hasDefault, eachBelow, argumentsBelow, fieldOf, initsBelow, judge, judges, judgeInits}
 use Rattle.typing_rules.specs.Check.{nextResult, rowResult}
-use Rattle.typing_rules.proofs.LawsInvert.{ok-is, then-ok, needs-ok, declared-ok, named-ok, field-ok}
+use Rattle.typing_rules.proofs.LawsOutcome.{ok-is, then-ok, needs-ok, declared-ok, named-ok, field-ok}
 use Rattle.expressions.specs.Contract.{RowsAt}
 
 -- what the last label gives; d where there is none

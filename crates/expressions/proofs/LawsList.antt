@@ -23,7 +23,7 @@ use Rattle.answers.specs.declared.leaves.Expected.{Expected}
 use Rattle.answers.specs.declared.leaves.Expected.the-variants.{Each, Run}
 use Rattle.answers.specs.Answers.{structsAlone, Expecting, expectedAt}
 use Rattle.expressions.specs.Contract.{contextOf, Fine, After, Typing, Listing, Meets, accepts, refuses, Ready, Told, expectedBelow, listed, ReadyList, ToldList}
-use Rattle.expressions.proofs.LawsMeets.{Untyped, stops, passes}
+use Rattle.expressions.proofs.LawsMeets.{Untyped, goes-unrefused, stops, passes, part-of}
 use Rattle.expressions.proofs.LawsAfter.{ready, typing-of, retell, after-none, after-append}
 use Rattle.expressions.proofs.LawsChild.{child-scope, child-within}
 use Rattle.expressions.proofs.LawsLabels.{Closed, closed-none, closed-append, expr-long, expr-closed}
@@ -297,8 +297,7 @@ module _ {F : List ℕ} {S : Sections} {X R W K : List ℕ} {base n s left : ℕ
 -- what a list that goes on says
 pub listing-of : {F : List ℕ} {S : Sections} {X : List ℕ} {base n k s : ℕ} {R W R₁ W₁ K₁ : List ℕ} {r : Judged} (o : Out (List ℕ)) → Meets (Listing F S X base n k s R W R₁ W₁ K₁ r) r o → r .judgement ≡ GoesOn
     → (ts : List ℕ) × (L : List (Label ℕ)) × (o ≡ ok ts L) × Listing F S X base n k s R W R₁ W₁ K₁ r ts L
-listing-of o (accepts ts L p) y = (ts, L, refl, p)
-listing-of o (refuses p q e) y = absurd (let z : _≡_ {A = ℕ} 0 1 = cc in omega arith)
+listing-of o m y = part-of o m (goes-unrefused y)
 
 module _ {F : List ℕ} {S : Sections} {X R W K : List ℕ} {base n s left : ℕ} {x : Expected} (g : ReadyList F S X R W K base n s left x) {parent : ℕ} {R₁ W₁ K₁ : List ℕ} {r : Judged}
     (told : ToldList F S X R W base n s left x parent R₁ W₁ K₁ r) (y : r .judgement ≡ GoesOn) where

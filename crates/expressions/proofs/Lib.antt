@@ -8,7 +8,7 @@ pub mod LawsSorts
 pub mod LawsPairs
 pub mod LawsList
 pub mod LawsInits
-pub mod LawsLists
+pub mod LawsListRules
 pub mod LawsFilled
 pub mod LawsLeaves
 pub mod LawsDispatch

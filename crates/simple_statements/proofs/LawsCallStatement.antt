@@ -19,11 +19,11 @@ use Rattle.answers.specs.declared.answer.Judged.{Judged}
 use Rattle.answers.specs.declared.leaves.Expected.the-variants.{Run}
 use Rattle.answers.specs.Answers.{withRow, AnswerIs}
 use Rattle.expressions.specs.Contract.{contextOf, Typing, Listing, Meets, accepts, Ready, Told, expectedBelow, ReadyList, ToldList}
-use Rattle.expressions.proofs.LawsMeets.{Untyped, Unlisted, stops, passes, child-no, child-ok, list-no, list-ok}
+use Rattle.expressions.proofs.LawsMeets.{Untyped, Unlisted, stops, passes, then-tested, child-no, child-ok, list-no, list-ok}
 use Rattle.expressions.proofs.LawsAfter.{ready, typing-of, after-append}
 use Rattle.expressions.proofs.LawsChild.{child-within, has-type, returned-within, parameters-within}
 use Rattle.expressions.proofs.LawsList.{exprIn, judgedIn, listedIn, listed-fine}
-use Rattle.expressions.proofs.LawsLists.{then-tested, retell-list}
+use Rattle.expressions.proofs.LawsListRules.{retell-list}
 use Rattle.expressions.proofs.LawsLabels.{expr-long, expr-closed}
 use Rattle.expressions.proofs.LawsShape.{stands-end}
 use Rattle.simple_statements.specs.Contract.{marked, Marking, ReadyStmt, AnswersStmt, ToldAny}

@@ -17,7 +17,7 @@ use Rattle.typing_rules.specs.Labels.{Result, marks, nothing, Label}
 use Rattle.typing_rules.specs.Rules.{both}
 use Rattle.typing_rules.specs.Judge.{ok, markedAs, isKind, referred, isBelow, argumentsBelow, judge, judges, Done, assignsTo, executeVars, judgeCondition, execute, executeStep, executeBlock, executeAll}
 use Rattle.typing_rules.specs.Check.{nextResult}
-use Rattle.typing_rules.proofs.LawsInvert.{ok-is, then-ok, needs-ok}
+use Rattle.typing_rules.proofs.LawsOutcome.{ok-is, then-ok, needs-ok}
 use Rattle.expressions.proofs.LawsLabels.{lastResult, last-append, Closed, closed-append, closed-marked, Run, run-none, run-append, expr-run, list-run}
 use Rattle.expressions.proofs.LawsShape.{stands-within, stands-end, list-end}
 

@@ -1,17 +1,19 @@
--- A statement's own row over its children's, and the answer to an accepted statement. Assumes nothing.
+-- One part of a statement after another, a statement's own row over its children's, and the answer to an accepted statement. Assumes
+-- nothing.
 use mathlib.Core.Path.{_≡_, refl, ap, sym, subst, _∙_}
-use mathlib.Core.List.{List, _∷_}
+use mathlib.Core.List.{List, _∷_, _++_}
 use Prim.Native.Nat.{ℕ, _+_, _*_, _≤_, _<_}
 use native.Mathlib.Omega.{arith}
 use lib.ListN.{length}
 use borrow.Author.Tests.{eq-eqb, ne-eqb}
 use Rattle.typing_rules.specs.Contexts.{Scope}
-use Rattle.typing_rules.specs.Labels.{Label}
+use Rattle.typing_rules.specs.Labels.{Label, marks, nothing}
 use Rattle.typing_rules.specs.Judge.{markedAs, done}
+use Rattle.typing_rules.specs.Check.{nextResult}
 use Rattle.file_sections.specs.declared.Sections.{Sections}
 use Rattle.file_sections.specs.Layout.{tablesOf}
-use Rattle.bindings.specs.Bindings.{scopeOf}
-use Rattle.bindings.proofs.LawsBindings.{scope-same}
+use Rattle.bindings.specs.Bindings.{entryOf, scopeOf}
+use Rattle.bindings.proofs.LawsBindings.{scope-same, same-trans}
 use Rattle.answers.specs.declared.answer.Judgement.{Judgement}
 use Rattle.answers.specs.declared.answer.Judgement.the-variants.{GoesOn, Returns}
 use Rattle.answers.specs.declared.answer.At.{At}
@@ -19,6 +21,7 @@ use Rattle.answers.specs.declared.answer.Judged.{Judged}
 use Rattle.answers.specs.Answers.{withRow, AnswerIs}
 use Rattle.expressions.specs.Contract.{Fine, RowsAt, After}
 use Rattle.expressions.proofs.LawsAfter.{rows-kept, row-length, row-other, row-result, row-binder, fine-rows}
+use Rattle.expressions.proofs.LawsLabels.{lastResult, Closed, rows-join}
 use Rattle.simple_statements.specs.Contract.{marked, Marking}
 
 -- the judgement of a mark, and an answer with it
@@ -33,6 +36,27 @@ answer-is a e = ap (λ x. record { judgement = x; at = a }) e
 
 pub judged-as : {i j : Judgement} {n s : ℕ} {r : Judged} → i ≡ j → AnswerIs i n s r → AnswerIs j n s r
 judged-as {n = n} {s = s} {r = r} e a = subst (λ x. AnswerIs x n s r) e a
+
+-- one part after another; the first leaves a scope of the height h, the second one of the height i
+module _ {F : List ℕ} {S : Sections} {X : List ℕ} {base : ℕ} {L M : List (Label ℕ)} {n k j s h i : ℕ} {R W R₁ W₁ K₁ R₂ W₂ K₂ : List ℕ} where
+  -- where the last label of the first part gives nothing, the next has to give no type
+  pub after-join : length L ≡ k → (lastResult (marks 0) L ≡ nothing → nextResult M ≡ 0) → s ≤ h
+      → After F S X base L n k s h R W R₁ W₁ K₁ → After F S X base M (n + k) j h i R₁ W₁ R₂ W₂ K₂ → After F S X base (L ++ M) n (k + j) s i R W R₂ W₂ K₂
+  after-join e c l a b =
+      record {
+        rows = rows-join R₂ n L M c (rows-kept R₁ R₂ n L (λ m p q. b .kept .before m (omega (arith, e, q))) (a .rows))
+            (subst (λ m. RowsAt R₂ (n + m) M) (sym e) (b .rows));
+        kept = record {
+          before = λ m p. b .kept .before m (omega arith) ∙ a .kept .before m p;
+          after = λ m p. b .kept .after m (omega arith) ∙ a .kept .after m (omega arith);
+        };
+        same = same-trans (entryOf (tablesOf F S) s) (entryOf (tablesOf F S) h) (omega arith) (a .same) (b .same);
+        fine = b .fine;
+      }
+
+  pub after-both : length L ≡ k → Closed L → s ≤ h
+      → After F S X base L n k s h R W R₁ W₁ K₁ → After F S X base M (n + k) j h i R₁ W₁ R₂ W₂ K₂ → After F S X base (L ++ M) n (k + j) s i R W R₂ W₂ K₂
+  after-both e c l a b = after-join e (λ z. absurd (c .last z)) l a b
 
 module _ {F : List ℕ} {S : Sections} {X : List ℕ} {base : ℕ} where
   -- the row of a node of the file, with a mark, can be written

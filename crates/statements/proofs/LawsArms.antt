@@ -13,8 +13,8 @@ use Rattle.oat.specs.Nodes.{BlockStands}
 use Rattle.typing_rules.specs.Contexts.{Scope, Context}
 use Rattle.typing_rules.specs.Labels.{Label}
 use Rattle.typing_rules.specs.Rules.{both}
-use Rattle.typing_rules.specs.Judge.{Out, ok, no, andThen, executeBlock}
-use Rattle.typing_rules.proofs.LawsInvert.{ok-is, then-ok}
+use Rattle.typing_rules.specs.Judge.{ok, executeBlock}
+use Rattle.typing_rules.proofs.LawsOutcome.{ok-is, then-ok}
 use Rattle.file_sections.specs.declared.Sections.{Sections}
 use Rattle.file_sections.specs.Layout.{tablesOf}
 use Rattle.bindings.specs.Bindings.{scopeOf, Scoped}
@@ -22,11 +22,12 @@ use Rattle.answers.specs.declared.answer.Judgement.the-variants.{GoesOn, Refuse
 use Rattle.answers.specs.declared.answer.Judged.{Judged}
 use Rattle.answers.specs.Answers.{AnswerIs}
 use Rattle.expressions.specs.Contract.{contextOf, Fine, After, accepts}
+use Rattle.expressions.proofs.LawsMeets.{Unrefused, goes-on, part-of}
 use Rattle.expressions.proofs.LawsAfter.{after-append}
 use Rattle.simple_statements.specs.Contract.{markOf, marked}
 use Rattle.simple_statements.proofs.LawsLabels.{block-long, block-closed, block-mark, size-block-one}
 use Rattle.statements.specs.Contract.{Blocking, ReadyBlock, ToldBlock, eitherOf, ReadyArms, ToldArms}
-use Rattle.statements.proofs.LawsBlocks.{Unrefused, mark-is, part-no, part-ok, part-of, after-left, after-lower, retell-block}
+use Rattle.statements.proofs.LawsParts.{mark-is, part-no, after-left, after-lower, retell-block}
 use Rattle.statements.proofs.LawsBlock.{ready-block}
 
 -- the mark of two blocks
@@ -49,13 +50,6 @@ either-mark T C rt b c n Γ Δ p L j =
     then-ok (executeBlock T C rt b n Γ) _ j λ v M i k.
     then-ok (executeBlock T C rt c (n + sizeBlock b) Δ) _ k λ w N i₂ k₂.
     ok-is (λ a M. a ≤ 1) k₂ (both-small v w (block-mark T C rt c (n + sizeBlock b) Δ w N i₂))
-
--- two blocks, as a part of what comes after
-pub either-then : {B : Type 0} (o : Out ℕ) (o₂ : Out ℕ) (k : ℕ → List (Label ℕ) → Out B)
-    → andThen (andThen o λ p L. andThen o₂ λ q M. ok (both p q) (L ++ M)) k ≡ (andThen o λ p L. andThen o₂ λ q M. k (both p q) (L ++ M))
-either-then (ok p L) (ok q M) k = refl
-either-then (ok p L) (no a b) k = refl
-either-then (no a b) o₂ k = refl
 
 module _ {F : List ℕ} {S : Sections} {X R W K : List ℕ} {base rt n s inner : ℕ} (g : ReadyArms F S X R W K base rt n s inner) where
   pub arms-first : ReadyBlock F S X R W K base rt n inner
@@ -96,7 +90,7 @@ module _ {F : List ℕ} {S : Sections} {X R W K : List ℕ} {base rt n s inner :
           arms-no-2 e =
               record {
                 tells = λ b c h h₂.
-                    part-ok _ _ u (m₁ .tells b h) λ p L q v.
+                    goes-on _ _ u (m₁ .tells b h) λ p L q v.
                     part-no _ _ (λ i N z. (i, z .mark)) e (retell-block (lowered (v .after) .same) (g .lower) (v .next) m₂ c h₂);
               }
 
@@ -107,8 +101,8 @@ module _ {F : List ℕ} {S : Sections} {X R W K : List ℕ} {base rt n s inner :
             both-said {r} en es f =
                 record {
                   tells = λ b c h h₂.
-                      part-ok _ _ u (m₁ .tells b h) λ p L q v.
-                      part-ok _ _ u₂ (retell-block (lowered (v .after) .same) (g .lower) (v .next) m₂ c h₂) λ i M q₂ v₂.
+                      goes-on _ _ u (m₁ .tells b h) λ p L q v.
+                      goes-on _ _ u₂ (retell-block (lowered (v .after) .same) (g .lower) (v .next) m₂ c h₂) λ i M q₂ v₂.
                       accepts (both p i) (L ++ M) (record {
                         mark = f p i (em ∙ mark-is (r₁ .judgement) p (block-mark _ _ rt b n _ p L q) (v .mark)) (v₂ .mark);
                         next = en ∙ v₂ .next ∙ omega arith;

@@ -17,12 +17,13 @@ use Rattle.answers.specs.declared.answer.Judgement.the-variants.{Refused}
 use Rattle.answers.specs.declared.answer.Judged.{Judged}
 use Rattle.answers.specs.Answers.{withRow, AnswerIs}
 use Rattle.expressions.specs.Contract.{contextOf, Fine, After, Meets, accepts}
+use Rattle.expressions.proofs.LawsMeets.{Unrefused, goes-on, part-of}
 use Rattle.expressions.proofs.LawsChild.{has-node}
 use Rattle.simple_statements.specs.Contract.{markOf, marked}
 use Rattle.simple_statements.proofs.LawsLabels.{all-mark, block-within}
 use Rattle.simple_statements.proofs.LawsMarks.{after-mark, mark-fits}
 use Rattle.statements.specs.Contract.{Blocking, ReadyBlock, ToldBlock, ReadyStmts, ToldStmts}
-use Rattle.statements.proofs.LawsBlocks.{Unrefused, mark-is, part-no, part-ok, part-of, after-left}
+use Rattle.statements.proofs.LawsParts.{mark-is, part-no, after-left}
 use Rattle.statements.proofs.LawsRun.{run-fine, run-higher, run-scoped}
 
 -- r answers the block b at n as the definition has it
@@ -98,7 +99,7 @@ module _ {F : List ℕ} {S : Sections} {X R W K : List ℕ} {base rt n s : ℕ} 
           record {
             tells = on-block (λ b. BlockStands (tablesOf F S) n b → AnswersBlock F S X R W base rt n s R′ W₁ K₂ r b)
                 (λ ss h.
-                part-ok _ _ u (m₁ .tells ss (h .1) (sym (e ∙ h .0 .children-is))) λ p L q v.
+                goes-on _ _ u (m₁ .tells ss (h .1) (sym (e ∙ h .0 .children-is))) λ p L q v.
                 accepts _ _ (block-row (g .within) (g .fine .above) (v .after) c
                 (em ∙ mark-is (r₁ .judgement) p (all-mark _ _ rt ss (n + 1) n 0 _ p L q (omega arith)) (v .mark)) er (v .next) eR));
           }

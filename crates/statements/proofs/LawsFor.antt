@@ -9,40 +9,33 @@ use Rattle.oat.specs.Syntax.{Vars, Condition, Step, Block, sizeVars, sizeCondit
 use Rattle.oat.specs.Nodes.{Node, ConditionStands, StepStands, BlockStands}
 use Rattle.typing_rules.specs.Contexts.{Scope, Context}
 use Rattle.typing_rules.specs.Labels.{Label}
-use Rattle.typing_rules.specs.Judge.{Out, ok, no, andThen, Done, ends, judgeCondition, execute, executeStep, executeBlock}
+use Rattle.typing_rules.specs.Judge.{Out, ok, andThen, Done, ends, judgeCondition, execute, executeStep, executeBlock}
 use Rattle.typing_rules.specs.Check.{nextResult}
-use Rattle.typing_rules.proofs.LawsInvert.{ok-is, then-ok}
+use Rattle.typing_rules.proofs.LawsOutcome.{ok-is, then-ok, either-then}
 use Rattle.file_sections.specs.declared.Sections.{Sections}
 use Rattle.file_sections.specs.Layout.{tablesOf}
 use Rattle.file_sections.proofs.LawsRecords.{nodes-long}
-use Rattle.type_index.specs.Index.{declared}
-use Rattle.bindings.specs.Bindings.{entryOf, scopeOf, Scoped, Same}
-use Rattle.bindings.proofs.LawsBindings.{scope-same, names-same, same-less}
+use Rattle.bindings.specs.Bindings.{entryOf, scopeOf, Scoped}
+use Rattle.bindings.proofs.LawsBindings.{scope-same, same-less}
 use Rattle.answers.specs.declared.answer.Judgement.the-variants.{GoesOn, Refused}
 use Rattle.answers.specs.declared.answer.Judged.{Judged}
 use Rattle.answers.specs.Answers.{withRow, AnswerIs}
 use Rattle.expressions.specs.Contract.{contextOf, Fine, After, Meets, accepts, Listing}
-use Rattle.expressions.proofs.LawsMeets.{Unlisted}
+use Rattle.expressions.proofs.LawsMeets.{Unlisted, Unrefused, goes-unrefused, hands-up, goes-on, part-of}
 use Rattle.expressions.proofs.LawsAfter.{same-more}
 use Rattle.simple_statements.specs.Contract.{marked, Declaring, AnswersStmt, ReadyStmt, ToldStmt, ReadyVars, ToldVars, ReadyCondition, ToldCondition}
 use Rattle.simple_statements.proofs.LawsLabels.{on-for, vars-long, vars-closed, condition-long, step-head, condition-within, step-within}
-use Rattle.simple_statements.proofs.LawsMarks.{mark-fits, rule-left}
+use Rattle.simple_statements.proofs.LawsMarks.{after-both, mark-fits, rule-left}
 use Rattle.statements.specs.Contract.{Blocking, turnOf, ReadyTurn, ToldTurn}
-use Rattle.statements.proofs.LawsBlocks.{Unrefused, part-no, part-ok, part-of, after-left}
-use Rattle.statements.proofs.LawsThen.{goes-unrefused, part-never, after-then, after-plain-then}
+use Rattle.statements.proofs.LawsParts.{part-no, after-left, after-plain-then, seen-on}
 
 -- a step and a block as one part
 turn-part : {Q : Done → List (Label ℕ) → Type 0} {r : Judged} (T : Tables) (C : Context ℕ) (rt : ℕ) (z : Step) (b : Block) (n : ℕ) (Δ : Scope ℕ)
     (k : List (Label ℕ) → Out Done)
     → Meets Q r (andThen (turnOf T C rt z b n Δ) (λ q P. k P))
     → Meets Q r (andThen (executeStep T C rt z n Δ) λ p N. andThen (executeBlock T C rt b (n + sizeStep z) Δ) λ q O. k (N ++ O))
-turn-part {Q} {r} T C rt z b n Δ k m = go (executeStep T C rt z n Δ) (executeBlock T C rt b (n + sizeStep z) Δ) m
-  where
-    go : (o₁ o₂ : Out ℕ) → Meets Q r (andThen (andThen o₁ λ p N. andThen o₂ λ q O. ok q (N ++ O)) (λ q P. k P))
-        → Meets Q r (andThen o₁ λ p N. andThen o₂ λ q O. k (N ++ O))
-    go (ok p N) (ok q O) m = m
-    go (ok p N) (no i j) m = m
-    go (no i j) o₂ m = m
+turn-part {Q} {r} T C rt z b n Δ k m =
+    subst (Meets Q r) (either-then (λ p q. q) (executeStep T C rt z n Δ) (executeBlock T C rt b (n + sizeStep z) Δ) (λ q P. k P)) m
 
 -- a for after its parts' labels, those of the turn last
 abbrev closing : Scope ℕ → (L M P : List (Label ℕ)) → Out Done
@@ -54,14 +47,6 @@ turn-head T C rt z b n Γ q P j =
     then-ok (executeStep T C rt z n Γ) _ j λ p N i k.
     then-ok (executeBlock T C rt b (n + sizeStep z) Γ) _ k λ t O i₁ k₁.
     ok-is (λ q P. nextResult P ≡ 0) k₁ (step-head T C rt z n Γ p N i O)
-
--- a later part sees the names below s, and a scope Δ of its own height
-seen-on : (F : List ℕ) (S : Sections) (base s h : ℕ) {W W₁ : List ℕ} {Δ : Scope ℕ} → Same (entryOf (tablesOf F S) s) W W₁ → base ≤ s
-    → scopeOf (tablesOf F S) W₁ base h ≡ Δ → (P : Context ℕ → Scope ℕ → Type 0)
-    → P (contextOf (tablesOf F S) W₁ base) (scopeOf (tablesOf F S) W₁ base h) → P (contextOf (tablesOf F S) W base) Δ
-seen-on F S base s h {W} {W₁} {Δ} a l e P x =
-    subst (P (contextOf (tablesOf F S) W base)) e
-    (subst (λ N. P (record { structs = declared (tablesOf F S); names = N }) (scopeOf (tablesOf F S) W₁ base h)) (names-same (tablesOf F S) s a base l) x)
 
 module _ {F : List ℕ} {S : Sections} {X R W K : List ℕ} {base n s : ℕ} (g : ReadyStmt F S X R W K base n s) (kind : nodeAt (tablesOf F S) n .kind ≡ 37) {c : ℕ} (ec : c ≡ nodeAt (tablesOf F S) n .children) where
   counts : (vs : Vars) → Node (tablesOf F S) n 37 0 0 (countVars vs + 3) → countVars vs ≡ c - 3
@@ -82,7 +67,7 @@ module _ {F : List ℕ} {S : Sections} {X R W K : List ℕ} {base n s : ℕ} (g 
     for-no {rt} u =
         record {
           tells = on-for (AnswersStmt F S X R W base rt n s R₁ W₁ K₁ r₁)
-              (λ vs q z b h. part-never _ _ (λ Δ L e p. u .never (p .goes-on)) (m₁ .tells vs (h .1) (counts vs (h .0)))) kind;
+              (λ vs q z b h. hands-up _ _ (λ Δ L e p. u .never (p .goes-on)) (m₁ .tells vs (h .1) (counts vs (h .0)))) kind;
         }
 
     module _ (y₁ : r₁ .judgement ≡ GoesOn) {h : ℕ} (eh : h ≡ r₁ .at .scope) where
@@ -124,8 +109,8 @@ module _ {F : List ℕ} {S : Sections} {X R W K : List ℕ} {base n s : ℕ} (g 
             record {
               tells = on-for (AnswersStmt F S X R W base rt n s R₂ W₂ K₂ r₂)
                   (λ vs q z b i.
-                  part-ok _ _ (goes-unrefused y₁) (m₁ .tells vs (i .1) (counts vs (i .0))) λ Δ L e p.
-                  part-never _ _ (λ Δ₁ M e₂ p₂. u .never (p₂ .goes-on)) (condition-met p q (i .2))) kind;
+                  goes-on _ _ (goes-unrefused y₁) (m₁ .tells vs (i .1) (counts vs (i .0))) λ Δ L e p.
+                  hands-up _ _ (λ Δ₁ M e₂ p₂. u .never (p₂ .goes-on)) (condition-met p q (i .2))) kind;
             }
 
         module _ (y₂ : r₂ .judgement ≡ GoesOn) where
@@ -171,8 +156,8 @@ module _ {F : List ℕ} {S : Sections} {X R W K : List ℕ} {base n s : ℕ} (g 
                 record {
                   tells = on-for (AnswersStmt F S X R W base rt n s R₃ W₃ K₃ r₃)
                       (λ vs q z b i.
-                      part-ok _ _ (goes-unrefused y₁) (m₁ .tells vs (i .1) (counts vs (i .0))) λ Δ L e p.
-                      part-ok _ _ (goes-unrefused y₂) (condition-met p q (i .2)) λ Δ₁ M e₂ p₂.
+                      goes-on _ _ (goes-unrefused y₁) (m₁ .tells vs (i .1) (counts vs (i .0))) λ Δ L e p.
+                      goes-on _ _ (goes-unrefused y₂) (condition-met p q (i .2)) λ Δ₁ M e₂ p₂.
                       turn-part (tablesOf F S) (contextOf (tablesOf F S) W base) rt z b (n + 1 + sizeVars vs + sizeCondition q) Δ (closing (scopeOf (tablesOf F S) W base s) L M)
                       (part-no _ (λ v P. closing (scopeOf (tablesOf F S) W base s) L M P) (λ v P d. (v, d .mark)) f (turn-met p p₂ z b (i .3) (i .4)))) kind;
                 }
@@ -201,14 +186,14 @@ module _ {F : List ℕ} {S : Sections} {X R W K : List ℕ} {base n s : ℕ} (g 
                   record {
                     tells = on-for (AnswersStmt F S X R W base rt n s R′ W₃ K₄ r)
                         (λ vs q z b i.
-                        part-ok _ _ (goes-unrefused y₁) (m₁ .tells vs (i .1) (counts vs (i .0))) λ Δ L e p.
-                        part-ok _ _ (goes-unrefused y₂) (condition-met p q (i .2)) λ Δ₁ M e₂ p₂.
+                        goes-on _ _ (goes-unrefused y₁) (m₁ .tells vs (i .1) (counts vs (i .0))) λ Δ L e p.
+                        goes-on _ _ (goes-unrefused y₂) (condition-met p q (i .2)) λ Δ₁ M e₂ p₂.
                         turn-part (tablesOf F S) (contextOf (tablesOf F S) W base) rt z b (n + 1 + sizeVars vs + sizeCondition q) Δ (closing (scopeOf (tablesOf F S) W base s) L M)
-                        (part-ok _ (λ v P. closing (scopeOf (tablesOf F S) W base s) L M P) u (turn-met p p₂ z b (i .3) (i .4)) λ v P e₃ d.
+                        (goes-on _ (λ v P. closing (scopeOf (tablesOf F S) W base s) L M P) u (turn-met p p₂ z b (i .3) (i .4)) λ v P e₃ d.
                         accepts _ _
                         (rule-left (g .within)
                         (after-left (g .fine .above)
-                        (after-then (vars-long _ _ vs (n + 1) _ Δ L e) (vars-closed _ _ vs (n + 1) _ Δ L e) (ended .1) (vars-after p)
+                        (after-both (vars-long _ _ vs (n + 1) _ Δ L e) (vars-closed _ _ vs (n + 1) _ Δ L e) (ended .1) (vars-after p)
                         (after-plain-then (condition-long _ _ q (n + 1 + sizeVars vs) n Δ Δ₁ M e₂)
                         (turn-head _ _ rt z b _ Δ v P e₃) (omega arith) (p₂ .after) (d .after))) left)
                         er (d .next ∙ omega arith) (omega arith) eR))) kind;

@@ -15,6 +15,7 @@ use Rattle.typing_rules.specs.Contexts.{Scope, binds, Context}
 use Rattle.typing_rules.specs.Labels.{Label}
 use Rattle.typing_rules.specs.Rules.{both}
 use Rattle.typing_rules.specs.Judge.{Out, andThen, ends, isBelow, referred, execute, executeBlock}
+use Rattle.typing_rules.proofs.LawsOutcome.{either-then}
 use Rattle.file_sections.specs.declared.Sections.{Sections}
 use Rattle.file_sections.specs.Layout.{Has, tablesOf, GoodTables}
 use Rattle.file_sections.proofs.LawsRecords.{types-long, nodes-long}
@@ -25,7 +26,7 @@ use Rattle.answers.specs.declared.answer.Judgement.the-variants.{Typed, Refused
 use Rattle.answers.specs.declared.answer.Judged.{Judged}
 use Rattle.answers.specs.Answers.{withRow, AnswerIs}
 use Rattle.expressions.specs.Contract.{contextOf, Fine, After, Typing, Meets, accepts, Ready, Told}
-use Rattle.expressions.proofs.LawsMeets.{Untyped, stops, passes, child-no, child-ok}
+use Rattle.expressions.proofs.LawsMeets.{Untyped, Unrefused, stops, passes, goes-on, child-no, child-ok}
 use Rattle.expressions.proofs.LawsAfter.{ready, typing-of, same-more, after-append}
 use Rattle.expressions.proofs.LawsLabels.{expr-long, expr-closed}
 use Rattle.expressions.proofs.LawsShape.{size-one}
@@ -34,9 +35,8 @@ use Rattle.simple_statements.specs.Contract.{markOf, marked, Marking, AnswersSt
 use Rattle.simple_statements.proofs.LawsLabels.{on-if, on-if-null, block-within}
 use Rattle.simple_statements.proofs.LawsMarks.{mark-fits, rule-left, judged-as}
 use Rattle.statements.specs.Contract.{Blocking, eitherOf, ReadyArms, ToldArms}
-use Rattle.statements.proofs.LawsBlocks.{Unrefused, mark-is, part-no, part-ok}
-use Rattle.statements.proofs.LawsThen.{after-stack}
-use Rattle.statements.proofs.LawsArms.{either-mark, either-then, arms-fine}
+use Rattle.statements.proofs.LawsParts.{mark-is, part-no, after-stack}
+use Rattle.statements.proofs.LawsArms.{either-mark, arms-fine}
 
 -- a type that is a reference
 reference-there : (F : List ℕ) (S : Sections) (t : ℕ) → hasReferenceKind (tablesOf F S) t ≡ true → t < S .types
@@ -92,14 +92,14 @@ module _ (F : List ℕ) (S : Sections) (W : List ℕ) (base rt s : ℕ) (b c : B
   either-no : {p q : ℕ} → r₂ .judgement ≡ Refused p q
       → Meets Q r₂ (andThen (blockIn F S W base rt b i Γ) λ p M. andThen (blockIn F S W base rt c (i + sizeBlock b) (scopeOf (tablesOf F S) W base s)) λ q N. k (both p q) (M ++ N))
   either-no e =
-      subst (Meets Q r₂) (either-then (blockIn F S W base rt b i Γ) (blockIn F S W base rt c (i + sizeBlock b) (scopeOf (tablesOf F S) W base s)) k) (part-no _ k (λ p L v. (p, v .mark)) e z)
+      subst (Meets Q r₂) (either-then both (blockIn F S W base rt b i Γ) (blockIn F S W base rt c (i + sizeBlock b) (scopeOf (tablesOf F S) W base s)) k) (part-no _ k (λ p L v. (p, v .mark)) e z)
 
   either-ok : {r : Judged} {m : ℕ} → Unrefused r₂ → m ≡ markOf (r₂ .judgement)
       → ((p : ℕ) (N : List (Label ℕ)) → m ≡ p → Blocking F S X base i (sizeBlock b + sizeBlock c) s R₁ W₁ R₂ W₂ K₂ r₂ p N → Meets Q r (k p N))
       → Meets Q r (andThen (blockIn F S W base rt b i Γ) λ p M. andThen (blockIn F S W base rt c (i + sizeBlock b) (scopeOf (tablesOf F S) W base s)) λ q N. k (both p q) (M ++ N))
   either-ok {r} {m} u em f =
-      subst (Meets Q r) (either-then (blockIn F S W base rt b i Γ) (blockIn F S W base rt c (i + sizeBlock b) (scopeOf (tablesOf F S) W base s)) k)
-      (part-ok _ k u z λ p N q v.
+      subst (Meets Q r) (either-then both (blockIn F S W base rt b i Γ) (blockIn F S W base rt c (i + sizeBlock b) (scopeOf (tablesOf F S) W base s)) k)
+      (goes-on _ k u z λ p N q v.
       f p N (em ∙ mark-is (r₂ .judgement) p (either-mark _ _ rt b c i Γ _ p N q) (v .mark)) v)
 
 -- an accepted if: its own row over those of its test and of its blocks

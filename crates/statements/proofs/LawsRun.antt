@@ -1,6 +1,6 @@
 -- The loop over the statements of a block: what holds after i of them, and the answers of its returns. Assumes nothing.
 use mathlib.Core.Path.{_≡_, refl, ap, sym, subst, _∙_}
-use mathlib.Core.List.{List, [], _++_, append-nil, append-assoc}
+use mathlib.Core.List.{List, [], _++_, append-nil}
 use Prim.Native.Nat.{ℕ, _+_, _≤_, _<_}
 use native.Mathlib.Omega.{arith}
 use lib.ListN.{length, length-append}
@@ -10,7 +10,8 @@ use Rattle.oat.specs.Syntax.{Stmt, Stmts, empty, then, sizeStmt, sizeStmts, cou
 use Rattle.oat.specs.Nodes.{StmtsStand}
 use Rattle.typing_rules.specs.Contexts.{Scope, Context}
 use Rattle.typing_rules.specs.Labels.{Label}
-use Rattle.typing_rules.specs.Judge.{Out, ok, no, andThen, Done, execute, executeAll}
+use Rattle.typing_rules.specs.Judge.{Out, ok, no, Done, execute, executeAll}
+use Rattle.typing_rules.proofs.LawsOutcome.{afterRun, run-none, run-more}
 use Rattle.file_sections.specs.declared.Sections.{Sections}
 use Rattle.file_sections.specs.Layout.{tablesOf}
 use Rattle.file_sections.proofs.LawsRecords.{nodes-long}
@@ -19,13 +20,14 @@ use Rattle.answers.specs.declared.answer.Judgement.the-variants.{Refused}
 use Rattle.answers.specs.declared.answer.Judged.{Judged}
 use Rattle.answers.specs.Answers.{AnswerIs}
 use Rattle.expressions.specs.Contract.{contextOf, Fine, After, Meets, accepts, refuses}
+use Rattle.expressions.proofs.LawsMeets.{Unrefused, part-of}
 use Rattle.expressions.proofs.LawsAfter.{after-none}
 use Rattle.expressions.proofs.LawsLabels.{Closed, closed-none, closed-append}
 use Rattle.simple_statements.specs.Contract.{markOf, marked, Marking, ReadyStmt, ToldStmt}
 use Rattle.simple_statements.proofs.LawsLabels.{stmt-long, stmt-closed, stmt-mark, stmt-within}
+use Rattle.simple_statements.proofs.LawsMarks.{after-both}
 use Rattle.statements.specs.Contract.{Running, ReadyStmts, ToldStmts}
-use Rattle.statements.proofs.LawsBlocks.{Unrefused, marked-no, mark-is, part-of}
-use Rattle.statements.proofs.LawsThen.{after-then, retell-stmt}
+use Rattle.statements.proofs.LawsParts.{marked-no, mark-is, retell-stmt}
 
 -- the definition in the context of the buffers before the block, and the scope of the height h of those now
 abbrev pub allIn : List ℕ → Sections → (W W₁ : List ℕ) → (base rt h : ℕ) → Stmts → (n last p : ℕ) → Out ℕ
@@ -33,18 +35,6 @@ allIn F S W W₁ base rt h ss n last p = executeAll (tablesOf F S) (contextOf (t
 
 abbrev stmtIn : List ℕ → Sections → (W W₁ : List ℕ) → (base rt h : ℕ) → Stmt → ℕ → Out Done
 stmtIn F S W W₁ base rt h z n = execute (tablesOf F S) (contextOf (tablesOf F S) W base) rt z n (scopeOf (tablesOf F S) W₁ base h)
-
--- the outcome of the statements after those so far
-abbrev pub afterRun : List (Label ℕ) → Out ℕ → Out ℕ
-afterRun L o = andThen o λ q M. ok q (L ++ M)
-
-run-none : (o : Out ℕ) → o ≡ afterRun [] o
-run-none (ok q M) = refl
-run-none (no p q) = refl
-
-run-more : (L M : List (Label ℕ)) (o : Out ℕ) → afterRun L (afterRun M o) ≡ afterRun (L ++ M) o
-run-more L M (ok q N) = cc (append-assoc L M N)
-run-more L M (no p q) = refl
 
 -- statements, of which there is one, or none
 on-some : (P : Stmts → Type 0) → ((z : Stmt) (zs : Stmts) → P (then z zs)) → (ss : Stmts) → 1 ≤ countStmts ss → P ss
@@ -124,7 +114,7 @@ module _ {F : List ℕ} {S : Sections} {X R W : List ℕ} {base rt n s left pare
         high = omega (arith, p .high, v .high, both);
         small = omega (arith, is, most);
         after = subst (λ k. After F S X base (p .labels ++ M) n k s (r .at .scope) R W R₂ W₂ K₂) (sym both)
-            (after-then refl (p .closed) (p .low) (p .after)
+            (after-both refl (p .closed) (p .low) (p .after)
             (subst (λ k. After F S X base M k (sizeStmt z) height (r .at .scope) R₁ W₁ R₂ W₂ K₂) (p .reached) (v .after)));
         ran = j ∙ ap (afterRun (p .labels)) (all-ok T C rt z zs at last mark Γ d M e0 q)
             ∙ run-more (p .labels) M (executeAll T C rt zs (at + sizeStmt z) at (d .mark) (d .scope))

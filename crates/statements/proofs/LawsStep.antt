@@ -17,14 +17,14 @@ use Rattle.answers.specs.declared.answer.Judgement.the-variants.{GoesOn, Refuse
 use Rattle.answers.specs.declared.answer.Judged.{Judged}
 use Rattle.answers.specs.Answers.{withRow, AnswerIs}
 use Rattle.expressions.specs.Contract.{contextOf, Fine, RowsAt, After, Meets, accepts}
-use Rattle.expressions.proofs.LawsMeets.{stops, passes}
+use Rattle.expressions.proofs.LawsMeets.{Unrefused, stops, passes, goes-on, part-of}
 use Rattle.expressions.proofs.LawsAfter.{same-none, row-length, row-other, row-result, row-binder, fine-rows}
 use Rattle.expressions.proofs.LawsChild.{has-node}
 use Rattle.simple_statements.specs.Contract.{markOf, marked, ReadyStmt, ToldStmt}
 use Rattle.simple_statements.proofs.LawsLabels.{stmt-kind, stmt-mark}
 use Rattle.simple_statements.proofs.LawsMarks.{mark-fits}
 use Rattle.statements.specs.Contract.{Blocking, ReadyStep, ToldStep}
-use Rattle.statements.proofs.LawsBlocks.{Unrefused, mark-is, part-no, part-ok, part-of, after-left}
+use Rattle.statements.proofs.LawsParts.{mark-is, part-no, after-left}
 
 -- a step by the kind of its node
 module _ {T : Tables} {n : ℕ} where
@@ -111,7 +111,7 @@ module _ {F : List ℕ} {S : Sections} {X R W K : List ℕ} {base rt n s : ℕ} 
               record {
                 tells = on-step (AnswersStep F S X R W base rt n s R₁ W₁ K₁ r)
                     (λ y h.
-                    part-ok _ _ u (m₁ .tells y h) λ d L q p.
+                    goes-on _ _ u (m₁ .tells y h) λ d L q p.
                     stops _ 14 n _ (ne-eqb _ _ (λ i. z (em ∙ mark-is _ _ (stmt-mark _ _ rt y n _ d L q) (p .mark) ∙ i))) e) not-absent;
               }
 
@@ -127,7 +127,7 @@ module _ {F : List ℕ} {S : Sections} {X R W K : List ℕ} {base rt n s : ℕ} 
               record {
                 tells = on-step (AnswersStep F S X R W base rt n s R₁ W₁ K₂ r)
                     (λ y h.
-                    part-ok _ _ u (m₁ .tells y h) λ d L q p.
+                    goes-on _ _ u (m₁ .tells y h) λ d L q p.
                     passes _ 14 n _ (eq-eqb _ _ (sym (mark-is _ _ (stmt-mark _ _ rt y n _ d L q) (p .mark)) ∙ sym em ∙ z))
                     (accepts _ _
                     (record {

@@ -10,19 +10,18 @@ use Rattle.oat.specs.Nodes.{BlockStands}
 use Rattle.typing_rules.specs.Contexts.{Scope, Context}
 use Rattle.typing_rules.specs.Labels.{Label}
 use Rattle.typing_rules.specs.Judge.{ok, execute, executeStep}
-use Rattle.typing_rules.proofs.LawsInvert.{ok-is, then-ok, needs-ok}
+use Rattle.typing_rules.proofs.LawsOutcome.{ok-is, then-ok, needs-ok}
 use Rattle.file_sections.specs.declared.Sections.{Sections}
 use Rattle.file_sections.specs.Layout.{tablesOf}
 use Rattle.answers.specs.declared.answer.Judgement.the-variants.{GoesOn}
 use Rattle.answers.specs.declared.answer.Judged.{Judged}
 use Rattle.expressions.specs.Contract.{accepts}
-use Rattle.expressions.proofs.LawsMeets.{Unlisted}
+use Rattle.expressions.proofs.LawsMeets.{Unlisted, goes-unrefused, hands-up, goes-on, part-last, part-of}
 use Rattle.simple_statements.specs.Contract.{marked}
 use Rattle.simple_statements.proofs.LawsLabels.{step-long, block-head, size-step-one}
 use Rattle.statements.specs.Contract.{ReadyBlock, ToldBlock, ReadyStep, ToldStep, ReadyTurn, ToldTurn}
-use Rattle.statements.proofs.LawsBlocks.{part-ok, part-of, retell-block}
+use Rattle.statements.proofs.LawsParts.{head-plain, after-plain-then, retell-block}
 use Rattle.statements.proofs.LawsBlock.{ready-block}
-use Rattle.statements.proofs.LawsThen.{goes-unrefused, part-never, part-last, head-plain, after-plain-then}
 
 -- an accepted step goes on
 pub step-mark : (T : Tables) (C : Context ℕ) (rt : ℕ) (z : Step) (n : ℕ) (Γ : Scope ℕ) (p : ℕ) (L : List (Label ℕ))
@@ -43,7 +42,7 @@ module _ {F : List ℕ} {S : Sections} {X R W K : List ℕ} {base rt n s : ℕ} 
     turn-no u =
         record {
           tells = λ z b h i.
-              part-never _ _ (λ p L q d. u .never (d .mark ∙ ap marked (step-mark _ _ rt z n _ p L q))) (m₁ .tells z h);
+              hands-up _ _ (λ p L q d. u .never (d .mark ∙ ap marked (step-mark _ _ rt z n _ p L q))) (m₁ .tells z h);
         }
 
     module _ (y₁ : r₁ .judgement ≡ GoesOn) where
@@ -60,7 +59,7 @@ module _ {F : List ℕ} {S : Sections} {X R W K : List ℕ} {base rt n s : ℕ} 
       turn-told m₂ =
           record {
             tells = λ z b h i.
-                part-ok _ _ (goes-unrefused y₁) (m₁ .tells z h) λ p L q d.
+                goes-on _ _ (goes-unrefused y₁) (m₁ .tells z h) λ p L q d.
                 part-last _ _ (retell-block (d .after .same) (g .fine .above) (d .next) m₂ b i) λ p₂ M q₂ d₂.
                 accepts _ _
                 (record {

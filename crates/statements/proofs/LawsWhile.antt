@@ -15,14 +15,14 @@ use Rattle.answers.specs.declared.answer.Judgement.the-variants.{Typed, Refused
 use Rattle.answers.specs.declared.answer.Judged.{Judged}
 use Rattle.answers.specs.Answers.{withRow, AnswerIs}
 use Rattle.expressions.specs.Contract.{accepts, Ready, Told}
-use Rattle.expressions.proofs.LawsMeets.{Untyped, stops, passes, child-no, child-ok}
+use Rattle.expressions.proofs.LawsMeets.{Untyped, Unrefused, stops, passes, goes-on, part-of, child-no, child-ok}
 use Rattle.expressions.proofs.LawsAfter.{ready, typing-of, after-append}
 use Rattle.expressions.proofs.LawsLabels.{expr-long, expr-closed}
 use Rattle.simple_statements.specs.Contract.{marked, AnswersStmt, ReadyStmt, ToldStmt}
 use Rattle.simple_statements.proofs.LawsLabels.{on-while}
 use Rattle.simple_statements.proofs.LawsMarks.{mark-fits, rule-left}
 use Rattle.statements.specs.Contract.{ReadyBlock, ToldBlock}
-use Rattle.statements.proofs.LawsBlocks.{Unrefused, part-no, part-ok, part-of, retell-block}
+use Rattle.statements.proofs.LawsParts.{part-no, retell-block}
 use Rattle.statements.proofs.LawsBlock.{ready-block}
 
 module _ {F : List ℕ} {S : Sections} {X R W K : List ℕ} {base n s : ℕ} (g : ReadyStmt F S X R W K base n s) (kind : nodeAt (tablesOf F S) n .kind ≡ 38) where
@@ -83,7 +83,7 @@ module _ {F : List ℕ} {S : Sections} {X R W K : List ℕ} {base n s : ℕ} (g 
                     (λ a b h.
                     child-ok _ _ t y₁ (m₁ .tells a (h .1)) λ L q p.
                     passes _ 10 n _ (eq-eqb _ _ (sym e₁ ∙ z₁))
-                    (part-ok _ _ u (retell-block (p .after .same) (g .fine .above) (p .next) m₂ b (h .2)) λ i M q₂ d.
+                    (goes-on _ _ u (retell-block (p .after .same) (g .fine .above) (p .next) m₂ b (h .2)) λ i M q₂ d.
                     accepts _ _
                     (rule-left (g .within) (after-append (expr-long _ _ a (n + 1) _ t L q) (expr-closed _ _ a (n + 1) _ t L q) (p .after) (d .after))
                     er (d .next ∙ omega arith) (omega arith) eR))) kind;

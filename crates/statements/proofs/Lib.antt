@@ -1,5 +1,4 @@
-pub mod LawsBlocks
-pub mod LawsThen
+pub mod LawsParts
 pub mod LawsRun
 pub mod LawsBlock
 pub mod LawsArms

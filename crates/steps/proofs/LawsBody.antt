@@ -34,19 +34,19 @@ use Rattle.answers.specs.declared.answer.Judged.{Judged}
 use Rattle.answers.proofs.answer.Judgement.{the-type}
 use Rattle.answers.specs.Answers.{withRow}
 use Rattle.expressions.specs.Contract.{contextOf, Fine, After, Meets}
+use Rattle.expressions.proofs.LawsMeets.{Unrefused, part-of}
 use Rattle.expressions.proofs.LawsAfter.{row-other, row-result, row-binder}
 use Rattle.expressions.proofs.LawsChild.{kind-of, has-type, kind-within, returned-within, parameters-within}
 use Rattle.simple_statements.proofs.LawsLabels.{block-long, block-mark, block-within}
 use Rattle.simple_statements.proofs.LawsMarks.{returns-marked}
 use Rattle.statements.specs.Contract.{Blocking, ReadyBlock, ToldBlock}
-use Rattle.statements.proofs.LawsBlocks.{Unrefused, marked-no, mark-is, part-of}
+use Rattle.statements.proofs.LawsParts.{marked-no, mark-is}
 use Rattle.statements.proofs.LawsBlock.{ready-block}
 use Rattle.steps.specs.declared.context.Context.{Context}
 use Rattle.steps.specs.declared.context.Stepped.{Stepped}
 use Rattle.steps.specs.declared.context.Stepped.the-variants.{Next, Refused}
 use Rattle.steps.specs.Contract.{contextAt, withStep, handedUp, ListAt, Accepted, accepts, ReadyParameters, BoundAll, ToldParameters, ReadyBody, ToldBody}
-use Rattle.steps.proofs.LawsStepping.{stops, passes, whole-context}
-use Rattle.steps.proofs.LawsGlobal.{hands-up, goes-on}
+use Rattle.steps.proofs.LawsStepping.{stops, passes, hands-up, goes-on, whole-context}
 use Rattle.steps.proofs.LawsListAt.{list-row, list-append, list-kept, list-from, rows-count, rows-list, parameters-count}
 
 -- the answer is no return
@@ -212,7 +212,7 @@ module _ {F : List ℕ} {S : Sections} {X R W K : List ℕ} {c : Context} {n : �
                     record {
                       tells = λ x u ps b h.
                           passes (distinctNames ps) 7 n _ (distinct x u ps b h)
-                          (goes-on _ _ (v .never) (ran x u ps b h) λ i L q d.
+                          (goes-on _ _ v (ran x u ps b h) λ i L q d.
                           stops (eqb i 1) 14 n _ (ne-eqb i 1 (λ z. o .never (d .mark ∙ sym (returns-marked i z)))) refl);
                     }
 
@@ -235,7 +235,7 @@ module _ {F : List ℕ} {S : Sections} {X R W K : List ℕ} {c : Context} {n : �
                     record {
                       tells = λ x u ps b h.
                           passes (distinctNames ps) 7 n _ (distinct x u ps b h)
-                          (goes-on _ _ (v .never) (ran x u ps b h) λ i L q d.
+                          (goes-on _ _ v (ran x u ps b h) λ i L q d.
                           passes (eqb i 1) 14 n _ (eq-eqb i 1 (sym (mark-is Returns i (block-mark _ _ _ b _ _ i L q) (sym y ∙ d .mark))))
                           (accepts _ _ (ap Next ee)
                           (subst (λ Q. Accepted F S X c (body n u ps b) R Q W₂ K₃ (contextAt (tablesOf F S) W c) (replicate (1 + length ps) unlabelled ++ L)) (sym eR)

@@ -22,11 +22,9 @@ use Rattle.file_sections.proofs.LawsRecords.{nodes-long}
 use Rattle.bindings.specs.Bindings.{entryOf, namesOf, Some, Same, Bindable, Bound}
 use Rattle.bindings.proofs.LawsBindings.{scope-none, names-same, names-declared}
 use Rattle.answers.specs.declared.answer.Judgement.the-variants.{Typed}
-use Rattle.answers.specs.declared.answer.Judgement.the-variants as judgement
 use Rattle.answers.specs.declared.answer.Judged.{Judged}
 use Rattle.answers.specs.Answers.{withRow}
 use Rattle.expressions.specs.Contract.{contextOf, Fine, Typing, Meets, Ready, Told}
-use Rattle.expressions.specs.Contract as meeting
 use Rattle.expressions.proofs.LawsMeets.{Untyped}
 use Rattle.expressions.proofs.LawsAfter.{ready, typing-of, row-other, row-result, row-binder}
 use Rattle.expressions.proofs.LawsChild.{child-within, child-fine}
@@ -35,21 +33,9 @@ use Rattle.expressions.proofs.LawsShape.{size-one}
 use Rattle.steps.specs.declared.context.Context.{Context}
 use Rattle.steps.specs.declared.context.Stepped.{Stepped}
 use Rattle.steps.specs.declared.context.Stepped.the-variants.{Next, Refused}
-use Rattle.steps.specs.Contract.{contextAt, withName, handedUp, Accepted, Stepping, accepts, refuses, Newness, ReadyGlobal, ToldGlobal}
-use Rattle.steps.proofs.LawsStepping.{stops, passes, whole-context}
+use Rattle.steps.specs.Contract.{contextAt, withName, handedUp, Accepted, Stepping, accepts, Newness, ReadyGlobal, ToldGlobal}
+use Rattle.steps.proofs.LawsStepping.{stops, passes, hands-up, whole-context}
 use Rattle.steps.proofs.LawsListAt.{list-row, list-kept, list-from, rows-count, rows-list}
-
--- a part that is refused hands its refusal up; an accepted one goes on with its labels
-module _ {F : List ℕ} {S : Sections} {X : List ℕ} {c : Context} {s : Step} {R R′ W′ K′ : List ℕ} {r : Stepped} {A : Type 0} {P : A → List (Label ℕ) → Type 0} {r₁ : Judged} where
-  pub hands-up : (o : Out A) (k : A → List (Label ℕ) → Out (Contexts.Context ℕ)) → ((a : A) (L : List (Label ℕ)) → P a L → ⊥) → r ≡ handedUp (r₁ .judgement) (c .steps)
-      → Meets P r₁ o → Stepping F S X c s R R′ W′ K′ r (andThen o k)
-  hands-up o k f e (meeting.accepts a L p) = absurd (f a L p)
-  hands-up o k f e (meeting.refuses p q j) = refuses p q (e ∙ ap (λ i. handedUp i (c .steps)) j)
-
-  pub goes-on : (o : Out A) (k : A → List (Label ℕ) → Out (Contexts.Context ℕ)) → ((p q : ℕ) → r₁ .judgement ≡ judgement.Refused p q → ⊥) → Meets P r₁ o
-      → ((a : A) (L : List (Label ℕ)) → o ≡ ok a L → P a L → Stepping F S X c s R R′ W′ K′ r (k a L)) → Stepping F S X c s R R′ W′ K′ r (andThen o k)
-  goes-on o k f (meeting.accepts a L p) g = g a L refl p
-  goes-on o k f (meeting.refuses p q j) g = absurd (f p q j)
 
 entry-is : {t n x y : ℕ} {b : Bool} {l k : List (Entry ℕ)} → x ≡ y → b ≡ true → l ≡ k
     → _≡_ {A = List (Entry ℕ)} (record { name = x; type = t; binder = n; assignable = b } ∷ l) (record { name = y; type = t; binder = n; assignable = true } ∷ k)

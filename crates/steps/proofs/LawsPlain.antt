@@ -4,7 +4,6 @@ use mathlib.Core.Path.{_≡_, refl, ap, ap₂, sym, subst, _∙_}
 use mathlib.Core.Bool.{Bool, true, false, not, false≢true}
 use mathlib.Core.List.{List, [], _∷_, _++_}
 use Prim.Native.Nat.{ℕ, zero, suc, _+_, _%_, _≤_, _<_}
-use native.Mathlib.Numerals.{add-one}
 use native.Mathlib.Nat.{zero-add, not-suc-le-zero, le-of-suc-le-suc}
 use native.Mathlib.Omega.{arith}
 use lib.ListN.{length, getD, set, length-set}
@@ -22,6 +21,7 @@ use Rattle.typing_rules.specs.Contexts.{findName}
 use Rattle.typing_rules.specs.Judge.{formed}
 use Rattle.typing_rules.specs.Steps.{builtIn, heading, structFields, distinctFields, addName, addStruct}
 use Rattle.typing_rules.specs.Check.{isMissing, isMiss, fieldsFormed, runStep, stepRows}
+use Rattle.typing_rules.proofs.LawsSteps.{tabulate-more}
 use Rattle.file_sections.specs.declared.Sections.{Sections}
 use Rattle.file_sections.specs.Layout.{Has, tablesOf}
 use Rattle.file_sections.proofs.LawsRecords.{types-long, structs-long, built-ins-long, nodes-long}
@@ -72,14 +72,9 @@ missing-apart x (suc n) f e (suc j) h = missing-apart x n (λ j. f (suc j)) (res
     rest true e = absurd (false≢true e)
     rest false e = e
 
-pub tabulate-more : {A : Type 0} (n : ℕ) (f : ℕ → A) → tabulate (suc n) f ≡ tabulate n f ++ (f n ∷ [])
-unfolding tabulate
-tabulate-more zero f = refl
-tabulate-more (suc n) f = ap (λ l. f 0 ∷ l) (tabulate-more n (λ i. f (suc i)))
-
 structs-more : (T : Tables) (n : ℕ) → structsOf T (n + 1) ≡ structsOf T n ++ (structOf T n ∷ [])
 unfolding structsOf
-structs-more T n = ap (λ k. tabulate k (structOf T)) (add-one n) ∙ tabulate-more n (structOf T)
+structs-more T n = sym (tabulate-more n (structOf T))
 
 -- the name of a struct, among those of the structs before it
 struct-new-is : (F : List ℕ) (S : Sections) (N : List ℕ) (i x n : ℕ) → Copied F S N i → x ≡ structAt (tablesOf F S) i .name → n ≡ timesIn N 0 i x

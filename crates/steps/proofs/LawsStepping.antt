@@ -1,6 +1,6 @@
--- A step's answer against the outcome of the definition, premise by premise, and the context of a file all of whose structs are
--- declared. Assumes nothing.
-use mathlib.Core.Path.{_≡_, refl, ap, sym, _∙_}
+-- A step's answer against the outcome of the definition, premise by premise and part after part, and the context of a file all of whose
+-- structs are declared. Assumes nothing.
+use mathlib.Core.Path.{_≡_, refl, ap, sym, subst, _∙_}
 use mathlib.Core.Bool.{Bool, true, false}
 use mathlib.Core.List.{List, []}
 use Prim.Native.Nat.{ℕ, _<_}
@@ -9,18 +9,22 @@ use lib.ListN.{length}
 use Rattle.oat.specs.Tables.{Tables}
 use Rattle.oat.specs.Types.{structsOf}
 use Rattle.typing_rules.specs.Contexts as Contexts
-use Rattle.typing_rules.specs.Judge.{Out, ok, needs}
+use Rattle.typing_rules.specs.Labels.{Label}
+use Rattle.typing_rules.specs.Judge.{Out, ok, andThen, needs}
 use Rattle.typing_rules.specs.Steps.{Step}
 use Rattle.typing_rules.specs.Check.{stepRows}
 use Rattle.file_sections.specs.declared.Sections.{Sections}
 use Rattle.file_sections.specs.Layout.{tablesOf}
 use Rattle.file_sections.proofs.LawsRecords.{structs-long}
 use Rattle.bindings.specs.Bindings.{namesOf}
-use Rattle.expressions.specs.Contract.{contextOf}
+use Rattle.answers.specs.declared.answer.Judged.{Judged}
+use Rattle.expressions.specs.Contract.{contextOf, Meets}
+use Rattle.expressions.specs.Contract as meeting
+use Rattle.expressions.proofs.LawsMeets.{Unrefused, part-of}
 use Rattle.steps.specs.declared.context.Context.{Context}
 use Rattle.steps.specs.declared.context.Stepped.{Stepped}
 use Rattle.steps.specs.declared.context.Stepped.the-variants.{Next, Refused}
-use Rattle.steps.specs.Contract.{contextAt, afterStep, spanOf, Held, Stepping, accepts, refuses, Answering, answers-refused, Whole}
+use Rattle.steps.specs.Contract.{contextAt, afterStep, handedUp, spanOf, Held, Stepping, accepts, refuses, Answering, answers-refused, Whole}
 
 -- a premise that is tested
 module _ {F : List ℕ} {S : Sections} {X : List ℕ} {c : Context} {s : Step} {R R′ W′ K′ : List ℕ} {r : Stepped} where
@@ -36,6 +40,19 @@ module _ {T : Tables} {W : List ℕ} {c : Context} {s : Step} {r : Stepped} wher
 
   pub answer-passes : (b : Bool) (p q : ℕ) (o : Out (Contexts.Context ℕ)) → b ≡ true → Answering T W c s r o → Answering T W c s r (needs b p q o)
   answer-passes b p q o t m = rw t m
+
+-- a part that is refused hands its refusal up; an accepted one goes on with its labels
+module _ {F : List ℕ} {S : Sections} {X : List ℕ} {c : Context} {s : Step} {R R′ W′ K′ : List ℕ} {r : Stepped} {A : Type 0} {P : A → List (Label ℕ) → Type 0} {r₁ : Judged} where
+  pub hands-up : (o : Out A) (k : A → List (Label ℕ) → Out (Contexts.Context ℕ)) → ((a : A) (L : List (Label ℕ)) → P a L → ⊥) → r ≡ handedUp (r₁ .judgement) (c .steps)
+      → Meets P r₁ o → Stepping F S X c s R R′ W′ K′ r (andThen o k)
+  hands-up o k f e (meeting.accepts a L p) = absurd (f a L p)
+  hands-up o k f e (meeting.refuses p q j) = refuses p q (e ∙ ap (λ i. handedUp i (c .steps)) j)
+
+  pub goes-on : (o : Out A) (k : A → List (Label ℕ) → Out (Contexts.Context ℕ)) → Unrefused r₁ → Meets P r₁ o
+      → ((a : A) (L : List (Label ℕ)) → o ≡ ok a L → P a L → Stepping F S X c s R R′ W′ K′ r (k a L)) → Stepping F S X c s R R′ W′ K′ r (andThen o k)
+  goes-on o k u m g =
+      let (a, L, q, p) = part-of o m u in
+      subst (λ i. Stepping F S X c s R R′ W′ K′ r (andThen i k)) (sym q) (g a L q p)
 
 -- an accepted step without rows
 pub rowless : {F : List ℕ} {S : Sections} {X : List ℕ} {c : Context} {s : Step} {W′ K′ : List ℕ} {r : Stepped} (R : List ℕ) (C : Contexts.Context ℕ)

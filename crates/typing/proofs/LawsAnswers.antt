@@ -11,6 +11,7 @@ use Rattle.typing_rules.specs.Contexts as Contexts
 use Rattle.typing_rules.specs.Judge.{Out}
 use Rattle.typing_rules.specs.Steps.{Step, structName, builtIn, heading, globalValue, structFields, body}
 use Rattle.typing_rules.specs.Check.{rowsBegin, stepRows, runStep}
+use Rattle.typing_rules.proofs.LawsSteps.{tabulate-more}
 use Rattle.file_sections.specs.declared.Sections.{Sections}
 use Rattle.file_sections.specs.Layout.{tablesOf}
 use Rattle.bindings.specs.Bindings.{Scoped}
@@ -21,7 +22,7 @@ use Rattle.steps.specs.Contract.{contextAt, afterStep, spanOf, Held, ListAt, An
 use Rattle.steps.proofs.LawsListAt.{list-none}
 use Rattle.typing.specs.Runs.{afterSteps, withSegments, written-none, written-next, Runs, goes, stops, AnsweringAll, all-next, all-refused, AnsweredAll}
 use Rattle.typing.proofs.LawsRuns.{after-append, written-append, Stopped, next-is, not-both, one-on, one-stop, then-on, then-breaks, breaks-still}
-use Rattle.typing.proofs.LawsCounts.{Alike, after-counted, tabulate-more, tabulate-rest}
+use Rattle.typing.proofs.LawsCounts.{Alike, after-counted, tabulate-rest}
 
 -- a step without rows
 bare-rows : (T : Tables) (s : Step) → spanOf s ≡ 0 → stepRows T s [] ≡ []

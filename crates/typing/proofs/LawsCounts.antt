@@ -10,7 +10,6 @@ use Rattle.typing_rules.specs.Steps.{Step, structName, builtIn, heading, global
 use Rattle.typing_rules.specs.Check.{rowsBegin}
 use Rattle.steps.specs.declared.context.Context.{Context}
 use Rattle.steps.specs.Contract.{afterStep, spanOf}
-use Rattle.steps.proofs.LawsPlain.{tabulate-more as tabulate-last}
 use Rattle.typing.specs.Runs.{afterSteps, Touched, touched-first, touched-later}
 
 -- how many structs and names a step adds
@@ -111,10 +110,7 @@ built-ins-bare n = tabulated-bare n builtIn (λ i. refl)
 pub fields-bare : (n : ℕ) → Bare (tabulate n structFields)
 fields-bare n = tabulated-bare n structFields (λ i. refl)
 
--- the first records, and one more; and any that follow
-pub tabulate-more : {A : Type 0} (n : ℕ) (f : ℕ → A) → tabulate n f ++ (f n ∷ []) ≡ tabulate (n + 1) f
-tabulate-more n f = sym (tabulate-last n f) ∙ ap (λ k. tabulate k f) (omega arith)
-
+-- the first records, and any that follow
 pub tabulate-rest : {A : Type 0} (n m : ℕ) (f : ℕ → A) → n ≤ m → (rest : List A) × (tabulate n f ++ rest ≡ tabulate m f)
 unfolding tabulate
 tabulate-rest zero m f h = (tabulate m f, refl)

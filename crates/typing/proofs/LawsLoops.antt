@@ -7,6 +7,7 @@ use lib.ListN.{length}
 use Rattle.oat.specs.Basics.{tabulate}
 use Rattle.oat.proofs.LawsBasics.{tabulate-long}
 use Rattle.typing_rules.specs.Steps.{Step, structName, builtIn, structFields}
+use Rattle.typing_rules.proofs.LawsSteps.{tabulate-more}
 use Rattle.file_sections.specs.declared.Sections.{Sections}
 use Rattle.file_sections.specs.Layout.{Laid}
 use Rattle.steps.specs.declared.context.Context.{Context}
@@ -15,7 +16,7 @@ use Rattle.steps.specs.declared.context.Stepped.the-variants.{Next}
 use Rattle.steps.specs.Contract.{withStruct, withStep, spanOf, Answered, Steps, Rowless, Copied, ReadyStruct, ToldStruct, ReadyBuiltIn, ReadyFields}
 use Rattle.typing.specs.Runs.{start, Runs, AnsweredAll, ReadyBuiltIns, ToldBuiltIns, ReadyStructs}
 use Rattle.typing.proofs.LawsRuns.{Stopped, Apart, runs-none, runs-one, runs-then, runs-stop, runs-next}
-use Rattle.typing.proofs.LawsCounts.{after-counted, built-ins-alike, Bare, bare-none, bare-next, bare-untouched, tabulate-more, tabulate-rest}
+use Rattle.typing.proofs.LawsCounts.{after-counted, built-ins-alike, Bare, bare-none, bare-next, bare-untouched, tabulate-rest}
 use Rattle.typing.proofs.LawsAnswers.{answered-next, all-none, answers-stop, answers-more}
 
 pub apart-bare : (ss : List Step) {ts : List Step} → Bare ts → Apart ss ts

@@ -17,7 +17,7 @@ use Rattle.typing_rules.specs.Rules.{namesFit}
 use Rattle.typing_rules.specs.Judge.{ok, typedAs, isKind, referred, isBelow, formed, hasDefault, eachBelow, argumentsBelow, fieldOf, initsBelow, judge, judges, judgeInits}
 use Rattle.typing_rules.proofs.Claims.{File, Value, ScopeFits, fits-bind, ContextFits}
 use Rattle.typing_rules.proofs.LawsBridge.{base-value}
-use Rattle.typing_rules.proofs.LawsInvert.{ok-is, then-ok, needs-ok, declared-ok, named-ok, field-ok}
+use Rattle.typing_rules.proofs.LawsOutcome.{ok-is, then-ok, needs-ok, declared-ok, named-ok, field-ok}
 use Rattle.typing_rules.proofs.LawsRows.{LabelsFit, fit-none, fit-label, fit-append}
 use Rattle.typing_rules.proofs.Sound.{sound}
 

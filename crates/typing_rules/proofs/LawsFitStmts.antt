@@ -13,7 +13,7 @@ use Rattle.typing_rules.specs.Judge.{ok, isKind, referred, isBelow, argu
 use Rattle.typing_rules.proofs.Claims.{File, ScopeFits, fits-bind, ContextFits}
 use Rattle.typing_rules.proofs.CompleteStmts.{reference-value}
 use Rattle.typing_rules.proofs.LawsFit.{expr-fit, exprs-fit}
-use Rattle.typing_rules.proofs.LawsInvert.{ok-is, then-ok, needs-ok}
+use Rattle.typing_rules.proofs.LawsOutcome.{ok-is, then-ok, needs-ok}
 use Rattle.typing_rules.proofs.LawsRows.{LabelsFit, fit-none, fit-label, fit-append}
 use Rattle.typing_rules.proofs.Sound.{sound}
 

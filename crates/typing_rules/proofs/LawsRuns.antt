@@ -19,6 +19,7 @@ use Rattle.typing_rules.specs.Steps.{Step, structName, builtIn, heading,
 use Rattle.typing_rules.specs.Check.{Segment, Ran, accepted, refused, withSegment, onStep, runStep, run, rowsBegin, stepRows}
 use Rattle.typing_rules.proofs.Claims.{File, ContextFits, eraseContext, erase, Holds}
 use Rattle.typing_rules.proofs.LawsBridge.{erase-long}
+use Rattle.typing_rules.proofs.LawsOutcome.{same-next}
 use Rattle.typing_rules.proofs.LawsSteps.{structsAfter, nodeCount, StepStands, RightStep, sound-step, complete-step}
 
 -- the steps stand, k structs declared before them
@@ -58,9 +59,6 @@ module _ (T : Tables) (F : File T) where
       (E, labelled-step (A .accepts) R (A .holds) l, q)
 
 -- two labellings that have the labels of a run from C are the same on its steps, and end alike
-same-next : {o : Out (Context ℕ)} {A B : Context ℕ} {L M : List (Label ℕ)} → o ≡ ok A L → o ≡ ok B M → (A ≡ B) × (L ≡ M)
-same-next e f = (cc, cc)
-
 holds-same : (D E : Labels Ty) (M : List (Label Ty)) (n m : ℕ) → Holds D n M → Holds E n M → n ≤ m → m < n + length M → D m ≡ E m
 unfolding Holds
 holds-same D E [] n m h k l u = absurd (omega arith)

@@ -21,7 +21,7 @@ use Rattle.typing_rules.specs.Check.{isMiss, Segment, accepted, withSegm
 use Rattle.typing_rules.specs.Rows.{RowsAre, rows-node, labelsFrom, ParametersAre, parameters-none, parameters-next}
 use Rattle.typing_rules.proofs.Claims.{File, fits-empty, ContextFits, erase, Holds}
 use Rattle.typing_rules.proofs.LawsBridge.{erase-long}
-use Rattle.typing_rules.proofs.LawsInvert.{ok-is, then-ok, needs-ok}
+use Rattle.typing_rules.proofs.LawsOutcome.{ok-is, then-ok, needs-ok}
 use Rattle.typing_rules.proofs.LawsRows.{LabelsFit, fit-label, rows-are}
 use Rattle.typing_rules.proofs.LawsFit.{expr-fit}
 use Rattle.typing_rules.proofs.LawsFitStmts.{fit-block}

@@ -1,6 +1,6 @@
 -- One step: what is accepted has a derivation, for every labelling that has its labels, and what has a derivation is accepted, with the
 -- derivation's labels. Assumes nothing.
-use mathlib.Core.Path.{_≡_, refl, ap, ap₂, sym, subst, subst₂, _∙_}
+use mathlib.Core.Path.{_≡_, refl, ap, ap₂, sym, subst, _∙_}
 use mathlib.Core.Bool.{Bool, true, false}
 use mathlib.Core.List.{List, [], _∷_, _++_}
 use mathlib.Core.Logic.{_↔_}
@@ -25,11 +25,12 @@ use Rattle.oat.proofs.LawsTables.{HasKind, has-kind}
 use Rattle.typing_rules.specs.Contexts.{Scope, empty, Hit, hit, miss, Context, findName}
 use Rattle.typing_rules.specs.Derivations.{Derives, DerivesBlock}
 use Rattle.typing_rules.specs.Labels.{Result, marks, Label, Labels, unlabelled}
-use Rattle.typing_rules.specs.Judge.{Out, ok, no, andThen, needs, formed, referred, judge, executeBlock}
+use Rattle.typing_rules.specs.Judge.{ok, formed, referred, judge, executeBlock}
 use Rattle.typing_rules.specs.Steps.{Step, structName, builtIn, heading, globalValue, structFields, body, distinctFields, distinctNames, FieldsFormed, formed-noField, formed-field, parameters, Unlabelled, StepRule, typ-stdecl, typ-builtin, typ-ftyp, typ-ggdecl, typ-tdeclok, typ-fdeclok, addName, addStruct, contextAfter}
 use Rattle.typing_rules.specs.Check.{isMissing, isMiss, fieldsFormed, runStep, rowsBegin}
 use Rattle.typing_rules.proofs.Claims.{File, Value, ScopeFits, fits-empty, fits-bind, fits-name, ContextFits, eraseScope, eraseNames, eraseContext, erase, Holds}
 use Rattle.typing_rules.proofs.LawsBridge.{eraseHit, name-erase, formed-value, erase-append, erase-long, holds-split, holds-join}
+use Rattle.typing_rules.proofs.LawsOutcome.{ok-is, then-ok, needs-ok}
 use Rattle.typing_rules.proofs.LawsGather.{expr-covered, block-covered}
 use Rattle.typing_rules.proofs.Complete.{complete}
 use Rattle.typing_rules.proofs.CompleteStmts.{complete-block}
@@ -63,22 +64,7 @@ StepStands T k (globalValue n x a) = Stands T (n + 1) a
 StepStands T k (structFields i) = i < length (T .structs)
 StepStands T k (body n t ps b) = (hasKind T t 6 ≡ true) × (length ps ≡ typeAt T t .c) × BlockStands T (n + 1 + length ps) b
 
--- tests and what they say
-needs-ok : {A : Type 0} (b : Bool) (p q : ℕ) (o : Out A) (a : A) (L : List (Label ℕ)) → needs b p q o ≡ ok a L → (b ≡ true) × (o ≡ ok a L)
-needs-ok true p q o a L e = (refl, e)
-needs-ok false p q o a L e = absurd (let z : _≡_ {A = ℕ} 0 1 = cc in omega arith)
-
-then-ok : {A B : Type 0} (o : Out A) (k : A → List (Label ℕ) → Out B) (b : B) (M : List (Label ℕ)) → andThen o k ≡ ok b M
-    → (a : A) × (L : List (Label ℕ)) × (o ≡ ok a L) × (k a L ≡ ok b M)
-then-ok (ok a L) k b M e = (a, L, refl, e)
-then-ok (no p q) k b M e = absurd (let z : _≡_ {A = ℕ} 0 1 = cc in omega arith)
-
-ok-value : {A : Type 0} {a b : A} {L M : List (Label ℕ)} → _≡_ {A = Out A} (ok a L) (ok b M) → a ≡ b
-ok-value e = cc
-
-ok-labels : {A : Type 0} {a b : A} {L M : List (Label ℕ)} → _≡_ {A = Out A} (ok a L) (ok b M) → L ≡ M
-ok-labels e = cc
-
+-- a lookup that finds nothing
 is-missing : (l : Lookup) → isMissing l ≡ true → l ≡ missing
 is-missing missing e = refl
 is-missing (found fs) e = absurd (let z : _≡_ {A = ℕ} 0 1 = cc in omega arith)
@@ -98,11 +84,13 @@ module _ (T : Tables) where
   function-value : (t : ℕ) → HasKind T t 6 → Value T t
   function-value t h = record { within = h .within; value = λ e. omega arith }
 
--- one struct more
-tabulate-more : {A : Type 0} (n : ℕ) (f : ℕ → A) → tabulate (suc n) f ≡ tabulate n f ++ (f n ∷ [])
+-- the first n, and one more
+pub tabulate-more : {A : Type 0} (n : ℕ) (f : ℕ → A) → tabulate n f ++ (f n ∷ []) ≡ tabulate (n + 1) f
 unfolding tabulate
 tabulate-more zero f = refl
-tabulate-more (suc n) f = ap (λ l. f 0 ∷ l) (tabulate-more n (λ i. f (suc i)))
+tabulate-more (suc n) f =
+    let e : suc (n + 1) ≡ suc n + 1 = omega arith in
+    ap (λ l. f 0 ∷ l) (tabulate-more n (λ i. f (suc i))) ∙ ap (λ k. tabulate k f) e
 
 one-longer : {A : Type 0} (l : List A) (a : A) → length (l ++ (a ∷ [])) ≡ suc (length l)
 one-longer l a = simp length-append (add-one (length l))
@@ -206,10 +194,6 @@ pub record RightStep (T : Tables) (C : Context ℕ) (s : Step) (B : Context ℕ)
   pub rule : (D : Labels Ty) → Holds D (rowsBegin s) (erase T L) → StepRule T (eraseContext T C) D s
   pub after : (D : Labels Ty) → Holds D (rowsBegin s) (erase T L) → contextAfter T (eraseContext T C) D s ≡ eraseContext T B
 
-right-as : {T : Tables} {C : Context ℕ} {s : Step} {A B : Context ℕ} {L M : List (Label ℕ)} → _≡_ {A = Out (Context ℕ)} (ok A L) (ok B M)
-    → RightStep T C s A L → RightStep T C s B M
-right-as {T} {C} {s} e r = subst₂ (λ x y. RightStep T C s x y) (ok-value e) (ok-labels e) r
-
 module _ (T : Tables) (F : File T) (C : Context ℕ) (f : ContextFits T C) where
   struct-fits : (i : ℕ) → StepStands T (length (C .structs)) (structName i) → ContextFits T (addStruct C (structOf T i))
   unfolding structsOf
@@ -217,8 +201,8 @@ module _ (T : Tables) (F : File T) (C : Context ℕ) (f : ContextFits T C) where
     names = f .names;
     structs =
         ap₂ (λ l k. l ++ (structOf T k ∷ [])) (f .structs) (h .0)
-        ∙ sym (tabulate-more (length (C .structs)) (structOf T))
-        ∙ ap (structsOf T) (sym (one-longer (C .structs) (structOf T i)));
+        ∙ tabulate-more (length (C .structs)) (structOf T)
+        ∙ ap (structsOf T) (sym (length-append (C .structs) (structOf T i ∷ [])));
     few = rw one-longer (omega arith);
   }
 
@@ -308,29 +292,29 @@ module _ (T : Tables) (F : File T) (C : Context ℕ) (f : ContextFits T C) where
       → RightStep T C s B L
   unfolding runStep
   sound-step (structName i) B L h e =
-      let (l, r) = needs-ok _ _ _ _ _ _ e in
-      right-as r (right-struct i h (is-missing _ l))
+      needs-ok _ _ _ _ e λ l r.
+      ok-is (RightStep T C (structName i)) r (right-struct i h (is-missing _ l))
   sound-step (builtIn i) B L h e =
-      let (l, r) = needs-ok _ _ _ _ _ _ e in
-      let (m, q) = needs-ok _ _ _ _ _ _ r in
-      right-as q (right-builtIn i h l m)
+      needs-ok _ _ _ _ e λ l r.
+      needs-ok _ _ _ _ r λ m q.
+      ok-is (RightStep T C (builtIn i)) q (right-builtIn i h l m)
   sound-step (heading n x t) B L h e =
-      let (l, r) = needs-ok _ _ _ _ _ _ e in
-      let (m, q) = needs-ok _ _ _ _ _ _ r in
-      right-as q (right-heading n x t h l m)
+      needs-ok _ _ _ _ e λ l r.
+      needs-ok _ _ _ _ r λ m q.
+      ok-is (RightStep T C (heading n x t)) q (right-heading n x t h l m)
   sound-step (globalValue n x a) B L h e =
-      let (t, M, j, r) = then-ok _ _ _ _ e in
-      let (m, q) = needs-ok _ _ _ _ _ _ r in
-      right-as q (right-global n x a t M h j m)
+      then-ok _ _ e λ t M j r.
+      needs-ok _ _ _ _ r λ m q.
+      ok-is (RightStep T C (globalValue n x a)) q (right-global n x a t M h j m)
   sound-step (structFields i) B L h e =
-      let (l, r) = needs-ok _ _ _ _ _ _ e in
-      let (m, q) = needs-ok _ _ _ _ _ _ r in
-      right-as q (right-fields i h l m)
+      needs-ok _ _ _ _ e λ l r.
+      needs-ok _ _ _ _ r λ m q.
+      ok-is (RightStep T C (structFields i)) q (right-fields i h l m)
   sound-step (body n t ps b) B L h e =
-      let (l, r) = needs-ok _ _ _ _ _ _ e in
-      let (p, M, j, w) = then-ok _ _ _ _ r in
-      let (m, q) = needs-ok _ _ _ _ _ _ w in
-      right-as q (right-body n t ps b p M h l j m)
+      needs-ok _ _ _ _ e λ l r.
+      then-ok _ _ r λ p M j w.
+      needs-ok _ _ _ _ w λ m q.
+      ok-is (RightStep T C (body n t ps b)) q (right-body n t ps b p M h l j m)
 
 -- what has a derivation is accepted with labels that the derivation has
 pub record AcceptedStep (T : Tables) (C : Context ℕ) (D : Labels Ty) (s : Step) : Type 0 where

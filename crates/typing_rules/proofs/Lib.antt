@@ -9,7 +9,7 @@ pub mod LawsFields
 pub mod LawsFit
 pub mod LawsFitStmts
 pub mod LawsGather
-pub mod LawsInvert
+pub mod LawsHolds
 pub mod LawsJudge
 pub mod LawsNumbers
 pub mod LawsOutcome

@@ -24,7 +24,8 @@ use Rattle.typing_rules.specs.Derivations.{At, AtAll, AtInits, Derives}
 use Rattle.typing_rules.specs.Judge.{ok, judge, judges, judgeInits, typedAs, plain, isKind, referred, isBelow, formed, hasDefault, eachBelow, argumentsBelow, number, fieldOf, initsBelow}
 use Rattle.typing_rules.proofs.Claims.{File, Value, ScopeFits, fits-bind, ContextFits, eraseScope, eraseContext, erase, Holds}
 use Rattle.typing_rules.proofs.LawsBridge.{typesOf, Values, values-none, values-also, eraseHit, find-erase, fresh-erase, name-erase, find-value, name-value, is-base, is-void, is-struct, is-array, is-function, is-nullable, array-parts, function-parts, default-is, base-is, base-value, below-sub, formed-value, formed-null, each-below, arguments-below, inits-below, member-value, field-found}
-use Rattle.typing_rules.proofs.LawsInvert.{ok-is, then-ok, needs-ok, named-ok, field-ok, declared-ok, labels-split}
+use Rattle.typing_rules.proofs.LawsOutcome.{ok-is, then-ok, needs-ok, named-ok, field-ok, declared-ok}
+use Rattle.typing_rules.proofs.LawsHolds.{labels-split}
 use Rattle.typing_rules.proofs.LawsSubtrees.{Ruled, at-null, at-literal, at-name, at-arrayLiteral, at-defaultArray, at-arrayWith, at-index, at-lengthOf, at-structLiteral, at-field, at-call, at-unary, at-binary, at-none, at-also, at-noInit, at-init}
 
 -- what an accepted expression says of every labelling that has its labels

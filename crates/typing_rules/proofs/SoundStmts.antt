@@ -20,7 +20,8 @@ use Rattle.typing_rules.specs.Derivations.{AtAll, Node, AtVars, at-var, 
 use Rattle.typing_rules.specs.Judge.{ok, markedAs, Done, done, isKind, referred, isBelow, argumentsBelow, judge, judges, assignsTo, executeVars, judgeCondition, execute, executeStep, executeBlock, executeAll}
 use Rattle.typing_rules.proofs.Claims.{File, Value, ScopeFits, fits-bind, ContextFits, eraseScope, eraseContext, erase, Holds}
 use Rattle.typing_rules.proofs.LawsBridge.{typesOf, fresh-erase, assigns-erase, is-base, is-void, is-function, is-nullable, function-parts, nullable-parts, below-sub, arguments-below}
-use Rattle.typing_rules.proofs.LawsOutcome.{IfOk, ok-says, needs-says, then-says, Labelled, parts, one-part, two-parts, three-parts}
+use Rattle.typing_rules.proofs.LawsOutcome.{IfOk, ok-says, needs-says, then-says}
+use Rattle.typing_rules.proofs.LawsHolds.{labels-split, Labelled, one-part, two-parts, three-parts}
 use Rattle.typing_rules.proofs.Sound.{Right, sound, RightAll, sounds}
 
 pub record RightBlock (T : Tables) (C : Context ℕ) (rt : ℕ) (b : Block) (n : ℕ) (Γ : Scope ℕ) (p : ℕ) (L : List (Label ℕ)) : Type 0 where
@@ -329,7 +330,7 @@ module _ {T : Tables} {C : Context ℕ} {rt n : ℕ} {Γ : Scope ℕ} (F : File 
     long = simp (length-append, r .long, e .long, v .long, w .long) (omega arith);
     says = λ D h.
         let (k, x, y, zu) = three-parts T D n L (sizeVars vs) (r .long) M (sizeCondition c) (e .long) (N ++ O) h in
-        let (z, u) = parts T D (n + 1 + sizeVars vs + sizeCondition c) (sizeStep s) N O (v .long) zu in
+        let (z, u) = labels-split T D (n + 1 + sizeVars vs + sizeCondition c) (sizeStep s) N O (v .long) zu in
         let B = before-is k in
         let chain : VarsChain D (n + 1) vs (D n .before) (eraseScope T Δ) = rw B (r .chain D x) in
         let rule = typ-for (eraseScope T Δ) q chain (e .holds D y) (v .goes D z) (marked-child w u refl) (ends-with k B) in
@@ -398,9 +399,9 @@ module _ {T : Tables} {C : Context ℕ} {rt n : ℕ} {Γ : Scope ℕ} where
   unfolding Chain
   right-then {L} {M} {s} {ss} {p} {q} {d} e r t = record {
     long = simp (length-append, r .long, t .long) (omega arith);
-    derives = λ D h. let (x, y) = parts T D n (sizeStmt s) L M (r .long) h in rules-then (r .says D x .derives) (t .derives D y);
+    derives = λ D h. let (x, y) = labels-split T D n (sizeStmt s) L M (r .long) h in rules-then (r .says D x .derives) (t .derives D y);
     chain = λ D h.
-        let (x, y) = parts T D n (sizeStmt s) L M (r .long) h in
+        let (x, y) = labels-split T D n (sizeStmt s) L M (r .long) h in
         (d .mark, eqb-true p 0 e, r .says D x .marked, rw (r .says D x .after) (t .chain D y));
   }
 

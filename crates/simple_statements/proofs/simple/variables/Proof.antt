@@ -6,7 +6,7 @@ use Prim.Native.Nat.{_-_}
 use lib.ListN.{length}
 use Rattle.answers.proofs.LawsAnswers.{answered}
 use Rattle.expressions.proofs.LawsMeets.{unlisted}
-use Rattle.simple_statements.proofs.LawsVariables.{WalkedVars, vars-start, vars-kind, vars-ready, vars-no, vars-again, vars-done}
+use Rattle.simple_statements.proofs.LawsForVars.{WalkedVars, vars-start, vars-kind, vars-ready, vars-no, vars-again, vars-done}
 use Rattle.simple_statements.proofs.simple.variables.Statement.{statement}
 use Rattle.simple_statements.proofs.simple.variables.Tie as tie
 

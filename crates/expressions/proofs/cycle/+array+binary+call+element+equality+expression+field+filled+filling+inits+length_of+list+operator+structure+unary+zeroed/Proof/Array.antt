@@ -14,7 +14,7 @@ use Rattle.type_index.proofs.formed.is_formed.Reads as is-formed-reads
 use Rattle.expressions.proofs.cycle.+array+binary+call+element+equality+expression+field+filled+filling+inits+length_of+list+operator+structure+unary+zeroed.Proof.Measures.{array-at, list-below}
 use Rattle.expressions.proofs.LawsMeets.{unlisted}
 use Rattle.expressions.proofs.LawsChild.{has-node}
-use Rattle.expressions.proofs.LawsLists.{array-type, array-entered, array-list, array-unformed, array-no, array-row, array-ok}
+use Rattle.expressions.proofs.LawsListRules.{array-type, array-entered, array-list, array-unformed, array-no, array-row, array-ok}
 
 abbrev claims : ℕ → array-lts.Claims
 claims t = (node-t-reads.Asked, node-t-reads.Learnt, type-a-reads.Asked, type-a-reads.Learnt, is-formed-reads.Asked, is-formed-reads.Learnt, refused-reads.Asked, refused-reads.Learnt, node-children-reads.Asked, node-children-reads.Learnt, list-below t, list.Post, typed-reads.Asked, typed-reads.Learnt)

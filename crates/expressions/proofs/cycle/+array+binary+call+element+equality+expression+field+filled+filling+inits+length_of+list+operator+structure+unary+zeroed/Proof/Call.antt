@@ -16,7 +16,7 @@ use Rattle.file_sections.proofs.records.type_kind.Reads as type-kind-reads
 use Rattle.expressions.proofs.cycle.+array+binary+call+element+equality+expression+field+filled+filling+inits+length_of+list+operator+structure+unary+zeroed.Proof.Measures.{call-at, expression-below, list-below}
 use Rattle.expressions.proofs.LawsMeets.{untyped, unlisted}
 use Rattle.expressions.proofs.LawsChild.{has-node, child-type}
-use Rattle.expressions.proofs.LawsLists.{call-first, call-no, call-sort, call-type, call-void, call-count, call-list, call-no-2, call-row, call-ok}
+use Rattle.expressions.proofs.LawsListRules.{call-first, call-no, call-sort, call-type, call-void, call-count, call-list, call-no-2, call-row, call-ok}
 
 abbrev claims : ℕ → call-lts.Claims
 claims t = (expression-below t, expression.Post, type-kind-reads.Asked, type-kind-reads.Learnt, refused-reads.Asked, refused-reads.Learnt, type-a-reads.Asked, type-a-reads.Learnt, type-c-reads.Asked, type-c-reads.Learnt, node-children-reads.Asked, node-children-reads.Learnt, type-b-reads.Asked, type-b-reads.Learnt, list-below t, list.Post, typed-reads.Asked, typed-reads.Learnt)

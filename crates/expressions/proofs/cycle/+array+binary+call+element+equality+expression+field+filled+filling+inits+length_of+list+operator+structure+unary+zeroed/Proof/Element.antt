@@ -13,7 +13,7 @@ use Rattle.expressions.proofs.cycle.+array+binary+call+element+equality
 use Rattle.expressions.proofs.LawsMeets.{untyped}
 use Rattle.expressions.proofs.LawsChild.{child-type, child-fine}
 use Rattle.expressions.proofs.LawsPairs.{element-first, element-no, element-sort, element-second, element-no-2, element-sort-2, element-given, element-ok}
-use Rattle.expressions.proofs.LawsLists.{row-fits}
+use Rattle.expressions.proofs.LawsListRules.{row-fits}
 
 abbrev claims : ℕ → element-lts.Claims
 claims t = (expression-below t, expression.Post, type-kind-reads.Asked, type-kind-reads.Learnt, refused-reads.Asked, refused-reads.Learnt, type-a-reads.Asked, type-a-reads.Learnt, typed-reads.Asked, typed-reads.Learnt)

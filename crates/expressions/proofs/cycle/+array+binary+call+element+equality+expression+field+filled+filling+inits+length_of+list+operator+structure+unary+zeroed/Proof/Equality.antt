@@ -12,7 +12,7 @@ use Rattle.expressions.proofs.cycle.+array+binary+call+element+equality
 use Rattle.expressions.proofs.LawsMeets.{untyped}
 use Rattle.expressions.proofs.LawsChild.{base-within, child-within, child-fine}
 use Rattle.expressions.proofs.LawsPairs.{binary-first, binary-no, binary-second, equality-no-2, equality-there, equality-back, equality-ok}
-use Rattle.expressions.proofs.LawsLists.{row-fits}
+use Rattle.expressions.proofs.LawsListRules.{row-fits}
 
 abbrev claims : ℕ → equality-lts.Claims
 claims t = (expression-below t, expression.Post, below-reads.Asked, below-reads.Learnt, refused-reads.Asked, refused-reads.Learnt, typed-reads.Asked, typed-reads.Learnt)

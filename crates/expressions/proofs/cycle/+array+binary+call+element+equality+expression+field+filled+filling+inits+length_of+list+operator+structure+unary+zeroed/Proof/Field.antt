@@ -15,7 +15,7 @@ use Rattle.expressions.proofs.cycle.+array+binary+call+element+equality
 use Rattle.expressions.proofs.LawsMeets.{untyped}
 use Rattle.expressions.proofs.LawsChild.{has-node, type-entered, child-within, child-type, child-fine}
 use Rattle.expressions.proofs.LawsSorts.{field-first, field-no, field-sort, field-unknown, field-within, field-ok}
-use Rattle.expressions.proofs.LawsLists.{row-fits}
+use Rattle.expressions.proofs.LawsListRules.{row-fits}
 
 abbrev claims : ℕ → field-lts.Claims
 claims t = (expression-below t, expression.Post, type-kind-reads.Asked, type-kind-reads.Learnt, refused-reads.Asked, refused-reads.Learnt, struct-record-reads.Asked, struct-record-reads.Learnt, node-x-reads.Asked, node-x-reads.Learnt, field-of-reads.Asked, field-of-reads.Learnt, typed-reads.Asked, typed-reads.Learnt)

@@ -17,7 +17,7 @@ use Rattle.type_index.proofs.formed.is_formed.Reads as is-formed-reads
 use Rattle.expressions.proofs.cycle.+array+binary+call+element+equality+expression+field+filled+filling+inits+length_of+list+operator+structure+unary+zeroed.Proof.Measures.{filled-at, expression-below, filling-below}
 use Rattle.expressions.proofs.LawsMeets.{untyped}
 use Rattle.expressions.proofs.LawsChild.{has-node, child-type}
-use Rattle.expressions.proofs.LawsLists.{row-fits}
+use Rattle.expressions.proofs.LawsListRules.{row-fits}
 use Rattle.expressions.proofs.LawsFilled.{filling-fine, filled-first, filled-some, filled-filling, filled-within, filled-array, filled-entered, filled-unformed, filled-no, filled-sort, filled-taken, filled-no-2, filled-ok}
 
 abbrev claims : ℕ → filled-lts.Claims

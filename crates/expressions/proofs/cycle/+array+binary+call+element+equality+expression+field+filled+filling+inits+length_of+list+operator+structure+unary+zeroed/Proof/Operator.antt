@@ -12,7 +12,7 @@ use Rattle.expressions.proofs.cycle.+array+binary+call+element+equality
 use Rattle.expressions.proofs.LawsMeets.{untyped}
 use Rattle.expressions.proofs.LawsChild.{child-type, child-fine}
 use Rattle.expressions.proofs.LawsPairs.{binary-first, binary-no, binary-second, operator-given, operator-sort, operator-no-2, operator-sort-2, operator-ok}
-use Rattle.expressions.proofs.LawsLists.{row-fits}
+use Rattle.expressions.proofs.LawsListRules.{row-fits}
 
 abbrev claims : ℕ → operator-lts.Claims
 claims t = (expression-below t, expression.Post, type-kind-reads.Asked, type-kind-reads.Learnt, refused-reads.Asked, refused-reads.Learnt, typed-reads.Asked, typed-reads.Learnt)

@@ -14,7 +14,7 @@ use Rattle.type_index.proofs.formed.struct_record.Reads as struct-record-reads
 use Rattle.expressions.proofs.cycle.+array+binary+call+element+equality+expression+field+filled+filling+inits+length_of+list+operator+structure+unary+zeroed.Proof.Measures.{structure-at, inits-below}
 use Rattle.expressions.proofs.LawsMeets.{unlisted}
 use Rattle.expressions.proofs.LawsChild.{has-node, type-entered}
-use Rattle.expressions.proofs.LawsLists.{struct-within, struct-low, struct-missing, struct-named, struct-names, struct-inits, struct-no, struct-row, struct-ok}
+use Rattle.expressions.proofs.LawsListRules.{struct-within, struct-low, struct-missing, struct-named, struct-names, struct-inits, struct-no, struct-row, struct-ok}
 
 abbrev claims : ℕ → structure-lts.Claims
 claims t = (node-t-reads.Asked, node-t-reads.Learnt, struct-record-reads.Asked, struct-record-reads.Learnt, refused-reads.Asked, refused-reads.Learnt, names-fit-reads.Asked, names-fit-reads.Learnt, node-children-reads.Asked, node-children-reads.Learnt, inits-below t, inits.Post, typed-reads.Asked, typed-reads.Learnt)

@@ -14,7 +14,7 @@ use Rattle.expressions.proofs.cycle.+array+binary+call+element+equality
 use Rattle.expressions.proofs.LawsMeets.{untyped}
 use Rattle.expressions.proofs.LawsChild.{has-node, child-type, child-fine}
 use Rattle.expressions.proofs.LawsSorts.{unary-first, unary-no, unary-given, unary-sort, unary-ok}
-use Rattle.expressions.proofs.LawsLists.{row-fits}
+use Rattle.expressions.proofs.LawsListRules.{row-fits}
 
 abbrev claims : ℕ → unary-lts.Claims
 claims t = (expression-below t, expression.Post, node-x-reads.Asked, node-x-reads.Learnt, unary-type-reads.Asked, unary-type-reads.Learnt, type-kind-reads.Asked, type-kind-reads.Learnt, refused-reads.Asked, refused-reads.Learnt, typed-reads.Asked, typed-reads.Learnt)

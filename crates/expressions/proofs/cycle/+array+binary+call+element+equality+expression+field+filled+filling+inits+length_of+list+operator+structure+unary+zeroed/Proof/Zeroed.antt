@@ -16,7 +16,7 @@ use Rattle.expressions.proofs.cycle.+array+binary+call+element+equality
 use Rattle.expressions.proofs.LawsMeets.{untyped}
 use Rattle.expressions.proofs.LawsChild.{has-node, has-type, type-entered, child-type, child-fine}
 use Rattle.expressions.proofs.LawsSorts.{default-array, default-within, default-unformed, default-first, default-no, default-sort, default-none, default-ok}
-use Rattle.expressions.proofs.LawsLists.{row-fits}
+use Rattle.expressions.proofs.LawsListRules.{row-fits}
 
 abbrev claims : ℕ → zeroed-lts.Claims
 claims t = (node-t-reads.Asked, node-t-reads.Learnt, type-a-reads.Asked, type-a-reads.Learnt, is-formed-reads.Asked, is-formed-reads.Learnt, refused-reads.Asked, refused-reads.Learnt, expression-below t, expression.Post, type-kind-reads.Asked, type-kind-reads.Learnt, has-default-reads.Asked, has-default-reads.Learnt, typed-reads.Asked, typed-reads.Learnt)

@@ -11,7 +11,7 @@ use Rattle.statements.proofs.cycle.block.Reads as block
 use Rattle.bindings.proofs.leave.Reads as leave-reads
 use Rattle.simple_statements.proofs.marks.mark_of.Reads as mark-of-reads
 use Rattle.statements.proofs.cycle.+arms+block+for_loop+if_else+if_null+statement+statements+step+turn+while_loop.Proof.Measures.{arms-at, block-below}
-use Rattle.statements.proofs.LawsBlocks.{unrefused}
+use Rattle.expressions.proofs.LawsMeets.{unrefused}
 use Rattle.statements.proofs.LawsArms.{arms-first, arms-no, arms-left, arms-asked, arms-no-2, arms-goes, arms-ok}
 
 abbrev claims : ℕ → arms-lts.Claims

@@ -12,7 +12,7 @@ use Rattle.file_sections.proofs.records.node_children.Reads as node-children-re
 use Rattle.simple_statements.proofs.marks.ends.Reads as ends-reads
 use Rattle.simple_statements.proofs.marks.mark_of.Reads as mark-of-reads
 use Rattle.statements.proofs.cycle.+arms+block+for_loop+if_else+if_null+statement+statements+step+turn+while_loop.Proof.Measures.{block-at, statements-below}
-use Rattle.statements.proofs.LawsBlocks.{unrefused}
+use Rattle.expressions.proofs.LawsMeets.{unrefused}
 use Rattle.statements.proofs.LawsBlock.{block-node, block-call, block-refused, block-left, block-ends, block-ok}
 
 abbrev claims : ℕ → block-lts.Claims

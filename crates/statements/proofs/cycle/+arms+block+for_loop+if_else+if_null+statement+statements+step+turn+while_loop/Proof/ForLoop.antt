@@ -13,8 +13,7 @@ use Rattle.simple_statements.proofs.marks.ends.Reads as ends-reads
 use Rattle.simple_statements.proofs.simple.condition.Reads as condition-reads
 use Rattle.simple_statements.proofs.simple.variables.Reads as variables-reads
 use Rattle.statements.proofs.cycle.+arms+block+for_loop+if_else+if_null+statement+statements+step+turn+while_loop.Proof.Measures.{for-loop-at, turn-below}
-use Rattle.expressions.proofs.LawsMeets.{unlisted}
-use Rattle.statements.proofs.LawsBlocks.{unrefused}
+use Rattle.expressions.proofs.LawsMeets.{unlisted, unrefused}
 use Rattle.statements.proofs.LawsFor.{for-count, for-first, for-no, for-second, for-no-2, for-third, for-no-3, for-leaves, for-ends, for-ok}
 use Rattle.statements.proofs.LawsStatement.{stmt-node}
 

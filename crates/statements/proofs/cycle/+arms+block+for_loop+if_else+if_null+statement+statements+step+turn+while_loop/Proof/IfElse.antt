@@ -13,8 +13,7 @@ use Rattle.file_sections.proofs.records.type_kind.Reads as type-kind-reads
 use Rattle.simple_statements.proofs.marks.ends.Reads as ends-reads
 use Rattle.simple_statements.proofs.marks.mark_of.Reads as mark-of-reads
 use Rattle.statements.proofs.cycle.+arms+block+for_loop+if_else+if_null+statement+statements+step+turn+while_loop.Proof.Measures.{if-else-at, arms-below}
-use Rattle.expressions.proofs.LawsMeets.{untyped}
-use Rattle.statements.proofs.LawsBlocks.{unrefused}
+use Rattle.expressions.proofs.LawsMeets.{untyped, unrefused}
 use Rattle.statements.proofs.LawsIfs.{if-first, if-no, if-type, if-second, if-sort, if-no-2, if-ends, if-ok}
 
 abbrev claims : ℕ → if-else-lts.Claims

@@ -17,8 +17,7 @@ use Rattle.simple_statements.proofs.marks.ends.Reads as ends-reads
 use Rattle.simple_statements.proofs.marks.mark_of.Reads as mark-of-reads
 use Rattle.subtyping.proofs.below.below.Reads as below-reads
 use Rattle.statements.proofs.cycle.+arms+block+for_loop+if_else+if_null+statement+statements+step+turn+while_loop.Proof.Measures.{if-null-at, arms-below}
-use Rattle.expressions.proofs.LawsMeets.{untyped}
-use Rattle.statements.proofs.LawsBlocks.{unrefused}
+use Rattle.expressions.proofs.LawsMeets.{untyped, unrefused}
 use Rattle.statements.proofs.LawsIfs.{null-first, null-node, null-no, null-type, null-bindable, null-second, null-sort, null-asked, null-below, null-no-2, null-ends, null-ok}
 
 abbrev claims : ℕ → if-null-lts.Claims

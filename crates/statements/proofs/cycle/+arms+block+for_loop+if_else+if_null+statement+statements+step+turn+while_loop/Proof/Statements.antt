@@ -11,7 +11,7 @@ use Rattle.answers.proofs.answer.refused.Reads as refused-reads
 use Rattle.simple_statements.proofs.marks.with_mark.Reads as with-mark-reads
 use Rattle.simple_statements.proofs.marks.mark_of.Reads as mark-of-reads
 use Rattle.statements.proofs.cycle.+arms+block+for_loop+if_else+if_null+statement+statements+step+turn+while_loop.Proof.Measures.{statements-at, statement-below}
-use Rattle.statements.proofs.LawsBlocks.{unrefused}
+use Rattle.expressions.proofs.LawsMeets.{unrefused}
 use Rattle.statements.proofs.LawsRun.{WalkedStmts, run-start, run-forward, run-stops, run-ready, run-asked, run-no, run-again, run-done}
 use lib.ListN.{length}
 

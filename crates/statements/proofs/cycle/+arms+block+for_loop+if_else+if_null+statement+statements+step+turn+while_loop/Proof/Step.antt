@@ -14,7 +14,7 @@ use Rattle.file_sections.proofs.records.node_kind.Reads as node-kind-reads
 use Rattle.simple_statements.proofs.marks.ends.Reads as ends-reads
 use Rattle.simple_statements.proofs.marks.mark_of.Reads as mark-of-reads
 use Rattle.statements.proofs.cycle.+arms+block+for_loop+if_else+if_null+statement+statements+step+turn+while_loop.Proof.Measures.{step-at, statement-below}
-use Rattle.statements.proofs.LawsBlocks.{unrefused}
+use Rattle.expressions.proofs.LawsMeets.{unrefused}
 use Rattle.statements.proofs.LawsStep.{step-node, step-fits, step-absent, step-first, step-no, step-returns, step-leaves, step-ok}
 
 abbrev claims : ℕ → step-lts.Claims

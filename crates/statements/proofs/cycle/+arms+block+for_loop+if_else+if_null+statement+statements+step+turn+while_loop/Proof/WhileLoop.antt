@@ -12,9 +12,8 @@ use Rattle.expressions.proofs.cycle.expression.Reads as expression-reads
 use Rattle.file_sections.proofs.records.type_kind.Reads as type-kind-reads
 use Rattle.simple_statements.proofs.marks.ends.Reads as ends-reads
 use Rattle.statements.proofs.cycle.+arms+block+for_loop+if_else+if_null+statement+statements+step+turn+while_loop.Proof.Measures.{while-loop-at, block-below}
-use Rattle.expressions.proofs.LawsMeets.{untyped}
+use Rattle.expressions.proofs.LawsMeets.{untyped, unrefused}
 use Rattle.expressions.proofs.LawsChild.{child-type}
-use Rattle.statements.proofs.LawsBlocks.{unrefused}
 use Rattle.statements.proofs.LawsWhile.{while-first, while-no, while-sort, while-second, while-no-2, while-ends, while-ok}
 
 abbrev claims : ℕ → while-loop-lts.Claims

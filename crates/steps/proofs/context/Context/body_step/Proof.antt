@@ -1,7 +1,7 @@
 -- `Context::body_step` meets its contract. Assumes nothing.
 use borrow.Author.Needs.{needs}
 use native.Mathlib.Omega.{arith}
-use Rattle.statements.proofs.LawsBlocks.{unrefused}
+use Rattle.expressions.proofs.LawsMeets.{unrefused}
 use Rattle.steps.proofs.LawsBody.{unreturned, body-node, body-type, body-parameters, body-numbers, body-taken, body-block, body-no, body-open, body-scoped, body-fits, body-ok}
 use Rattle.steps.proofs.context.Context.body_step.Statement.{statement}
 use Rattle.steps.proofs.context.Context.body_step.Tie as tie

@@ -29,24 +29,14 @@ use Rattle.answers.specs.declared.leaves.Expected.{Expected}
 use Rattle.answers.specs.declared.leaves.Expected.the-variants.{Each, Run}
 use Rattle.answers.specs.Answers.{withRow}
 use Rattle.expressions.specs.Contract.{contextOf, Fine, After, Typing, Listing, Meets, accepts, refuses, Answers, Ready, Told, expectedBelow, listed, ReadyList, ToldList, initialized, ReadyInits, ToldInits}
-use Rattle.expressions.proofs.LawsMeets.{Untyped, Unlisted, stops, passes, child-ok, list-no, list-ok}
-use Rattle.expressions.proofs.LawsAfter.{same-more, fine-stack, typing-of, after-append, rule-typed}
+use Rattle.expressions.proofs.LawsMeets.{Untyped, Unlisted, stops, passes, child-ok, list-no, list-ok, then-tested, child-no}
+use Rattle.expressions.proofs.LawsAfter.{same-more, fine-stack, typing-of, after-append, rule-typed, ready}
 use Rattle.expressions.proofs.LawsChild.{child-within, has-type, kind-within, element-within, returned-within, type-entered, formed-is, parameters-within}
 use Rattle.expressions.proofs.LawsList.{exprIn, judgedIn, listedIn, listed-fine}
 use Rattle.expressions.proofs.LawsInits.{initsIn, fitsIn, initializedIn, initialized-fine}
 use Rattle.expressions.proofs.LawsLabels.{expr-long, expr-closed}
 use Rattle.expressions.proofs.LawsRules.{First, first-ready, first-no, first-sort}
 use Rattle.expressions.proofs.LawsShape.{on-array, on-struct, on-call, stands-end}
-
--- a premise on a list, tested within the list's part, then what goes on with it
-pub then-tested : {A B : Type 0} {Q : B → List (Label ℕ) → Type 0} {r : Judged} (o : Out A) (f : A → Bool) (p q : ℕ) (k : A → List (Label ℕ) → Out B)
-    → Meets Q r (andThen (andThen o λ a L. needs (f a) p q (ok a L)) k) → Meets Q r (andThen o λ a L. needs (f a) p q (k a L))
-then-tested {A} {B} {Q} {r} (ok a L) f p q k m = go (f a) m
-  where
-    go : (b : Bool) → Meets Q r (andThen (needs b p q (ok a L)) k) → Meets Q r (needs b p q (k a L))
-    go true h = h
-    go false h = h
-then-tested (no i j) f p q k m = m
 
 module _ {F : List ℕ} {S : Sections} {X : List ℕ} {base : ℕ} where
   -- the row of a node of the file can be written

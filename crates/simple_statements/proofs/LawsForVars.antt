@@ -1,7 +1,6 @@
 -- The loop over the vars of a for: what holds after i of them, and the answers of its returns. Assumes nothing.
 use mathlib.Core.Path.{_≡_, refl, ap, sym, subst, _∙_}
-use mathlib.Core.Bool.{Bool, true, false}
-use mathlib.Core.List.{List, [], _++_, append-nil, append-assoc}
+use mathlib.Core.List.{List, [], _++_, append-nil}
 use Prim.Native.Nat.{ℕ, _+_, _≤_, _<_}
 use native.Mathlib.Omega.{arith}
 use lib.ListN.{length, length-append}
@@ -10,54 +9,33 @@ use Rattle.oat.specs.Syntax.{Expr, size, Vars, noVar, nextVar, sizeVars, countV
 use Rattle.oat.specs.Nodes.{VarsStand, StmtStands}
 use Rattle.typing_rules.specs.Contexts.{Scope, binds, isFresh, Context}
 use Rattle.typing_rules.specs.Labels.{Label}
-use Rattle.typing_rules.specs.Judge.{Out, ok, no, andThen, needs, ends, judge, Done, executeVars, execute}
-use Rattle.typing_rules.proofs.LawsInvert.{ok-is, then-ok, needs-ok}
+use Rattle.typing_rules.specs.Judge.{Out, ok, andThen, ends, judge, Done, executeVars, execute}
+use Rattle.typing_rules.proofs.LawsOutcome.{ok-is, then-ok, needs-ok, then-needs, afterRun, run-none, run-more}
 use Rattle.file_sections.specs.declared.Sections.{Sections}
 use Rattle.file_sections.specs.Layout.{tablesOf}
 use Rattle.file_sections.proofs.LawsRecords.{nodes-long}
 use Rattle.type_index.specs.Index.{declared}
 use Rattle.bindings.specs.Bindings.{entryOf, scopeOf, Same}
-use Rattle.bindings.proofs.LawsBindings.{names-same, same-trans}
+use Rattle.bindings.proofs.LawsBindings.{names-same}
 use Rattle.answers.specs.declared.answer.Judgement.the-variants.{GoesOn}
 use Rattle.answers.specs.declared.answer.Judged.{Judged}
 use Rattle.answers.specs.Answers.{AnswerIs}
-use Rattle.expressions.specs.Contract.{contextOf, RowsAt, After, Meets, accepts, refuses}
-use Rattle.expressions.proofs.LawsMeets.{Unlisted}
-use Rattle.expressions.proofs.LawsAfter.{rows-kept, after-none}
-use Rattle.expressions.proofs.LawsLabels.{Closed, closed-none, closed-append, rows-append}
+use Rattle.expressions.specs.Contract.{contextOf, After, Meets, accepts, refuses}
+use Rattle.expressions.proofs.LawsMeets.{Unlisted, goes-unrefused, part-of}
+use Rattle.expressions.proofs.LawsAfter.{after-none}
+use Rattle.expressions.proofs.LawsLabels.{Closed, closed-none, closed-append}
 use Rattle.simple_statements.specs.Contract.{marked, Marking, Declaring, ReadyStmt, ToldAny, ReadyVars, ToldVars}
 use Rattle.simple_statements.proofs.LawsLabels.{stmt-long, stmt-closed}
-
--- one part after another; the first leaves a scope of the height h, the second one of the height i
-pub after-both : {F : List ℕ} {S : Sections} {X : List ℕ} {base : ℕ} {L M : List (Label ℕ)} {n k j s h i : ℕ} {R W R₁ W₁ K₁ R₂ W₂ K₂ : List ℕ} → length L ≡ k → Closed L → s ≤ h
-    → After F S X base L n k s h R W R₁ W₁ K₁ → After F S X base M (n + k) j h i R₁ W₁ R₂ W₂ K₂ → After F S X base (L ++ M) n (k + j) s i R W R₂ W₂ K₂
-after-both {F} {S} {X} {base} {L} {M} {n} {k} {j} {s} {h} {i} {R} {W} {R₁} {W₁} {K₁} {R₂} e c l a b =
-    record {
-      rows = rows-append R₂ n L M c (rows-kept R₁ R₂ n L (λ m p q. b .kept .before m (omega (arith, e, q))) (a .rows))
-          (subst (λ m. RowsAt R₂ (n + m) M) (sym e) (b .rows));
-      kept = record {
-        before = λ m p. b .kept .before m (omega arith) ∙ a .kept .before m p;
-        after = λ m p. b .kept .after m (omega arith) ∙ a .kept .after m (omega arith);
-      };
-      same = same-trans (entryOf (tablesOf F S) s) (entryOf (tablesOf F S) h) (omega arith) (a .same) (b .same);
-      fine = b .fine;
-    }
-
--- a test within what comes after it
-then-needs : {A B D : Type 0} (o : Out A) (b : Bool) (p q : ℕ) (f : A → List (Label ℕ) → Out B) (k : B → List (Label ℕ) → Out D)
-    → andThen o (λ t L. needs b p q (andThen (f t L) k)) ≡ andThen (andThen o λ t L. needs b p q (f t L)) k
-then-needs (no i j) b p q f k = refl
-then-needs (ok t L) true p q f k = refl
-then-needs (ok t L) false p q f k = refl
+use Rattle.simple_statements.proofs.LawsMarks.{after-both}
 
 -- vars after a first one
 vars-next : (T : Tables) (C : Context ℕ) (rt x : ℕ) (a : Expr) (vs : Vars) (n : ℕ) (Γ : Scope ℕ)
     → executeVars T C (nextVar x a vs) n Γ
-    ≡ andThen (execute T C rt (var x a) n Γ) λ d L. andThen (executeVars T C vs (n + 1 + size a) (d .scope)) λ Δ M. ok Δ (L ++ M)
+    ≡ andThen (execute T C rt (var x a) n Γ) λ d L. afterRun L (executeVars T C vs (n + 1 + size a) (d .scope))
 unfolding executeVars execute
 vars-next T C rt x a vs n Γ =
-    then-needs (judge T C a (n + 1) Γ) (isFresh x Γ) 7 n (λ t L. ends 0 Γ (binds Γ x t n) L)
-    (λ d L. andThen (executeVars T C vs (n + 1 + size a) (d .scope)) λ Δ M. ok Δ (L ++ M))
+    sym (then-needs (judge T C a (n + 1) Γ) (λ t. isFresh x Γ) 7 n (λ t L. ends 0 Γ (binds Γ x t n) L)
+    (λ d L. afterRun L (executeVars T C vs (n + 1 + size a) (d .scope))))
 
 -- a var goes on
 var-mark : (T : Tables) (C : Context ℕ) (rt x : ℕ) (a : Expr) (n : ℕ) (Γ : Scope ℕ) (d : Done) (L : List (Label ℕ)) → execute T C rt (var x a) n Γ ≡ ok d L → d .mark ≡ 0
@@ -68,28 +46,11 @@ var-mark T C rt x a n Γ d L j =
     ok-is (λ d L. d .mark ≡ 0) k₁ refl
 
 module _ {F : List ℕ} {S : Sections} {X : List ℕ} {base n k s : ℕ} {R W R₁ W₁ K₁ : List ℕ} {r : Judged} where
-  -- a statement that goes on, or none that is accepted
+  -- a statement that is accepted goes on: one that does not is refused
   marking-no : {A D : Type 0} {Q : D → List (Label ℕ) → Type 0} (o : Out Done) (f : Done → List (Label ℕ) → Out A) (e : A → List (Label ℕ) → Out D) → ((d : Done) (L : List (Label ℕ)) → o ≡ ok d L → d .mark ≡ 0)
       → Unlisted r → Meets (Marking F S X base n k s R W R₁ W₁ K₁ r) r o → Meets Q r (andThen (andThen o f) e)
   marking-no o f e h u (accepts d L p) = absurd (u .never (p .mark ∙ ap marked (h d L refl)))
   marking-no o f e h u (refuses p q j) = refuses p q j
-
-  pub marking-of : (o : Out Done) → Meets (Marking F S X base n k s R W R₁ W₁ K₁ r) r o → r .judgement ≡ GoesOn
-      → (d : Done) × (L : List (Label ℕ)) × (o ≡ ok d L) × Marking F S X base n k s R W R₁ W₁ K₁ r d L
-  marking-of o (accepts d L p) y = (d, L, refl, p)
-  marking-of o (refuses p q e) y = absurd (let z : _≡_ {A = ℕ} 0 1 = cc in omega arith)
-
--- the outcome of the vars after those so far
-abbrev afterThose : List (Label ℕ) → Out (Scope ℕ) → Out (Scope ℕ)
-afterThose L o = andThen o λ Δ M. ok Δ (L ++ M)
-
-those-none : (o : Out (Scope ℕ)) → o ≡ afterThose [] o
-those-none (ok Δ M) = refl
-those-none (no p q) = refl
-
-those-more : (L M : List (Label ℕ)) (o : Out (Scope ℕ)) → afterThose L (afterThose M o) ≡ afterThose (L ++ M) o
-those-more L M (ok Δ N) = cc (append-assoc L M N)
-those-more L M (no p q) = refl
 
 -- the vars in the context of W, from the scope of the height s of W₁ on
 abbrev varsIn : List ℕ → Sections → (W W₁ : List ℕ) → (base s : ℕ) → Vars → ℕ → Out (Scope ℕ)
@@ -117,7 +78,7 @@ pub record PrefixVars (F : List ℕ) (S : Sections) (X : List ℕ) (base n s : �
   pub high : h ≤ s + length labels
   pub after : After F S X base labels n (length labels) s h R W R₁ W₁ K₁
   pub executed : executeVars (tablesOf F S) (contextOf (tablesOf F S) W base) vs n (scopeOf (tablesOf F S) W base s)
-      ≡ andThen (executeVars (tablesOf F S) (contextOf (tablesOf F S) W base) rest m (scopeOf (tablesOf F S) W₁ base h)) λ Δ M. ok Δ (labels ++ M)
+      ≡ afterRun labels (executeVars (tablesOf F S) (contextOf (tablesOf F S) W base) rest m (scopeOf (tablesOf F S) W₁ base h))
 
 pub record WalkedVars (F : List ℕ) (S : Sections) (X : List ℕ) (base n s : ℕ) (R W : List ℕ) (left m h i : ℕ) (R₁ W₁ K₁ : List ℕ) : Type 0 where
   pub part : (vs : Vars) → VarsStand (tablesOf F S) n vs → countVars vs ≡ left → PrefixVars F S X base n s R W left m h i R₁ W₁ K₁ vs
@@ -136,7 +97,7 @@ module _ {F : List ℕ} {S : Sections} {X R W : List ℕ} {base n s left m h i :
   -- one more var
   part-more : {R₂ W₂ K₂ : List ℕ} {r : Judged} (x : ℕ) (a : Expr) (rs : Vars) → VarsStand (tablesOf F S) m (nextVar x a rs) → countVars (nextVar x a rs) + i ≡ left
       → sizeVars vs ≡ length (p .labels) + sizeVars (nextVar x a rs)
-      → varsIn F S W W base s vs n ≡ afterThose (p .labels) (varsIn F S W W₁ base h (nextVar x a rs) m)
+      → varsIn F S W W base s vs n ≡ afterRun (p .labels) (varsIn F S W W₁ base h (nextVar x a rs) m)
       → (d : Done) (M : List (Label ℕ)) → execute (tablesOf F S) (contextOf (tablesOf F S) W base) 0 (var x a) m (scopeOf (tablesOf F S) W₁ base h) ≡ ok d M
       → Marking F S X base m (sizeStmt (var x a)) h R₁ W₁ R₂ W₂ K₂ r d M
       → PrefixVars F S X base n s R W left (r .at .node) (r .at .scope) (i + 1) R₂ W₂ K₂ vs
@@ -160,11 +121,11 @@ module _ {F : List ℕ} {S : Sections} {X R W : List ℕ} {base n s left m h i :
         after = subst (λ k. After F S X base (p .labels ++ M) n k s (r .at .scope) R W R₂ W₂ K₂) (sym both)
             (after-both refl (p .closed) (p .low) (p .after) (subst (λ k. After F S X base M k (sizeStmt (var x a)) h (r .at .scope) R₁ W₁ R₂ W₂ K₂) (p .reached) (v .after)));
         executed = j
-            ∙ ap (afterThose (p .labels)) (vars-next T C 0 x a rs m Γ
-            ∙ ap (λ o. andThen o λ e L. andThen (executeVars T C rs (m + 1 + size a) (e .scope)) λ Δ N. ok Δ (L ++ N)) q)
-            ∙ those-more (p .labels) M (executeVars T C rs (m + 1 + size a) (d .scope))
-            ∙ ap (λ k. afterThose (p .labels ++ M) (executeVars T C rs k (d .scope))) there
-            ∙ ap (λ E. afterThose (p .labels ++ M) (executeVars T C rs (r .at .node) E)) (sym (v .scope));
+            ∙ ap (afterRun (p .labels)) (vars-next T C 0 x a rs m Γ
+            ∙ ap (λ o. andThen o λ e L. afterRun L (executeVars T C rs (m + 1 + size a) (e .scope))) q)
+            ∙ run-more (p .labels) M (executeVars T C rs (m + 1 + size a) (d .scope))
+            ∙ ap (λ k. afterRun (p .labels ++ M) (executeVars T C rs k (d .scope))) there
+            ∙ ap (λ E. afterRun (p .labels ++ M) (executeVars T C rs (r .at .node) E)) (sym (v .scope));
       }
 
   module _ (done : left ≤ i) where
@@ -172,7 +133,7 @@ module _ {F : List ℕ} {S : Sections} {X R W : List ℕ} {base n s left m h i :
     all-executed : varsIn F S W W base s vs n ≡ ok (scopeOf (tablesOf F S) W₁ base h) (p .labels)
     unfolding executeVars
     all-executed = p .executed ∙
-        on-none (λ rs. afterThose (p .labels) (varsIn F S W W₁ base h rs m) ≡ ok (scopeOf (tablesOf F S) W₁ base h) (p .labels))
+        on-none (λ rs. afterRun (p .labels) (varsIn F S W W₁ base h rs m) ≡ ok (scopeOf (tablesOf F S) W₁ base h) (p .labels))
         (cc (append-nil (p .labels))) (p .rest) (omega (arith, p .counted))
 
     all-sized : sizeVars vs ≡ length (p .labels)
@@ -207,7 +168,7 @@ module _ {F : List ℕ} {S : Sections} {X R W K : List ℕ} {base n s left : ℕ
           low = omega arith;
           high = omega arith;
           after = after-none n (g .fine);
-          executed = those-none _;
+          executed = run-none _;
         };
       }
 
@@ -241,9 +202,9 @@ module _ {F : List ℕ} {S : Sections} {X R W K : List ℕ} {base n s left : ℕ
                 → Meets (Declaring F S X base n (sizeVars vs) s R W R₂ W₂ K₂ r₁) r₁ (varsIn F S W W base s vs n)
             go vs p =
                 subst (Meets (Declaring F S X base n (sizeVars vs) s R W R₂ W₂ K₂ r₁) r₁) (sym (p .executed))
-                (on-some (λ rs. VarsStand (tablesOf F S) m rs → Meets (Declaring F S X base n (sizeVars vs) s R W R₂ W₂ K₂ r₁) r₁ (afterThose (p .labels) (varsIn F S W W₁ base h rs m)))
+                (on-some (λ rs. VarsStand (tablesOf F S) m rs → Meets (Declaring F S X base n (sizeVars vs) s R W R₂ W₂ K₂ r₁) r₁ (afterRun (p .labels) (varsIn F S W W₁ base h rs m)))
                 (λ x a rs st.
-                subst (λ o. Meets (Declaring F S X base n (sizeVars vs) s R W R₂ W₂ K₂ r₁) r₁ (afterThose (p .labels) o))
+                subst (λ o. Meets (Declaring F S X base n (sizeVars vs) s R W R₂ W₂ K₂ r₁) r₁ (afterRun (p .labels) o))
                 (sym (vars-next (tablesOf F S) (contextOf (tablesOf F S) W base) 0 x a rs m (scopeOf (tablesOf F S) W₁ base h)))
                 (marking-no _ _ _ (var-mark (tablesOf F S) (contextOf (tablesOf F S) W base) 0 x a m (scopeOf (tablesOf F S) W₁ base h)) u
                 (retell-var (p .after .same) (g .fine .above) m₁ x a (st .0, st .1))))
@@ -256,10 +217,10 @@ module _ {F : List ℕ} {S : Sections} {X R W K : List ℕ} {base n s left : ℕ
             go vs p =
                 on-some
                 (λ rs. VarsStand (tablesOf F S) m rs → countVars rs + i ≡ left → sizeVars vs ≡ length (p .labels) + sizeVars rs
-                → varsIn F S W W base s vs n ≡ afterThose (p .labels) (varsIn F S W W₁ base h rs m)
+                → varsIn F S W W base s vs n ≡ afterRun (p .labels) (varsIn F S W W₁ base h rs m)
                 → PrefixVars F S X base n s R W left (r₁ .at .node) (r₁ .at .scope) (i + 1) R₂ W₂ K₂ vs)
                 (λ x a rs st c z j.
-                let (d, M, q, v) = marking-of _ (retell-var (p .after .same) (g .fine .above) m₁ x a (st .0, st .1)) y in
+                let (d, M, q, v) = part-of _ (retell-var (p .after .same) (g .fine .above) m₁ x a (st .0, st .1)) (goes-unrefused y) in
                 part-more p x a rs st c z j d M q v)
                 (p .rest) (omega (arith, p .counted, more)) (p .stand) (p .counted) (p .sized) (p .executed)
 

@@ -1,0 +1,107 @@
+-- Parts of a statement: a part's mark against its answer, a scope that is left, one part after another, and what a later part sees of the
+-- scope before it. Assumes nothing.
+use mathlib.Core.Path.{_≡_, refl, ap, sym, subst, _∙_}
+use mathlib.Core.Bool.{Bool, true, false}
+use mathlib.Core.List.{List, [], _∷_, _++_}
+use Prim.Native.Nat.{ℕ, zero, suc, _+_, _≤_}
+use native.Mathlib.Omega.{arith}
+use lib.ListN.{length}
+use lib.Dec.{eqb}
+use Rattle.oat.specs.Basics.{pick}
+use Rattle.oat.specs.Syntax.{Stmt, Block, sizeStmt, sizeBlock}
+use Rattle.oat.specs.Nodes.{StmtStands, BlockStands}
+use Rattle.typing_rules.specs.Contexts.{Scope, Context}
+use Rattle.typing_rules.specs.Labels.{Label}
+use Rattle.typing_rules.specs.Judge.{Out, andThen, execute, executeBlock}
+use Rattle.typing_rules.specs.Check.{nextResult}
+use Rattle.file_sections.specs.declared.Sections.{Sections}
+use Rattle.file_sections.specs.Layout.{tablesOf}
+use Rattle.type_index.specs.Index.{declared}
+use Rattle.bindings.specs.Bindings.{entryOf, scopeOf, Scoped, Same}
+use Rattle.bindings.proofs.LawsBindings.{scope-same, names-same, same-less}
+use Rattle.answers.specs.declared.answer.Judgement.{Judgement}
+use Rattle.answers.specs.declared.answer.Judgement.the-variants.{GoesOn, Returns, Refused}
+use Rattle.answers.specs.declared.answer.Judged.{Judged}
+use Rattle.expressions.specs.Contract.{contextOf, After, Meets}
+use Rattle.expressions.proofs.LawsMeets.{hands-up}
+use Rattle.expressions.proofs.LawsAfter.{same-more}
+use Rattle.simple_statements.specs.Contract.{markOf, marked, Marking, ToldStmt}
+use Rattle.simple_statements.proofs.LawsMarks.{after-join}
+use Rattle.statements.specs.Contract.{Blocking, ToldBlock}
+
+-- a mark is no refusal, and it is read off its judgement
+pub marked-no : (m p q : ℕ) → marked m ≡ Refused p q → ⊥
+marked-no m p q e = go (eqb m 1) e
+  where
+    go : (b : Bool) → pick b Returns GoesOn ≡ Refused p q → ⊥
+    go true z = let y : _≡_ {A = ℕ} 0 1 = cc in omega arith
+    go false z = let y : _≡_ {A = ℕ} 0 1 = cc in omega arith
+
+pub mark-is : (j : Judgement) (p : ℕ) → p ≤ 1 → j ≡ marked p → markOf j ≡ p
+mark-is j p h e = ap markOf e ∙ go p h
+  where
+    go : (p : ℕ) → p ≤ 1 → markOf (marked p) ≡ p
+    go zero h = refl
+    go (suc zero) h = refl
+    go (suc (suc p)) h = absurd (omega arith)
+
+-- a part that is refused, where P gives a mark
+pub part-no : {A B : Type 0} {P : A → List (Label ℕ) → Type 0} {Q : B → List (Label ℕ) → Type 0} {r : Judged} {p q : ℕ} (o : Out A) (c : A → List (Label ℕ) → Out B)
+    → ((a : A) (L : List (Label ℕ)) → P a L → (m : ℕ) × (r .judgement ≡ marked m)) → r .judgement ≡ Refused p q → Meets P r o → Meets Q r (andThen o c)
+part-no {p = p} {q = q} o c f e m = hands-up o c (λ a L i z. let (j, is) = f a L z in marked-no j p q (sym is ∙ e)) m
+
+-- labels whose first gives no type
+pub head-plain : (L : List (Label ℕ)) → nextResult (L ++ []) ≡ 0 → nextResult L ≡ 0
+head-plain [] e = refl
+head-plain (l ∷ L) e = e
+
+module _ {F : List ℕ} {S : Sections} {X : List ℕ} {base : ℕ} where
+  -- a scope that is left
+  pub after-left : {L : List (Label ℕ)} {n k s h : ℕ} {R W R₁ W₁ K₁ K₂ : List ℕ} → base ≤ s → After F S X base L n k s h R W R₁ W₁ K₁ → Scoped F S W₁ K₂ s
+      → After F S X base L n k s s R W R₁ W₁ K₂
+  after-left l a c =
+      record {
+        rows = a .rows;
+        kept = a .kept;
+        same = a .same;
+        fine = record { good-tables = a .fine .good-tables; indexed = a .fine .indexed; rows-long = a .fine .rows-long; scoped = c; low = a .fine .low; above = l };
+      }
+
+  -- the same part seen from a lower height
+  pub after-lower : {L : List (Label ℕ)} {n k s t h : ℕ} {R W R₁ W₁ K₁ : List ℕ} → t ≤ s → After F S X base L n k s h R W R₁ W₁ K₁ → After F S X base L n k t h R W R₁ W₁ K₁
+  after-lower {s = s} {t = t} l a =
+      record { rows = a .rows; kept = a .kept; same = same-less (entryOf (tablesOf F S) t) (entryOf (tablesOf F S) s) (omega arith) (a .same); fine = a .fine }
+
+  -- one part after another, the first of which may end in a 40
+  pub after-plain-then : {L M : List (Label ℕ)} {n k j s h i : ℕ} {R W R₁ W₁ K₁ R₂ W₂ K₂ : List ℕ} → length L ≡ k → nextResult M ≡ 0 → s ≤ h
+      → After F S X base L n k s h R W R₁ W₁ K₁ → After F S X base M (n + k) j h i R₁ W₁ R₂ W₂ K₂ → After F S X base (L ++ M) n (k + j) s i R W R₂ W₂ K₂
+  after-plain-then e c l a b = after-join e (λ z. c) l a b
+
+  -- a part after a change of the stack from the height s on
+  pub after-stack : {L : List (Label ℕ)} {n k s h : ℕ} {R W W₁ R₂ W₂ K₂ : List ℕ} → Same (entryOf (tablesOf F S) s) W W₁
+      → After F S X base L n k s h R W₁ R₂ W₂ K₂ → After F S X base L n k s h R W R₂ W₂ K₂
+  after-stack c a = record { rows = a .rows; kept = a .kept; same = same-more c (a .same); fine = a .fine }
+
+-- a later part sees the names below s, and a scope Δ of its own height
+pub seen-on : (F : List ℕ) (S : Sections) (base s h : ℕ) {W W₁ : List ℕ} {Δ : Scope ℕ} → Same (entryOf (tablesOf F S) s) W W₁ → base ≤ s
+    → scopeOf (tablesOf F S) W₁ base h ≡ Δ → (P : Context ℕ → Scope ℕ → Type 0)
+    → P (contextOf (tablesOf F S) W₁ base) (scopeOf (tablesOf F S) W₁ base h) → P (contextOf (tablesOf F S) W base) Δ
+seen-on F S base s h {W} {W₁} {Δ} a l e P x =
+    subst (P (contextOf (tablesOf F S) W base)) e
+    (subst (λ N. P (record { structs = declared (tablesOf F S); names = N }) (scopeOf (tablesOf F S) W₁ base h)) (names-same (tablesOf F S) s a base l) x)
+
+-- a block sees the scope and the names of the part before it
+pub retell-block : {F : List ℕ} {S : Sections} {X W R₁ W₁ R₂ W₂ K₂ : List ℕ} {base rt s m i : ℕ} {r : Judged} → Same (entryOf (tablesOf F S) s) W W₁ → base ≤ s → m ≡ i
+    → ToldBlock F S X R₁ W₁ base rt m s R₂ W₂ K₂ r → (b : Block) → BlockStands (tablesOf F S) i b
+    → Meets (Blocking F S X base i (sizeBlock b) s R₁ W₁ R₂ W₂ K₂ r) r (executeBlock (tablesOf F S) (contextOf (tablesOf F S) W base) rt b i (scopeOf (tablesOf F S) W base s))
+retell-block {F} {S} {X} {W} {R₁} {W₁} {R₂} {W₂} {K₂} {base} {rt} {s} {m} {i} {r} a l e told b h =
+    seen-on F S base s s a l (scope-same (tablesOf F S) s a base) (λ C Γ. Meets (Blocking F S X base i (sizeBlock b) s R₁ W₁ R₂ W₂ K₂ r) r (executeBlock (tablesOf F S) C rt b i Γ))
+    (subst (λ j. ToldBlock F S X R₁ W₁ base rt j s R₂ W₂ K₂ r) e told .tells b h)
+
+-- a statement sees the names before those of the block, and the scope after the statements before it
+pub retell-stmt : {F : List ℕ} {S : Sections} {X W R₁ W₁ R₂ W₂ K₂ : List ℕ} {base rt s h n : ℕ} {r : Judged} → Same (entryOf (tablesOf F S) s) W W₁ → base ≤ s
+    → ToldStmt F S X R₁ W₁ base rt n h R₂ W₂ K₂ r → (z : Stmt) → StmtStands (tablesOf F S) n z
+    → Meets (Marking F S X base n (sizeStmt z) h R₁ W₁ R₂ W₂ K₂ r) r
+    (execute (tablesOf F S) (contextOf (tablesOf F S) W base) rt z n (scopeOf (tablesOf F S) W₁ base h))
+retell-stmt {F} {S} {X} {W} {R₁} {W₁} {R₂} {W₂} {K₂} {base} {rt} {s} {h} {n} {r} a l told z st =
+    seen-on F S base s h a l refl (λ C Γ. Meets (Marking F S X base n (sizeStmt z) h R₁ W₁ R₂ W₂ K₂ r) r (execute (tablesOf F S) C rt z n Γ)) (told .tells z st)
