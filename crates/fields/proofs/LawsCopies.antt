@@ -13,9 +13,10 @@ use Rattle.oat.specs.Syntax.{Inits, noInit, init, countInits, size}
 use Rattle.oat.specs.Nodes.{InitsStand}
 use Rattle.file_sections.specs.declared.Sections.{Sections}
 use Rattle.file_sections.specs.Layout.{Laid, tablesOf}
+use Rattle.file_sections.specs.Trees.{Tree, Past}
 use Rattle.file_sections.proofs.LawsRecords.{nodes-long}
-use Rattle.fields.specs.Literal.{Tree, Past, NamesAt, Below, Beyond, Initializers, Copied, CopiedFields}
-use Rattle.fields.proofs.LawsTrees.{init-tree}
+use Rattle.file_sections.proofs.LawsTrees.{init-tree}
+use Rattle.fields.specs.Literal.{NamesAt, Below, Beyond, Initializers, Copied, CopiedFields}
 
 -- a number stored at `at`
 module _ (top at v : ℕ) (l k : List ℕ) where

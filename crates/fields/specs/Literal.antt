@@ -1,4 +1,4 @@
--- The names of a struct literal, and where a tree ends. Assumes nothing.
+-- The names of a struct literal. Assumes nothing.
 use mathlib.Core.Path.{_≡_}
 use mathlib.Core.Bool.{Bool, _&&_}
 use mathlib.Core.List.{List}
@@ -6,28 +6,13 @@ use Prim.Native.Nat.{ℕ, zero, suc, _+_, _*_, _≤_, _<_}
 use lib.ListN.{length, getD}
 use lib.Dec.{eqb}
 use Rattle.oat.specs.Basics.{pick, allBelow}
-use Rattle.oat.specs.Tables.{Tables, nodeAt, fieldAt}
+use Rattle.oat.specs.Tables.{nodeAt, fieldAt}
 use Rattle.oat.specs.Types.{structOf}
 use Rattle.oat.specs.Syntax.{Inits, noInit, init, countInits}
 use Rattle.oat.specs.Nodes.{InitsStand}
 use Rattle.typing_rules.specs.Rules.{namesFit}
 use Rattle.file_sections.specs.declared.Sections.{Sections}
 use Rattle.file_sections.specs.Layout.{Laid, tablesOf, GoodTables}
-
--- `left` trees stand from the node n on, by their child counts, and end before the node m
-pub data Trees (T : Tables) : (n left m : ℕ) → Type 0 where
-  no-tree : {n : ℕ} → Trees T n 0 n
-  next-tree : {n m : ℕ} (left : ℕ) → n < length (T .nodes) → Trees T (n + 1) (left + nodeAt T n .children) m → Trees T n (left + 1) m
-
--- a tree stands at the node n
-pub record Tree (F : List ℕ) (S : Sections) (n : ℕ) : Type 0 where
-  pub laid : Laid F S
-  pub end : ℕ
-  pub tree : Trees (tablesOf F S) n 1 end
-
--- r is the node after it
-pub record Past (F : List ℕ) (S : Sections) (n r : ℕ) : Type 0 where
-  pub ends : (m : ℕ) → Trees (tablesOf F S) n 1 m → r ≡ m
 
 -- how often x stands among `count` numbers from `from` on
 unfoldable pub timesIn : List ℕ → ℕ → ℕ → ℕ → ℕ

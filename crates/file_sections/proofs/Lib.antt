@@ -1,3 +1,4 @@
 pub mod LawsFile
 pub mod LawsLayout
 pub mod LawsRecords
+pub mod LawsTrees
