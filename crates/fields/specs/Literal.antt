@@ -13,6 +13,7 @@ use Rattle.oat.specs.Nodes.{InitsStand}
 use Rattle.typing_rules.specs.Rules.{namesFit}
 use Rattle.file_sections.specs.declared.Sections.{Sections}
 use Rattle.file_sections.specs.Layout.{Laid, tablesOf, GoodTables}
+use Rattle.file_sections.specs.Frames.{Kept}
 
 -- how often x stands among `count` numbers from `from` on
 unfoldable pub timesIn : List ℕ → ℕ → ℕ → ℕ → ℕ
@@ -30,14 +31,6 @@ unfoldable pub NamesAt : List ℕ → ℕ → Inits → Type 0
 NamesAt l top noInit = Unit {0}
 NamesAt l top (init x a is) = (getD l top 0 ≡ x) × NamesAt l (top + 1) is
 
--- l′ is l below `top`
-pub record Below (top : ℕ) (l l′ : List ℕ) : Type 0 where
-  pub at : (i : ℕ) → i < top → getD l′ i 0 ≡ getD l i 0
-
--- l′ is l from `end` on
-pub record Beyond (end : ℕ) (l l′ : List ℕ) : Type 0 where
-  pub at : (i : ℕ) → end ≤ i → getD l′ i 0 ≡ getD l i 0
-
 -- `count` initializers stand at the node n, and W has room for their names from `top` on
 pub record Initializers (F : List ℕ) (S : Sections) (W : List ℕ) (top n count : ℕ) : Type 0 where
   pub laid : Laid F S
@@ -49,14 +42,12 @@ pub record Initializers (F : List ℕ) (S : Sections) (W : List ℕ) (top n coun
 -- their names stand in W′ from `top` on, and every number before and after them is that of W
 pub record Copied (F : List ℕ) (S : Sections) (W : List ℕ) (top n count : ℕ) (W′ : List ℕ) : Type 0 where
   pub names : (is : Inits) → InitsStand (tablesOf F S) n is → countInits is ≡ count → NamesAt W′ top is
-  pub below : Below top W W′
-  pub beyond : Beyond (top + count) W W′
+  pub kept : Kept top (top + count) W W′
 
 -- the names of `count` fields, those from `first` on, stand in W′ from `top` on, and every number before and after them is that of W
 pub record CopiedFields (F : List ℕ) (S : Sections) (W : List ℕ) (top first count : ℕ) (W′ : List ℕ) : Type 0 where
   pub names : (i : ℕ) → i < count → getD W′ (top + i) 0 ≡ fieldAt (tablesOf F S) (first + i) .name
-  pub below : Below top W W′
-  pub beyond : Beyond (top + count) W W′
+  pub kept : Kept top (top + count) W W′
 
 -- a literal of the struct record s stands at the node n, and W has room for its names twice from `top` on
 pub record Named (F : List ℕ) (S : Sections) (W : List ℕ) (top n s : ℕ) : Type 0 where
@@ -73,5 +64,4 @@ pub record Named (F : List ℕ) (S : Sections) (W : List ℕ) (top n s : ℕ) : 
 pub record Fitting (F : List ℕ) (S : Sections) (W : List ℕ) (top n s : ℕ) (W′ : List ℕ) (r : Bool) : Type 0 where
   pub tells : (is : Inits) → InitsStand (tablesOf F S) (n + 1) is → nodeAt (tablesOf F S) n .children ≡ countInits is
       → r ≡ namesFit (structOf (tablesOf F S) s .fields) is
-  pub below : Below top W W′
-  pub beyond : Beyond (top + nodeAt (tablesOf F S) n .children * 2) W W′
+  pub kept : Kept top (top + nodeAt (tablesOf F S) n .children * 2) W W′

@@ -17,9 +17,11 @@ use Rattle.typing_rules.specs.Labels.{Label}
 use Rattle.typing_rules.specs.Judge.{Out, ok, andThen, executeBlock}
 use Rattle.file_sections.specs.declared.Sections.{Sections}
 use Rattle.file_sections.specs.Layout.{tablesOf}
+use Rattle.file_sections.specs.Frames.{Same}
+use Rattle.file_sections.proofs.LawsFrames.{same-less}
 use Rattle.type_index.specs.Index.{declared}
-use Rattle.bindings.specs.Bindings.{entryOf, scopeOf, Scoped, Same}
-use Rattle.bindings.proofs.LawsBindings.{scope-same, names-same, same-less}
+use Rattle.bindings.specs.Bindings.{entryOf, scopeOf, Scoped}
+use Rattle.bindings.proofs.LawsBindings.{scope-same, names-same}
 use Rattle.answers.specs.declared.answer.Judgement.{Judgement}
 use Rattle.answers.specs.declared.answer.Judgement.the-variants.{GoesOn, Returns, Refused}
 use Rattle.answers.specs.declared.answer.Judged.{Judged}

@@ -9,12 +9,14 @@ use Rattle.typing_rules.specs.Judge.{Out, ok, andThen, execute}
 use Rattle.typing_rules.specs.Check.{nextResult}
 use Rattle.file_sections.specs.declared.Sections.{Sections}
 use Rattle.file_sections.specs.Layout.{tablesOf}
-use Rattle.bindings.specs.Bindings.{entryOf, scopeOf, Same}
-use Rattle.bindings.proofs.LawsBindings.{same-less, names-same}
+use Rattle.file_sections.specs.Frames.{Same}
+use Rattle.file_sections.proofs.LawsFrames.{same-less, same-more}
+use Rattle.bindings.specs.Bindings.{entryOf, scopeOf}
+use Rattle.bindings.proofs.LawsBindings.{names-same}
 use Rattle.answers.specs.declared.answer.Judgement.the-variants.{GoesOn}
 use Rattle.answers.specs.declared.answer.Judged.{Judged}
 use Rattle.expressions.specs.Contract.{RowsAt, After, Meets, accepts, refuses, contextOf}
-use Rattle.expressions.proofs.LawsAfter.{same-more, rows-kept}
+use Rattle.expressions.proofs.LawsAfter.{rows-kept}
 use Rattle.expressions.proofs.LawsLabels.{lastResult, Closed, rows-join}
 use Rattle.statements.proofs.LawsBlocks.{Unrefused}
 use Rattle.oat.specs.Nodes.{StmtStands}

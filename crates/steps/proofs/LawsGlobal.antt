@@ -18,8 +18,10 @@ use Rattle.typing_rules.specs.Steps.{Step, globalValue, addName}
 use Rattle.typing_rules.specs.Check.{isMiss, runStep, rowsBegin, stepRows, rowsOf, nextResult}
 use Rattle.file_sections.specs.declared.Sections.{Sections}
 use Rattle.file_sections.specs.Layout.{Has, tablesOf}
+use Rattle.file_sections.specs.Frames.{Same}
 use Rattle.file_sections.proofs.LawsRecords.{nodes-long}
-use Rattle.bindings.specs.Bindings.{entryOf, namesOf, Some, Same, Bindable, Bound}
+use Rattle.file_sections.proofs.LawsFrames.{list-row, list-kept, list-from}
+use Rattle.bindings.specs.Bindings.{entryOf, namesOf, Some, Bindable, Bound}
 use Rattle.bindings.proofs.LawsBindings.{scope-none, names-same, names-declared}
 use Rattle.answers.specs.declared.answer.Judgement.the-variants.{Typed}
 use Rattle.answers.specs.declared.answer.Judgement.the-variants as judgement
@@ -37,7 +39,7 @@ use Rattle.steps.specs.declared.context.Stepped.{Stepped}
 use Rattle.steps.specs.declared.context.Stepped.the-variants.{Next, Refused}
 use Rattle.steps.specs.Contract.{contextAt, withName, handedUp, Accepted, Stepping, accepts, refuses, Newness, ReadyGlobal, ToldGlobal}
 use Rattle.steps.proofs.LawsStepping.{stops, passes, whole-context}
-use Rattle.steps.proofs.LawsListAt.{list-row, list-kept, list-from, rows-count, rows-list}
+use Rattle.steps.proofs.LawsRows.{rows-count, rows-list}
 
 -- a part that is refused hands its refusal up; an accepted one goes on with its labels
 module _ {F : List ℕ} {S : Sections} {X : List ℕ} {c : Context} {s : Step} {R R′ W′ K′ : List ℕ} {r : Stepped} {A : Type 0} {P : A → List (Label ℕ) → Type 0} {r₁ : Judged} where
