@@ -19,10 +19,12 @@ use Rattle.chains.proofs.LawsChains.{Walks, highest-most, highest-reaches, walk
 use Rattle.typing_rules.specs.Contexts.{empty, binds, Hit, hit, miss, Entry, find, findName, isFresh, isFixed, orElse}
 use Rattle.file_sections.specs.declared.Sections.{Sections}
 use Rattle.file_sections.specs.Layout.{Laid, Has, tablesOf}
+use Rattle.file_sections.specs.Frames.{Same}
 use Rattle.file_sections.proofs.LawsRecords.{built-ins-long}
+use Rattle.file_sections.proofs.LawsFrames.{same-refl}
 use Rattle.bindings.specs.declared.Found.{Found}
 use Rattle.bindings.specs.declared.Found.the-variants.{At, Nothing}
-use Rattle.bindings.specs.Bindings.{entryOf, binderOf, typeBound, nameBound, isGlobal, namesOf, scopeOf, foundBelow, latest, Chained, Position, Scoped, Some, SomeFrom, Same, Finds, Freshness, Assignability, Bindable, Bound}
+use Rattle.bindings.specs.Bindings.{entryOf, binderOf, typeBound, nameBound, isGlobal, namesOf, scopeOf, foundBelow, latest, Chained, Position, Scoped, Some, SomeFrom, Finds, Freshness, Assignability, Bindable, Bound, topOf}
 
 -- a position of a built-in
 module _ (F : List ℕ) (S : Sections) (W : List ℕ) (j : ℕ) (h : j < S .«built_ins») where
@@ -117,15 +119,6 @@ module _ (T : Tables) (s : ℕ) {W W′ : List ℕ} (same : Same (entryOf T s) W
 
   chains-kept : {K : List ℕ} → Chains 0 512 512 (λ j. nameBound T W j % 512) K s → Chains 0 512 512 (λ j. nameBound T W′ j % 512) K s
   chains-kept c = chains-same (λ j. nameBound T W′ j % 512) (λ k l. ap (λ m. m % 512) (name-same k l)) c
-
-pub same-less : (a b : ℕ) {l m : List ℕ} → a ≤ b → Same b l m → Same a l m
-same-less a b h s = record { at = λ i k. s .at i (omega arith) }
-
-pub same-trans : (a b : ℕ) {l m n : List ℕ} → a ≤ b → Same a l m → Same b m n → Same a l n
-same-trans a b h s t = record { at = λ i k. t .at i (omega arith) ∙ s .at i k }
-
-pub same-refl : (a : ℕ) (l : List ℕ) → Same a l l
-same-refl a l = record { at = λ i k. refl }
 
 -- what a scope has
 pub position-of : {F : List ℕ} {S : Sections} {W K : List ℕ} {s : ℕ} (j : ℕ) → Scoped F S W K s → j < s → Position F S W j

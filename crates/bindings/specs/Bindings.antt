@@ -12,6 +12,7 @@ use Rattle.chains.specs.Chains.{highest, Chains}
 use Rattle.typing_rules.specs.Contexts.{Scope, empty, binds, Entry, isFresh, isFixed}
 use Rattle.file_sections.specs.declared.Sections.{Sections}
 use Rattle.file_sections.specs.Layout.{Laid, tablesOf}
+use Rattle.file_sections.specs.Frames.{Same}
 use Rattle.bindings.specs.declared.Found.{Found}
 use Rattle.bindings.specs.declared.Found.the-variants.{At, Nothing}
 
@@ -82,10 +83,6 @@ pub record Some (F : List ℕ) (S : Sections) (W K : List ℕ) : Type 0 where
 pub record SomeFrom (F : List ℕ) (S : Sections) (W K : List ℕ) (base : ℕ) : Type 0 where
   pub some : Some F S W K
   pub low : base ≤ some .height
-
--- l′ is l below k
-pub record Same (k : ℕ) (l l′ : List ℕ) : Type 0 where
-  pub at : (i : ℕ) → i < k → getD l′ i 0 ≡ getD l i 0
 
 -- what `find`, `is_fresh` and `is_assignable` answer, in the scope that the buffers hold
 pub record Finds (F : List ℕ) (S : Sections) (W K : List ℕ) (x : ℕ) (r : Found) : Type 0 where

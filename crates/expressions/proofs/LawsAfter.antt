@@ -13,26 +13,19 @@ use Rattle.typing_rules.specs.Labels.{Label}
 use Rattle.typing_rules.specs.Judge.{Out, ok, judge, typedAs}
 use Rattle.file_sections.specs.declared.Sections.{Sections}
 use Rattle.file_sections.specs.Layout.{tablesOf}
+use Rattle.file_sections.specs.Frames.{Same}
 use Rattle.file_sections.proofs.LawsRecords.{nodes-long}
+use Rattle.file_sections.proofs.LawsFrames.{same-refl, same-more, kept-none}
 use Rattle.type_index.specs.Index.{declared}
-use Rattle.bindings.specs.Bindings.{entryOf, scopeOf, Same}
+use Rattle.bindings.specs.Bindings.{entryOf, scopeOf}
 use Rattle.answers.specs.declared.answer.Judgement.the-variants.{Typed}
 use Rattle.answers.specs.declared.answer.At.{At}
 use Rattle.answers.specs.declared.answer.Judged.{Judged}
 use Rattle.answers.specs.Answers.{withRow}
-use Rattle.expressions.specs.Contract.{contextOf, Fine, Kept, RowsAt, After, Typing, Meets, accepts, refuses, Ready, Told}
+use Rattle.expressions.specs.Contract.{contextOf, Fine, RowsAt, After, Typing, Meets, accepts, refuses, Ready, Told}
 use Rattle.bindings.proofs.LawsBindings.{scoped-same, scope-same, names-same}
 use Rattle.expressions.proofs.LawsLabels.{Closed, rows-append}
 use Rattle.expressions.proofs.LawsShape.{stands-within}
-
-pub same-none : (k : ℕ) (l : List ℕ) → Same k l l
-same-none k l = record { at = λ i h. refl }
-
-pub same-more : {k : ℕ} {l m o : List ℕ} → Same k l m → Same k m o → Same k l o
-same-more a b = record { at = λ i h. b .at i h ∙ a .at i h }
-
-pub kept-none : (a b : ℕ) (l : List ℕ) → Kept a b l l
-kept-none a b l = record { before = λ i h. refl; after = λ i h. refl }
 
 -- rows that have not changed
 pub rows-kept : (R R′ : List ℕ) (n : ℕ) (L : List (Label ℕ)) → ((i : ℕ) → n * 2 ≤ i → i < (n + length L) * 2 → getD R′ i 0 ≡ getD R i 0) → RowsAt R n L → RowsAt R′ n L
@@ -82,7 +75,7 @@ module _ {F : List ℕ} {S : Sections} {X : List ℕ} {base : ℕ} where
 
   -- nothing written yet
   pub after-none : {R W K : List ℕ} {s : ℕ} (n : ℕ) → Fine F S X R W K base s → After F S X base [] n 0 s s R W R W K
-  after-none {R} {W} n f = record { rows = rows-none R n; kept = kept-none (n * 2) ((n + 0) * 2) R; same = same-none _ W; fine = f }
+  after-none {R} {W} n f = record { rows = rows-none R n; kept = kept-none (n * 2) ((n + 0) * 2) R; same = same-refl _ W; fine = f }
 
   -- one part after another
   pub after-append : {L M : List (Label ℕ)} {n k j s : ℕ} {R W R₁ W₁ K₁ R₂ W₂ K₂ : List ℕ} → length L ≡ k → Closed L

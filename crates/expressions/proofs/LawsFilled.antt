@@ -17,10 +17,12 @@ use Rattle.typing_rules.specs.Labels.{Label}
 use Rattle.typing_rules.specs.Judge.{Out, ok, no, andThen, needs, plain, isKind, referred, isBelow, formed, judge}
 use Rattle.file_sections.specs.declared.Sections.{Sections}
 use Rattle.file_sections.specs.Layout.{Has, tablesOf, GoodTables}
+use Rattle.file_sections.specs.Frames.{Same}
 use Rattle.file_sections.proofs.LawsRecords.{nodes-long}
+use Rattle.file_sections.proofs.LawsFrames.{same-trans}
 use Rattle.type_index.specs.Index.{declared, formedEntry, Entered, Indexed}
-use Rattle.bindings.specs.Bindings.{entryOf, scopeOf, Scoped, Some, Same, Freshness, Bindable, Bound}
-use Rattle.bindings.proofs.LawsBindings.{scope-bound, names-bound, scope-same, names-same, same-trans}
+use Rattle.bindings.specs.Bindings.{entryOf, scopeOf, Scoped, Some, Freshness, Bindable, Bound}
+use Rattle.bindings.proofs.LawsBindings.{scope-bound, names-bound, scope-same, names-same}
 use Rattle.answers.specs.declared.answer.Judgement.the-variants.{Typed, Refused}
 use Rattle.answers.specs.declared.answer.At.{At}
 use Rattle.answers.specs.declared.answer.Judged.{Judged}

@@ -17,10 +17,12 @@ use Rattle.typing_rules.specs.Labels.{Label}
 use Rattle.typing_rules.specs.Judge.{Out, ok, no, andThen, needs, onDeclared, plain, isKind, referred, formed, eachBelow, argumentsBelow, judge}
 use Rattle.file_sections.specs.declared.Sections.{Sections}
 use Rattle.file_sections.specs.Layout.{Has, tablesOf}
+use Rattle.file_sections.specs.Frames.{Same}
 use Rattle.file_sections.proofs.LawsRecords.{nodes-long, structs-long, built-ins-long}
+use Rattle.file_sections.proofs.LawsFrames.{same-more}
 use Rattle.type_index.specs.Index.{declared, recordOf, structNamed, structEntry, formedEntry, Entered}
 use Rattle.type_index.proofs.LawsIndex.{lookup-is}
-use Rattle.bindings.specs.Bindings.{entryOf, scopeOf, Same}
+use Rattle.bindings.specs.Bindings.{entryOf, scopeOf}
 use Rattle.bindings.proofs.LawsBindings.{scope-same, names-same}
 use Rattle.fields.specs.Literal.{Named, Fitting}
 use Rattle.answers.specs.declared.answer.Judgement.the-variants.{Typed, GoesOn, Refused}
@@ -30,7 +32,7 @@ use Rattle.answers.specs.declared.leaves.Expected.the-variants.{Each, Run}
 use Rattle.answers.specs.Answers.{withRow}
 use Rattle.expressions.specs.Contract.{contextOf, Fine, After, Typing, Listing, Meets, accepts, refuses, Answers, Ready, Told, expectedBelow, listed, ReadyList, ToldList, initialized, ReadyInits, ToldInits}
 use Rattle.expressions.proofs.LawsMeets.{Untyped, Unlisted, stops, passes, child-ok, list-no, list-ok, then-tested, child-no}
-use Rattle.expressions.proofs.LawsAfter.{same-more, fine-stack, typing-of, after-append, rule-typed, ready}
+use Rattle.expressions.proofs.LawsAfter.{fine-stack, typing-of, after-append, rule-typed, ready}
 use Rattle.expressions.proofs.LawsChild.{child-within, has-type, kind-within, element-within, returned-within, type-entered, formed-is, parameters-within}
 use Rattle.expressions.proofs.LawsList.{exprIn, judgedIn, listedIn, listed-fine}
 use Rattle.expressions.proofs.LawsInits.{initsIn, fitsIn, initializedIn, initialized-fine}
@@ -354,7 +356,7 @@ module _ {F : List ℕ} {S : Sections} {X R W K : List ℕ} {base n s : ℕ} (g 
             }
 
         stack-same : Same (entryOf (tablesOf F S) s) W W₀
-        stack-same = record { at = λ i h. fit .below .at i (subst (λ k. i < (s - k) * 2) (built-ins-long F S) h) }
+        stack-same = record { at = λ i h. fit .kept .before i (subst (λ k. i < (s - k) * 2) (built-ins-long F S) h) }
 
         pub struct-inits : {c : ℕ} → length W₀ ≡ length W → c ≡ nodeAt (tablesOf F S) n .children → ReadyInits F S X R W₀ K base (n + 1) s c o
         struct-inits {c} el ec =

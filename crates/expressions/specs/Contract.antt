@@ -17,8 +17,9 @@ use Rattle.typing_rules.specs.Judge.{Out, ok, no, andThen, needs, referred, isB
 use Rattle.typing_rules.specs.Check.{rowResult}
 use Rattle.file_sections.specs.declared.Sections.{Sections}
 use Rattle.file_sections.specs.Layout.{tablesOf, GoodTables}
+use Rattle.file_sections.specs.Frames.{Same, Kept}
 use Rattle.type_index.specs.Index.{declared, Indexed}
-use Rattle.bindings.specs.Bindings.{entryOf, namesOf, scopeOf, Scoped, Same}
+use Rattle.bindings.specs.Bindings.{entryOf, namesOf, scopeOf, Scoped}
 use Rattle.answers.specs.declared.answer.Judgement.the-variants.{Typed, GoesOn, Refused}
 use Rattle.answers.specs.declared.answer.Judged.{Judged}
 use Rattle.answers.specs.declared.leaves.Expected.{Expected}
@@ -37,11 +38,6 @@ pub record Fine (F : List ℕ) (S : Sections) (X R W K : List ℕ) (base s : ℕ
   pub scoped : Scoped F S W K s
   pub low : S .«built_ins» ≤ base
   pub above : base ≤ s
-
--- l′ is l outside the numbers from a up to b
-pub record Kept (a b : ℕ) (l l′ : List ℕ) : Type 0 where
-  pub before : (i : ℕ) → i < a → getD l′ i 0 ≡ getD l i 0
-  pub after : (i : ℕ) → b ≤ i → getD l′ i 0 ≡ getD l i 0
 
 -- the rows of the labels stand in R from the node n on
 unfoldable pub RowsAt : List ℕ → ℕ → List (Label ℕ) → Type 0

@@ -1,6 +1,6 @@
 -- Names copied to a list: those of fields, one after another, and those of the initializers of a literal, each at the node after the
 -- tree before it. Assumes nothing.
-use mathlib.Core.Path.{_≡_, refl, sym, subst, _∙_}
+use mathlib.Core.Path.{_≡_, sym, subst, _∙_}
 use mathlib.Core.List.{List}
 use Prim.Native.Nat.{ℕ, _+_, _≤_, _<_}
 use native.Mathlib.Nat.{not-suc-le-zero}
@@ -13,25 +13,26 @@ use Rattle.oat.specs.Syntax.{Inits, noInit, init, countInits, size}
 use Rattle.oat.specs.Nodes.{InitsStand}
 use Rattle.file_sections.specs.declared.Sections.{Sections}
 use Rattle.file_sections.specs.Layout.{Laid, tablesOf}
+use Rattle.file_sections.specs.Trees.{Tree, Past}
+use Rattle.file_sections.specs.Frames.{Same, Kept}
 use Rattle.file_sections.proofs.LawsRecords.{nodes-long}
-use Rattle.fields.specs.Literal.{Tree, Past, NamesAt, Below, Beyond, Initializers, Copied, CopiedFields}
-use Rattle.fields.proofs.LawsTrees.{init-tree}
+use Rattle.file_sections.proofs.LawsTrees.{init-tree}
+use Rattle.file_sections.proofs.LawsFrames.{same-refl, kept-none}
+use Rattle.fields.specs.Literal.{NamesAt, Initializers, Copied, CopiedFields}
 
--- a number stored at `at`
-module _ (top at v : ℕ) (l k : List ℕ) where
-  below-stored : top ≤ at → Below top l k → Below top l (set k at v)
-  below-stored h b = record { at = λ i n. getD-set-other k at i v 0 (λ e. omega arith) ∙ b .at i n }
-
-beyond-stored : (top i v : ℕ) (l k : List ℕ) → Beyond (top + i) l k → Beyond (top + (i + 1)) l (set k (top + i) v)
-beyond-stored top i v l k b = record { at = λ j n. getD-set-other k (top + i) j v 0 (λ e. omega arith) ∙ b .at j (omega arith) }
+-- one number more is stored
+kept-stored : (top i v : ℕ) (l k : List ℕ) → Kept top (top + i) l k → Kept top (top + (i + 1)) l (set k (top + i) v)
+kept-stored top i v l k b = record {
+  before = λ j n. getD-set-other k (top + i) j v 0 (λ e. omega arith) ∙ b .before j n;
+  after = λ j n. getD-set-other k (top + i) j v 0 (λ e. omega arith) ∙ b .after j (omega arith);
+}
 
 -- names of fields
 module _ (s : List ℕ) (S : Sections) (W : List ℕ) (top first : ℕ) where
   pub fields-none : CopiedFields s S W top first 0 W
   fields-none = record {
     names = λ i h. absurd (not-suc-le-zero h);
-    below = record { at = λ i h. refl };
-    beyond = record { at = λ i h. refl };
+    kept = kept-none top (top + 0) W;
   }
 
   pub fields-more : (i v count : ℕ) (K : List ℕ) → top + count ≤ length W → length K ≡ length W → i < count → v ≡ fieldAt (tablesOf s S) (first + i) .name → CopiedFields s S W top first i K
@@ -42,8 +43,7 @@ module _ (s : List ℕ) (S : Sections) (W : List ℕ) (top first : ℕ) where
         i
         (λ j l. getD-set-other K (top + i) (top + j) v 0 (λ n. omega arith) ∙ C .names j l)
         (getD-set-same K (top + i) v 0 (omega arith) ∙ e);
-    below = below-stored top (top + i) v W K (omega arith) (C .below);
-    beyond = beyond-stored top i v W K (C .beyond);
+    kept = kept-stored top i v W K (C .kept);
   }
 
   pub fields-all : (i count : ℕ) (K : List ℕ) → i ≤ count → count ≤ i → CopiedFields s S W top first i K → CopiedFields s S W top first count K
@@ -56,13 +56,12 @@ pub record Rest (T : Tables) (K : List ℕ) (top at i count : ℕ) (is : Inits) 
   pub inits : Inits
   pub stand : InitsStand T at inits
   pub counted : i + countInits inits ≡ count
-  pub names : (k : List ℕ) → Below (top + i) K k → NamesAt k (top + i) inits → NamesAt k top is
+  pub names : (k : List ℕ) → Same (top + i) K k → NamesAt k (top + i) inits → NamesAt k top is
 
 -- whatever initializers stand at the node
 pub record Copying (T : Tables) (W : List ℕ) (top node count : ℕ) (K : List ℕ) (at i : ℕ) : Type 0 where
   pub rest : (is : Inits) → InitsStand T node is → countInits is ≡ count → Rest T K top at i count is
-  pub below : Below top W K
-  pub beyond : Beyond (top + i) W K
+  pub kept : Kept top (top + i) W K
 
 pub copying-none : (T : Tables) (W : List ℕ) (top node count : ℕ) → Copying T W top node count W node 0
 copying-none T W top node count = record {
@@ -72,8 +71,7 @@ copying-none T W top node count = record {
     counted = omega arith;
     names = λ k b n. subst (λ j. NamesAt k j is) (start top) n;
   };
-  below = record { at = λ i h. refl };
-  beyond = record { at = λ i h. refl };
+  kept = kept-none top (top + 0) W;
 }
   where
     start : (n : ℕ) → n + 0 ≡ n
@@ -104,7 +102,7 @@ module _ (s : List ℕ) (S : Sections) (K : List ℕ) (top at i count : ℕ) (is
       shift n m = omega arith
 
       go : (js : Inits) → InitsStand (tablesOf s S) at js → i + countInits js ≡ count
-          → ((k : List ℕ) → Below (top + i) K k → NamesAt k (top + i) js → NamesAt k top is)
+          → ((k : List ℕ) → Same (top + i) K k → NamesAt k (top + i) js → NamesAt k top is)
           → Rest (tablesOf s S) (set K (top + i) v) top next (i + 1) count is
       go noInit d e f = absurd (omega arith)
       go (init x a js) d e f = record {
@@ -121,8 +119,8 @@ rest-done : (T : Tables) (K : List ℕ) (top at i count : ℕ) (is : Inits) → 
 unfolding NamesAt
 rest-done T K top at i count is h R = go (R .inits) (R .counted) (R .names)
   where
-    go : (js : Inits) → i + countInits js ≡ count → ((k : List ℕ) → Below (top + i) K k → NamesAt k (top + i) js → NamesAt k top is) → NamesAt K top is
-    go noInit e f = f K (record { at = λ j m. refl }) tt
+    go : (js : Inits) → i + countInits js ≡ count → ((k : List ℕ) → Same (top + i) K k → NamesAt k (top + i) js → NamesAt k top is) → NamesAt K top is
+    go noInit e f = f K (same-refl (top + i) K) tt
     go (init x a js) e f = absurd (omega arith)
 
 module _ (s : List ℕ) (S : Sections) (W : List ℕ) (top node count : ℕ) (K : List ℕ) (at i : ℕ) where
@@ -137,13 +135,11 @@ module _ (s : List ℕ) (S : Sections) (W : List ℕ) (top node count : ℕ) (K 
       → v ≡ nodeAt (tablesOf s S) at .x → Past s S at next → Copying (tablesOf s S) W top node count (set K (top + i) v) next (i + 1)
   copying-more v next I C l h e P = record {
     rest = λ is d n. rest-more s S K top at i count is h v next (omega (arith, I .room)) e P (C .rest is d n);
-    below = below-stored top (top + i) v W K (omega arith) (C .below);
-    beyond = beyond-stored top i v W K (C .beyond);
+    kept = kept-stored top i v W K (C .kept);
   }
 
   pub copying-done : Copying (tablesOf s S) W top node count K at i → i ≤ count → count ≤ i → Copied s S W top node count K
   copying-done C l h = record {
     names = λ is d n. rest-done (tablesOf s S) K top at i count is h (C .rest is d n);
-    below = C .below;
-    beyond = record { at = λ j m. C .beyond .at j (omega arith) };
+    kept = record { before = C .kept .before; after = λ j m. C .kept .after j (omega arith) };
   }

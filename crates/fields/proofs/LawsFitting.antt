@@ -15,6 +15,7 @@ use Rattle.oat.specs.Nodes.{InitsStand}
 use Rattle.oat.proofs.LawsBasics.{tabulate-long}
 use Rattle.file_sections.specs.declared.Sections.{Sections}
 use Rattle.file_sections.specs.Layout.{tablesOf}
+use Rattle.file_sections.proofs.LawsFrames.{kept-none}
 use Rattle.typing_rules.specs.Rules.{eachOnce, namesFit}
 use Rattle.fields.specs.Literal.{onceEach, NamesAt, Initializers, Copied, CopiedFields, Named, Fitting}
 use Rattle.fields.proofs.LawsTimes.{names-kept, once-is}
@@ -43,8 +44,7 @@ module _ (s : List ℕ) (S : Sections) (W : List ℕ) (top n r count : ℕ) (ec 
   pub count-differs : (m : ℕ) → m ≡ structAt (tablesOf s S) r .count → (count ≡ m → ⊥) → Fitting s S W top n r W false
   count-differs m em f = record {
     tells = λ is d e. sym (fit-count (tablesOf s S) r is (λ q. f (ec ∙ e ∙ q ∙ sym em)));
-    below = record { at = λ i h. refl };
-    beyond = record { at = λ i h. refl };
+    kept = kept-none _ _ W;
   }
 
   pub inits-there : Named s S W top n r → Initializers s S W top (n + 1) count
@@ -64,8 +64,10 @@ module _ (s : List ℕ) (S : Sections) (W : List ℕ) (top n r count : ℕ) (ec 
         → t ≡ onceEach L top count → Fitting s S W top n r L t
     names-told K L t C D e = record {
       tells = λ is d q. go is d (sym (ec ∙ q));
-      below = record { at = λ i h. D .below .at i (omega arith) ∙ C .below .at i h };
-      beyond = record { at = λ i h. D .beyond .at i (omega arith) ∙ C .beyond .at i (omega arith) };
+      kept = record {
+        before = λ i h. D .kept .before i (omega arith) ∙ C .kept .before i h;
+        after = λ i h. D .kept .after i (omega arith) ∙ C .kept .after i (omega arith);
+      };
     }
       where
         go : (is : Inits) → InitsStand (tablesOf s S) (n + 1) is → countInits is ≡ count → t ≡ namesFit (structOf (tablesOf s S) r .fields) is
@@ -79,5 +81,5 @@ module _ (s : List ℕ) (S : Sections) (W : List ℕ) (top n r count : ℕ) (ec 
             top
             is
             (q ∙ same ∙ em)
-            (names-kept K L top is (C .names is d q) (record { at = λ i h. D .below .at i (omega arith) }))
+            (names-kept K L top is (C .names is d q) (record { at = λ i h. D .kept .before i (omega arith) }))
             (λ i h. ap (λ k. getD L (top + k + i) 0) q ∙ D .names i (omega arith) ∙ ap (λ k. fieldAt (tablesOf s S) (k + i) .name) ef)

@@ -15,7 +15,8 @@ use Rattle.oat.specs.Types.{Field}
 use Rattle.oat.specs.Syntax.{Inits, noInit, init, countInits}
 use Rattle.oat.proofs.LawsBasics.{and-left, and-right, all-more, all-false}
 use Rattle.typing_rules.specs.Rules.{declaredTimes, namedTimes, eachOnce}
-use Rattle.fields.specs.Literal.{timesIn, onceEach, NamesAt, Below}
+use Rattle.file_sections.specs.Frames.{Same}
+use Rattle.fields.specs.Literal.{timesIn, onceEach, NamesAt}
 
 -- the loop that counts
 module _ (l : List ℕ) (from x : ℕ) where
@@ -109,7 +110,7 @@ named-times l top x (init y a is) h =
     ∙ times-first l top (countInits is) x
     ∙ ap₂ (λ z n. pick (eqb z x) 1 0 + n) (h .0) (named-times l (top + 1) x is (h .1))
 
-pub names-kept : (l k : List ℕ) (top : ℕ) (is : Inits) → NamesAt l top is → Below (top + countInits is) l k → NamesAt k top is
+pub names-kept : (l k : List ℕ) (top : ℕ) (is : Inits) → NamesAt l top is → Same (top + countInits is) l k → NamesAt k top is
 unfolding NamesAt
 names-kept l k top noInit h b = tt
 names-kept l k top (init x a is) h b =

@@ -1,4 +1,3 @@
-pub mod LawsTrees
 pub mod LawsTimes
 pub mod LawsCopies
 pub mod LawsLookup

@@ -1,4 +1,4 @@
--- The names of a struct literal, and where a tree ends. Assumes nothing.
+-- The names of a struct literal. Assumes nothing.
 use mathlib.Core.Path.{_≡_}
 use mathlib.Core.Bool.{Bool, _&&_}
 use mathlib.Core.List.{List}
@@ -6,28 +6,14 @@ use Prim.Native.Nat.{ℕ, zero, suc, _+_, _*_, _≤_, _<_}
 use lib.ListN.{length, getD}
 use lib.Dec.{eqb}
 use Rattle.oat.specs.Basics.{pick, allBelow}
-use Rattle.oat.specs.Tables.{Tables, nodeAt, fieldAt}
+use Rattle.oat.specs.Tables.{nodeAt, fieldAt}
 use Rattle.oat.specs.Types.{structOf}
 use Rattle.oat.specs.Syntax.{Inits, noInit, init, countInits}
 use Rattle.oat.specs.Nodes.{InitsStand}
 use Rattle.typing_rules.specs.Rules.{namesFit}
 use Rattle.file_sections.specs.declared.Sections.{Sections}
 use Rattle.file_sections.specs.Layout.{Laid, tablesOf, GoodTables}
-
--- `left` trees stand from the node n on, by their child counts, and end before the node m
-pub data Trees (T : Tables) : (n left m : ℕ) → Type 0 where
-  no-tree : {n : ℕ} → Trees T n 0 n
-  next-tree : {n m : ℕ} (left : ℕ) → n < length (T .nodes) → Trees T (n + 1) (left + nodeAt T n .children) m → Trees T n (left + 1) m
-
--- a tree stands at the node n
-pub record Tree (F : List ℕ) (S : Sections) (n : ℕ) : Type 0 where
-  pub laid : Laid F S
-  pub end : ℕ
-  pub tree : Trees (tablesOf F S) n 1 end
-
--- r is the node after it
-pub record Past (F : List ℕ) (S : Sections) (n r : ℕ) : Type 0 where
-  pub ends : (m : ℕ) → Trees (tablesOf F S) n 1 m → r ≡ m
+use Rattle.file_sections.specs.Frames.{Kept}
 
 -- how often x stands among `count` numbers from `from` on
 unfoldable pub timesIn : List ℕ → ℕ → ℕ → ℕ → ℕ
@@ -45,14 +31,6 @@ unfoldable pub NamesAt : List ℕ → ℕ → Inits → Type 0
 NamesAt l top noInit = Unit {0}
 NamesAt l top (init x a is) = (getD l top 0 ≡ x) × NamesAt l (top + 1) is
 
--- l′ is l below `top`
-pub record Below (top : ℕ) (l l′ : List ℕ) : Type 0 where
-  pub at : (i : ℕ) → i < top → getD l′ i 0 ≡ getD l i 0
-
--- l′ is l from `end` on
-pub record Beyond (end : ℕ) (l l′ : List ℕ) : Type 0 where
-  pub at : (i : ℕ) → end ≤ i → getD l′ i 0 ≡ getD l i 0
-
 -- `count` initializers stand at the node n, and W has room for their names from `top` on
 pub record Initializers (F : List ℕ) (S : Sections) (W : List ℕ) (top n count : ℕ) : Type 0 where
   pub laid : Laid F S
@@ -64,14 +42,12 @@ pub record Initializers (F : List ℕ) (S : Sections) (W : List ℕ) (top n coun
 -- their names stand in W′ from `top` on, and every number before and after them is that of W
 pub record Copied (F : List ℕ) (S : Sections) (W : List ℕ) (top n count : ℕ) (W′ : List ℕ) : Type 0 where
   pub names : (is : Inits) → InitsStand (tablesOf F S) n is → countInits is ≡ count → NamesAt W′ top is
-  pub below : Below top W W′
-  pub beyond : Beyond (top + count) W W′
+  pub kept : Kept top (top + count) W W′
 
 -- the names of `count` fields, those from `first` on, stand in W′ from `top` on, and every number before and after them is that of W
 pub record CopiedFields (F : List ℕ) (S : Sections) (W : List ℕ) (top first count : ℕ) (W′ : List ℕ) : Type 0 where
   pub names : (i : ℕ) → i < count → getD W′ (top + i) 0 ≡ fieldAt (tablesOf F S) (first + i) .name
-  pub below : Below top W W′
-  pub beyond : Beyond (top + count) W W′
+  pub kept : Kept top (top + count) W W′
 
 -- a literal of the struct record s stands at the node n, and W has room for its names twice from `top` on
 pub record Named (F : List ℕ) (S : Sections) (W : List ℕ) (top n s : ℕ) : Type 0 where
@@ -88,5 +64,4 @@ pub record Named (F : List ℕ) (S : Sections) (W : List ℕ) (top n s : ℕ) : 
 pub record Fitting (F : List ℕ) (S : Sections) (W : List ℕ) (top n s : ℕ) (W′ : List ℕ) (r : Bool) : Type 0 where
   pub tells : (is : Inits) → InitsStand (tablesOf F S) (n + 1) is → nodeAt (tablesOf F S) n .children ≡ countInits is
       → r ≡ namesFit (structOf (tablesOf F S) s .fields) is
-  pub below : Below top W W′
-  pub beyond : Beyond (top + nodeAt (tablesOf F S) n .children * 2) W W′
+  pub kept : Kept top (top + nodeAt (tablesOf F S) n .children * 2) W W′

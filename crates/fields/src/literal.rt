@@ -6,25 +6,12 @@ use file_sections::records::node_children;
 use file_sections::records::node_x;
 use file_sections::records::struct_count;
 use file_sections::records::struct_first;
+use file_sections::trees::past;
 ghost use mathlib.Core.Path.{_≡_};
 ghost use Prim.Native.Nat.{_+_, _*_, _≤_, _<_};
 ghost use lib.ListN.{length};
 ghost use Rattle.file_sections.specs.Layout.{Laid};
-ghost use Rattle.fields.specs.Literal.{Tree, Past, timesIn, onceEach, Initializers, Copied, CopiedFields, Named, Fitting};
-
-// The node after the tree at `node`.
-pub fn past(file: &[u8], sections: Sections, node: usize) -> usize
-    requires { ⌜ Tree (now file) sections node ⌝ }
-    ensures { λ r. ⌜ Past (now (file .entry)) sections node r ⌝ }
-{
-    let mut at = node;
-    let mut open = 1;
-    while 0 < open {
-        open = open - 1 + node_children(file, sections, at);
-        at += 1;
-    }
-    at
-}
+ghost use Rattle.fields.specs.Literal.{timesIn, onceEach, Initializers, Copied, CopiedFields, Named, Fitting};
 
 // Copies the names of `count` field initializers, the first at `node`, to `work` from `top` on.
 fn initializer_names(

@@ -1,2 +1,4 @@
 pub mod Numbers
 pub mod Layout
+pub mod Trees
+pub mod Frames

@@ -1,8 +1,9 @@
 // The six sections of a program file (document 01, 'The program file'): numbers, where the sections stand (refused under
-// 1 and 2), and readers of single records.
+// 1 and 2), readers of single records, and where a tree of nodes ends.
 pub mod layout;
 pub mod numbers;
 pub mod records;
+pub mod trees;
 
 // The count of each section, and the number at which its first record begins; types begin at number 1.
 pub struct Sections {

@@ -12,13 +12,14 @@ use Rattle.typing_rules.specs.Labels.{unlabelled}
 use Rattle.typing_rules.specs.Judge.{judgeCondition}
 use Rattle.file_sections.specs.declared.Sections.{Sections}
 use Rattle.file_sections.specs.Layout.{Has, tablesOf}
+use Rattle.file_sections.proofs.LawsFrames.{same-refl}
 use Rattle.bindings.specs.Bindings.{scopeOf}
 use Rattle.answers.specs.declared.answer.Judgement.the-variants.{Typed, GoesOn, Refused}
 use Rattle.answers.specs.declared.answer.Judged.{Judged}
 use Rattle.answers.specs.Answers.{withRow, AnswerIs}
 use Rattle.expressions.specs.Contract.{contextOf, Fine, RowsAt, After, Meets, accepts, Ready, Told, Listing}
 use Rattle.expressions.proofs.LawsMeets.{Untyped, stops, passes, child-no, child-ok}
-use Rattle.expressions.proofs.LawsAfter.{same-none, row-length, row-other, row-result, row-binder, fine-rows, ready}
+use Rattle.expressions.proofs.LawsAfter.{row-length, row-other, row-result, row-binder, fine-rows, ready}
 use Rattle.expressions.proofs.LawsChild.{has-node, child-type}
 use Rattle.expressions.proofs.LawsShape.{expr-kind}
 use Rattle.simple_statements.specs.Contract.{marked, ReadyCondition, ToldCondition}
@@ -36,7 +37,7 @@ after-nothing {R = R} {W = W} {n = n} h f =
         before = λ i g. row-other R n 0 65535 i (λ e. omega arith) (λ e. omega arith);
         after = λ i g. row-other R n 0 65535 i (λ e. omega arith) (λ e. omega arith);
       };
-      same = same-none _ W;
+      same = same-refl _ W;
       fine = fine-rows f (row-length R n 0 65535);
     }
 

@@ -13,9 +13,11 @@ use Rattle.typing_rules.specs.Judge.{Out, ok, andThen, ends, judge, Done, execu
 use Rattle.typing_rules.proofs.LawsOutcome.{ok-is, then-ok, needs-ok, then-needs, afterRun, run-none, run-more}
 use Rattle.file_sections.specs.declared.Sections.{Sections}
 use Rattle.file_sections.specs.Layout.{tablesOf}
+use Rattle.file_sections.specs.Frames.{Same}
 use Rattle.file_sections.proofs.LawsRecords.{nodes-long}
+use Rattle.file_sections.proofs.LawsFrames.{same-trans}
 use Rattle.type_index.specs.Index.{declared}
-use Rattle.bindings.specs.Bindings.{entryOf, scopeOf, Same}
+use Rattle.bindings.specs.Bindings.{entryOf, scopeOf}
 use Rattle.bindings.proofs.LawsBindings.{names-same}
 use Rattle.answers.specs.declared.answer.Judgement.the-variants.{GoesOn}
 use Rattle.answers.specs.declared.answer.Judged.{Judged}

@@ -6,6 +6,7 @@ use Prim.Native.Nat.{ℕ, _+_, _*_, _≤_, _<_}
 use native.Mathlib.Omega.{arith}
 use lib.ListN.{length}
 use borrow.Author.Tests.{eq-eqb, ne-eqb}
+use Rattle.file_sections.proofs.LawsFrames.{same-trans}
 use Rattle.typing_rules.specs.Contexts.{Scope}
 use Rattle.typing_rules.specs.Labels.{Label, marks, nothing}
 use Rattle.typing_rules.specs.Judge.{markedAs, done}
@@ -13,7 +14,7 @@ use Rattle.typing_rules.specs.Check.{nextResult}
 use Rattle.file_sections.specs.declared.Sections.{Sections}
 use Rattle.file_sections.specs.Layout.{tablesOf}
 use Rattle.bindings.specs.Bindings.{entryOf, scopeOf}
-use Rattle.bindings.proofs.LawsBindings.{scope-same, same-trans}
+use Rattle.bindings.proofs.LawsBindings.{scope-same}
 use Rattle.answers.specs.declared.answer.Judgement.{Judgement}
 use Rattle.answers.specs.declared.answer.Judgement.the-variants.{GoesOn, Returns}
 use Rattle.answers.specs.declared.answer.At.{At}

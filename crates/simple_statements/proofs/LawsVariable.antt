@@ -12,8 +12,10 @@ use Rattle.typing_rules.specs.Labels.{Label}
 use Rattle.typing_rules.specs.Judge.{execute}
 use Rattle.file_sections.specs.declared.Sections.{Sections}
 use Rattle.file_sections.specs.Layout.{tablesOf}
-use Rattle.bindings.specs.Bindings.{entryOf, scopeOf, Some, Same, Freshness, Bindable, Bound}
-use Rattle.bindings.proofs.LawsBindings.{scope-bound, scope-same, same-trans}
+use Rattle.file_sections.specs.Frames.{Same}
+use Rattle.file_sections.proofs.LawsFrames.{same-trans}
+use Rattle.bindings.specs.Bindings.{entryOf, scopeOf, Some, Freshness, Bindable, Bound}
+use Rattle.bindings.proofs.LawsBindings.{scope-bound, scope-same}
 use Rattle.answers.specs.declared.answer.Judgement.the-variants.{Typed, Refused}
 use Rattle.answers.specs.declared.answer.Judged.{Judged}
 use Rattle.answers.specs.Answers.{withRow, AnswerIs}

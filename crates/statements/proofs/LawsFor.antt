@@ -14,15 +14,17 @@ use Rattle.typing_rules.specs.Check.{nextResult}
 use Rattle.typing_rules.proofs.LawsOutcome.{ok-is, then-ok, either-then}
 use Rattle.file_sections.specs.declared.Sections.{Sections}
 use Rattle.file_sections.specs.Layout.{tablesOf}
+use Rattle.file_sections.specs.Frames.{Same}
 use Rattle.file_sections.proofs.LawsRecords.{nodes-long}
 use Rattle.bindings.specs.Bindings.{entryOf, scopeOf, Scoped}
-use Rattle.bindings.proofs.LawsBindings.{scope-same, same-less}
+use Rattle.bindings.proofs.LawsBindings.{scope-same, names-same}
+use Rattle.file_sections.proofs.LawsFrames.{same-less, same-more}
+use Rattle.type_index.specs.Index.{declared}
 use Rattle.answers.specs.declared.answer.Judgement.the-variants.{GoesOn, Refused}
 use Rattle.answers.specs.declared.answer.Judged.{Judged}
 use Rattle.answers.specs.Answers.{withRow, AnswerIs}
 use Rattle.expressions.specs.Contract.{contextOf, Fine, After, Meets, accepts, Listing}
 use Rattle.expressions.proofs.LawsMeets.{Unlisted, Unrefused, goes-unrefused, hands-up, goes-on, part-of}
-use Rattle.expressions.proofs.LawsAfter.{same-more}
 use Rattle.simple_statements.specs.Contract.{marked, Declaring, AnswersStmt, ReadyStmt, ToldStmt, ReadyVars, ToldVars, ReadyCondition, ToldCondition}
 use Rattle.simple_statements.proofs.LawsLabels.{on-for, vars-long, vars-closed, condition-long, step-head, condition-within, step-within}
 use Rattle.simple_statements.proofs.LawsMarks.{after-both, mark-fits, rule-left}

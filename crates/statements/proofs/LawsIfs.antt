@@ -18,16 +18,18 @@ use Rattle.typing_rules.specs.Judge.{Out, andThen, ends, isBelow, referred, exe
 use Rattle.typing_rules.proofs.LawsOutcome.{either-then}
 use Rattle.file_sections.specs.declared.Sections.{Sections}
 use Rattle.file_sections.specs.Layout.{Has, tablesOf, GoodTables}
+use Rattle.file_sections.specs.Frames.{Same}
 use Rattle.file_sections.proofs.LawsRecords.{types-long, nodes-long}
+use Rattle.file_sections.proofs.LawsFrames.{same-more}
 use Rattle.type_index.specs.Index.{declared, Indexed}
-use Rattle.bindings.specs.Bindings.{entryOf, scopeOf, Same, Bindable, Bound}
+use Rattle.bindings.specs.Bindings.{entryOf, scopeOf, Bindable, Bound}
 use Rattle.bindings.proofs.LawsBindings.{scope-bound, scope-same, names-same}
 use Rattle.answers.specs.declared.answer.Judgement.the-variants.{Typed, Refused}
 use Rattle.answers.specs.declared.answer.Judged.{Judged}
 use Rattle.answers.specs.Answers.{withRow, AnswerIs}
 use Rattle.expressions.specs.Contract.{contextOf, Fine, After, Typing, Meets, accepts, Ready, Told}
 use Rattle.expressions.proofs.LawsMeets.{Untyped, Unrefused, stops, passes, goes-on, child-no, child-ok}
-use Rattle.expressions.proofs.LawsAfter.{ready, typing-of, same-more, after-append}
+use Rattle.expressions.proofs.LawsAfter.{ready, typing-of, after-append}
 use Rattle.expressions.proofs.LawsLabels.{expr-long, expr-closed}
 use Rattle.expressions.proofs.LawsShape.{size-one}
 use Rattle.expressions.proofs.LawsChild.{has-node, child-within, child-type, child-fine, reference-within}

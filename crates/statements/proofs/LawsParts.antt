@@ -7,6 +7,8 @@ use Prim.Native.Nat.{ℕ, zero, suc, _+_, _≤_}
 use native.Mathlib.Omega.{arith}
 use lib.ListN.{length}
 use lib.Dec.{eqb}
+use Rattle.file_sections.proofs.LawsFrames.{same-less, same-more}
+use Rattle.file_sections.specs.Frames.{Same}
 use Rattle.oat.specs.Basics.{pick}
 use Rattle.oat.specs.Syntax.{Stmt, Block, sizeStmt, sizeBlock}
 use Rattle.oat.specs.Nodes.{StmtStands, BlockStands}
@@ -17,14 +19,13 @@ use Rattle.typing_rules.specs.Check.{nextResult}
 use Rattle.file_sections.specs.declared.Sections.{Sections}
 use Rattle.file_sections.specs.Layout.{tablesOf}
 use Rattle.type_index.specs.Index.{declared}
-use Rattle.bindings.specs.Bindings.{entryOf, scopeOf, Scoped, Same}
-use Rattle.bindings.proofs.LawsBindings.{scope-same, names-same, same-less}
+use Rattle.bindings.specs.Bindings.{entryOf, scopeOf, Scoped}
+use Rattle.bindings.proofs.LawsBindings.{scope-same, names-same}
 use Rattle.answers.specs.declared.answer.Judgement.{Judgement}
 use Rattle.answers.specs.declared.answer.Judgement.the-variants.{GoesOn, Returns, Refused}
 use Rattle.answers.specs.declared.answer.Judged.{Judged}
 use Rattle.expressions.specs.Contract.{contextOf, After, Meets}
 use Rattle.expressions.proofs.LawsMeets.{hands-up}
-use Rattle.expressions.proofs.LawsAfter.{same-more}
 use Rattle.simple_statements.specs.Contract.{markOf, marked, Marking, ToldStmt}
 use Rattle.simple_statements.proofs.LawsMarks.{after-join}
 use Rattle.statements.specs.Contract.{Blocking, ToldBlock}

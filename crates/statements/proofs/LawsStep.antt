@@ -12,6 +12,7 @@ use Rattle.typing_rules.specs.Labels.{unlabelled}
 use Rattle.typing_rules.specs.Judge.{executeStep}
 use Rattle.file_sections.specs.declared.Sections.{Sections}
 use Rattle.file_sections.specs.Layout.{Has, tablesOf}
+use Rattle.file_sections.proofs.LawsFrames.{same-refl}
 use Rattle.bindings.specs.Bindings.{scopeOf, Scoped}
 use Rattle.answers.specs.declared.answer.Judgement.the-variants.{GoesOn, Refused}
 use Rattle.answers.specs.declared.answer.Judged.{Judged}
@@ -48,7 +49,7 @@ after-plain {R = R} {W = W} {n = n} h f =
         before = λ i g. row-other R n 0 65535 i (λ e. omega arith) (λ e. omega arith);
         after = λ i g. row-other R n 0 65535 i (λ e. omega arith) (λ e. omega arith);
       };
-      same = same-none _ W;
+      same = same-refl _ W;
       fine = fine-rows f (row-length R n 0 65535);
     }
 

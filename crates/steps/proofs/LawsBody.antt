@@ -24,10 +24,12 @@ use Rattle.typing_rules.specs.Steps.{body, distinctNames, parameters}
 use Rattle.typing_rules.specs.Check.{runStep, rowsBegin, stepRows, rowsOf, parameterRows}
 use Rattle.file_sections.specs.declared.Sections.{Sections}
 use Rattle.file_sections.specs.Layout.{Has, tablesOf}
+use Rattle.file_sections.specs.Frames.{ListAt}
 use Rattle.file_sections.proofs.LawsRecords.{nodes-long}
+use Rattle.file_sections.proofs.LawsFrames.{same-trans, list-row, list-append, list-kept, list-from}
 use Rattle.type_index.specs.Index.{declared}
 use Rattle.bindings.specs.Bindings.{entryOf, Scoped}
-use Rattle.bindings.proofs.LawsBindings.{names-same, same-trans}
+use Rattle.bindings.proofs.LawsBindings.{names-same}
 use Rattle.answers.specs.declared.answer.Judgement.the-variants.{Returns}
 use Rattle.answers.specs.declared.answer.Judgement.the-variants as judgement
 use Rattle.answers.specs.declared.answer.Judged.{Judged}
@@ -45,9 +47,11 @@ use Rattle.statements.proofs.LawsBlock.{ready-block}
 use Rattle.steps.specs.declared.context.Context.{Context}
 use Rattle.steps.specs.declared.context.Stepped.{Stepped}
 use Rattle.steps.specs.declared.context.Stepped.the-variants.{Next, Refused}
-use Rattle.steps.specs.Contract.{contextAt, withStep, handedUp, ListAt, Accepted, accepts, ReadyParameters, BoundAll, ToldParameters, ReadyBody, ToldBody}
+use Rattle.steps.specs.Contract.{contextAt, withStep, handedUp, Accepted, accepts, ReadyParameters, BoundAll, ToldParameters, ReadyBody, ToldBody}
 use Rattle.steps.proofs.LawsStepping.{stops, passes, hands-up, goes-on, whole-context}
-use Rattle.steps.proofs.LawsListAt.{list-row, list-append, list-kept, list-from, rows-count, rows-list, parameters-count}
+use Rattle.steps.proofs.LawsListAt.{rows-count, rows-list, parameters-count}
+use Rattle.steps.proofs.LawsGlobal.{hands-up, goes-on}
+use Rattle.steps.proofs.LawsRows.{rows-count, rows-list, parameters-count}
 
 -- the answer is no return
 pub record Unreturned (r : Judged) : Type 0 where

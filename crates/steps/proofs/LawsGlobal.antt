@@ -18,8 +18,10 @@ use Rattle.typing_rules.specs.Steps.{Step, globalValue, addName}
 use Rattle.typing_rules.specs.Check.{isMiss, runStep, rowsBegin, stepRows, rowsOf, nextResult}
 use Rattle.file_sections.specs.declared.Sections.{Sections}
 use Rattle.file_sections.specs.Layout.{Has, tablesOf}
+use Rattle.file_sections.specs.Frames.{Same}
 use Rattle.file_sections.proofs.LawsRecords.{nodes-long}
-use Rattle.bindings.specs.Bindings.{entryOf, namesOf, Some, Same, Bindable, Bound}
+use Rattle.file_sections.proofs.LawsFrames.{list-row, list-kept, list-from}
+use Rattle.bindings.specs.Bindings.{entryOf, namesOf, Some, Bindable, Bound}
 use Rattle.bindings.proofs.LawsBindings.{scope-none, names-same, names-declared}
 use Rattle.answers.specs.declared.answer.Judgement.the-variants.{Typed}
 use Rattle.answers.specs.declared.answer.Judged.{Judged}
@@ -33,9 +35,10 @@ use Rattle.expressions.proofs.LawsShape.{size-one}
 use Rattle.steps.specs.declared.context.Context.{Context}
 use Rattle.steps.specs.declared.context.Stepped.{Stepped}
 use Rattle.steps.specs.declared.context.Stepped.the-variants.{Next, Refused}
-use Rattle.steps.specs.Contract.{contextAt, withName, handedUp, Accepted, Stepping, accepts, Newness, ReadyGlobal, ToldGlobal}
+use Rattle.steps.specs.Contract.{contextAt, withName, handedUp, Accepted, Stepping, accepts, Newness, ReadyGlobal, ToldGlobal, refuses}
 use Rattle.steps.proofs.LawsStepping.{stops, passes, hands-up, whole-context}
-use Rattle.steps.proofs.LawsListAt.{list-row, list-kept, list-from, rows-count, rows-list}
+use Rattle.steps.proofs.LawsListAt.{rows-count, rows-list}
+use Rattle.steps.proofs.LawsRows.{rows-count, rows-list}
 
 entry-is : {t n x y : ℕ} {b : Bool} {l k : List (Entry ℕ)} → x ≡ y → b ≡ true → l ≡ k
     → _≡_ {A = List (Entry ℕ)} (record { name = x; type = t; binder = n; assignable = b } ∷ l) (record { name = y; type = t; binder = n; assignable = true } ∷ k)

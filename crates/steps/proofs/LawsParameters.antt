@@ -15,14 +15,16 @@ use Rattle.typing_rules.specs.Steps.{isAmong, distinctNames, parameters}
 use Rattle.typing_rules.specs.Check.{parameterRows}
 use Rattle.file_sections.specs.declared.Sections.{Sections}
 use Rattle.file_sections.specs.Layout.{Has, tablesOf}
+use Rattle.file_sections.specs.Frames.{ListAt}
 use Rattle.file_sections.proofs.LawsRecords.{nodes-long}
+use Rattle.file_sections.proofs.LawsFrames.{same-trans, same-refl, kept-none, list-none, list-from, list-row, list-append, list-kept}
 use Rattle.bindings.specs.Bindings.{entryOf, scopeOf, Scoped, Some, Freshness, Bindable, Bound}
-use Rattle.bindings.proofs.LawsBindings.{scope-none, scope-bound, same-trans, same-refl}
+use Rattle.bindings.proofs.LawsBindings.{scope-none, scope-bound}
 use Rattle.answers.specs.Answers.{withRow}
 use Rattle.expressions.specs.Contract.{Fine}
-use Rattle.expressions.proofs.LawsAfter.{kept-none, row-length, row-other, row-result, row-binder}
-use Rattle.steps.specs.Contract.{ListAt, ReadyParameters, BoundAll, ToldParameters}
-use Rattle.steps.proofs.LawsListAt.{list-none, list-from, list-row, list-append, list-kept, parameters-count, parameters-more}
+use Rattle.expressions.proofs.LawsAfter.{row-length, row-other, row-result, row-binder}
+use Rattle.steps.specs.Contract.{ReadyParameters, BoundAll, ToldParameters}
+use Rattle.steps.proofs.LawsRows.{parameters-count, parameters-more}
 
 -- a name among others
 among-middle : (x : ℕ) (l m : List ℕ) → isAmong x (l ++ (x ∷ m)) ≡ true

@@ -1,7 +1,7 @@
 pub mod LawsStepping
 pub mod LawsNames
 pub mod LawsPlain
-pub mod LawsListAt
+pub mod LawsRows
 pub mod LawsParameters
 pub mod LawsGlobal
 pub mod LawsBody

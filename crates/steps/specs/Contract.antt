@@ -20,12 +20,13 @@ use Rattle.typing_rules.specs.Steps.{Step, structName, builtIn, heading, global
 use Rattle.typing_rules.specs.Check.{isMiss, runStep, rowsBegin, stepRows, parameterRows}
 use Rattle.file_sections.specs.declared.Sections.{Sections}
 use Rattle.file_sections.specs.Layout.{Laid, tablesOf, GoodTables}
+use Rattle.file_sections.specs.Frames.{Same, Kept, ListAt}
 use Rattle.type_index.specs.Index.{formedEntry, Indexed}
-use Rattle.bindings.specs.Bindings.{entryOf, namesOf, scopeOf, Scoped, Same}
+use Rattle.bindings.specs.Bindings.{entryOf, namesOf, scopeOf, Scoped}
 use Rattle.answers.specs.declared.answer.Judgement.{Judgement}
 use Rattle.answers.specs.declared.answer.Judgement.the-variants.{Typed, GoesOn, Returns}
 use Rattle.answers.specs.declared.answer.Judgement.the-variants as judgement
-use Rattle.expressions.specs.Contract.{Fine, Kept}
+use Rattle.expressions.specs.Contract.{Fine}
 use Rattle.fields.specs.Literal.{timesIn}
 use Rattle.steps.specs.declared.context.Context.{Context}
 use Rattle.steps.specs.declared.context.Stepped.{Stepped}
@@ -67,10 +68,6 @@ pub record Held (F : List ℕ) (S : Sections) (X W K : List ℕ) (c : Context) :
   pub good-tables : GoodTables F S
   pub indexed : Indexed X (tablesOf F S) (S .types)
   pub scoped : Scoped F S W K (c .names)
-
--- the numbers of l stand in R from the number i on
-pub record ListAt (R : List ℕ) (i : ℕ) (l : List ℕ) : Type 0 where
-  pub at : (j : ℕ) → j < length l → getD R (i + j) 0 ≡ getD l j 0
 
 -- the step s is accepted, with the context C after it and the labels L: the buffers hold C, the rows of the step are written, and no
 -- other row has changed

@@ -14,12 +14,13 @@ use Rattle.typing_rules.specs.Check.{rowsBegin, stepRows, runStep}
 use Rattle.typing_rules.proofs.LawsSteps.{tabulate-more}
 use Rattle.file_sections.specs.declared.Sections.{Sections}
 use Rattle.file_sections.specs.Layout.{tablesOf}
+use Rattle.file_sections.specs.Frames.{ListAt}
+use Rattle.file_sections.proofs.LawsFrames.{list-none}
 use Rattle.bindings.specs.Bindings.{Scoped}
 use Rattle.steps.specs.declared.context.Context.{Context}
 use Rattle.steps.specs.declared.context.Stepped.{Stepped}
 use Rattle.steps.specs.declared.context.Stepped.the-variants.{Next}
-use Rattle.steps.specs.Contract.{contextAt, afterStep, spanOf, Held, ListAt, Answering, answers-next, answers-refused, Answered}
-use Rattle.steps.proofs.LawsListAt.{list-none}
+use Rattle.steps.specs.Contract.{contextAt, afterStep, spanOf, Held, Answering, answers-next, answers-refused, Answered}
 use Rattle.typing.specs.Runs.{afterSteps, withSegments, written-none, written-next, Runs, goes, stops, AnsweringAll, all-next, all-refused, AnsweredAll}
 use Rattle.typing.proofs.LawsRuns.{after-append, written-append, Stopped, next-is, not-both, one-on, one-stop, then-on, then-breaks, breaks-still}
 use Rattle.typing.proofs.LawsCounts.{Alike, after-counted, tabulate-rest}

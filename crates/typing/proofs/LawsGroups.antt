@@ -11,8 +11,8 @@ use Rattle.oat.specs.Nodes.{DeclStands, DeclsStand}
 use Rattle.typing_rules.specs.Steps.{Step}
 use Rattle.file_sections.specs.declared.Sections.{Sections}
 use Rattle.file_sections.specs.Layout.{tablesOf}
-use Rattle.fields.specs.Literal.{Tree, Past}
-use Rattle.fields.proofs.LawsTrees.{decl-tree}
+use Rattle.file_sections.specs.Trees.{Tree, Past}
+use Rattle.file_sections.proofs.LawsTrees.{decl-tree}
 use Rattle.steps.specs.declared.context.Context.{Context}
 use Rattle.steps.specs.declared.context.Stepped.{Stepped}
 use Rattle.steps.specs.declared.context.Stepped.the-variants.{Next}

@@ -5,7 +5,7 @@ use Prim.Native.Nat.{ℕ, _-_, _≤_, _<_}
 use native.Mathlib.Omega.{arith}
 use Rattle.typing_rules.specs.Steps.{headings}
 use Rattle.file_sections.specs.declared.Sections.{Sections}
-use Rattle.fields.specs.Literal.{Tree, Past}
+use Rattle.file_sections.specs.Trees.{Tree, Past}
 use Rattle.steps.specs.declared.context.Context.{Context}
 use Rattle.steps.specs.declared.context.Stepped.{Stepped}
 use Rattle.steps.specs.declared.context.Stepped.the-variants.{Next}

@@ -13,8 +13,8 @@ use Rattle.oat.specs.Syntax.{Decl, sizeDecl, sizeDecls}
 use Rattle.typing_rules.specs.Steps.{Step}
 use Rattle.typing_rules.specs.Check.{Segment, segmentAt, rowsFrom}
 use Rattle.typing_rules.proofs.RowsTheorem.{SegmentsLong, long-none, long-next}
-use Rattle.steps.specs.Contract.{ListAt}
-use Rattle.steps.proofs.LawsListAt.{list-none, list-append}
+use Rattle.file_sections.specs.Frames.{ListAt}
+use Rattle.file_sections.proofs.LawsFrames.{list-none, list-append}
 use Rattle.typing.specs.Runs.{Written, written-none, written-next}
 
 -- the segment that is found at a node stands there

@@ -17,13 +17,13 @@ use Rattle.typing_rules.specs.Steps.{Step, structName, builtIn, heading, global
 use Rattle.typing_rules.specs.Check.{Segment, Ran, refused, withSegment, rowsBegin, stepRows, runStep, run}
 use Rattle.file_sections.specs.declared.Sections.{Sections}
 use Rattle.file_sections.specs.Layout.{tablesOf}
-use Rattle.expressions.specs.Contract.{Kept}
+use Rattle.file_sections.specs.Frames.{Kept}
+use Rattle.file_sections.proofs.LawsFrames.{list-kept}
 use Rattle.steps.specs.declared.context.Context.{Context}
 use Rattle.steps.specs.declared.context.Stepped.{Stepped}
 use Rattle.steps.specs.declared.context.Stepped.the-variants.{Next, Refused}
 use Rattle.steps.proofs.context.Stepped.{the-type}
 use Rattle.steps.specs.Contract.{contextAt, afterStep, spanOf, Held, Stepping, accepts, refuses, Steps}
-use Rattle.steps.proofs.LawsListAt.{list-kept}
 use Rattle.typing.specs.Runs.{afterSteps, withSegments, Touched, touched-first, touched-later, Written, written-none, written-next, GoOn, Break, Run, Runs, goes, stops}
 
 -- every step is counted

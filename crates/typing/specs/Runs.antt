@@ -13,11 +13,12 @@ use Rattle.typing_rules.specs.Steps.{Step, structName, builtIn, headings, steps
 use Rattle.typing_rules.specs.Check.{Segment, Ran, refused, withSegment, rowsBegin, run}
 use Rattle.file_sections.specs.declared.Sections.{Sections}
 use Rattle.file_sections.specs.Layout.{tablesOf, GoodTables}
+use Rattle.file_sections.specs.Frames.{ListAt}
 use Rattle.type_index.specs.Index.{Indexed}
 use Rattle.steps.specs.declared.context.Context.{Context}
 use Rattle.steps.specs.declared.context.Stepped.{Stepped}
 use Rattle.steps.specs.declared.context.Stepped.the-variants.{Next, Refused}
-use Rattle.steps.specs.Contract.{contextAt, afterStep, spanOf, Held, ListAt, Whole}
+use Rattle.steps.specs.Contract.{contextAt, afterStep, spanOf, Held, Whole}
 
 -- the context before the first step
 abbrev pub start : Context

@@ -1,7 +1,7 @@
 // The steps in their groups, each step from the context that those before it made.
-use fields::literal::past;
 use file_sections::Sections;
 use file_sections::records::node_kind;
+use file_sections::trees::past;
 use steps::context::Context;
 use steps::context::Stepped;
 ghost use Prim.Native.Nat.{_*_, _≤_};

@@ -1,10 +1,10 @@
--- `literal::past` meets its contract. The loop keeps: the trees left of the tree stand from the node come to. Assumes nothing.
+-- `trees::past` meets its contract. The loop keeps: the trees left of the tree stand from the node come to. Assumes nothing.
 use Prim.Native.Nat.{_-_, _<_}
 use borrow.Author.Needs.{needs}
 use Rattle.file_sections.specs.Layout.{tablesOf}
-use Rattle.fields.proofs.LawsTrees.{Along, along-start, along-within, along-low, along-few, along-next, along-done}
-use Rattle.fields.proofs.literal.past.Statement.{statement}
-use Rattle.fields.proofs.literal.past.Tie as tie
+use Rattle.file_sections.proofs.LawsTrees.{Along, along-start, along-within, along-low, along-few, along-next, along-done}
+use Rattle.file_sections.proofs.trees.past.Statement.{statement}
+use Rattle.file_sections.proofs.trees.past.Tie as tie
 
 abbrev Inv-loop : tie.InvT-loop
 Inv-loop file sections node at₀ open₀ at «open» = Along (tablesOf file sections) node at «open»

@@ -1,16 +1,29 @@
--- Numbers that stand in the rows: one run of them after another, runs that are kept, and the rows of labels and of parameters as runs.
--- Assumes nothing.
+-- Frames of lists of numbers: nothing has changed, one change after another, and runs of numbers that stand in a list. Assumes nothing.
 use mathlib.Core.Path.{_≡_, refl, ap, subst, _∙_}
 use mathlib.Core.List.{List, [], _∷_, _++_}
-use Prim.Native.Nat.{ℕ, zero, suc, _+_, _*_, _≤_, _<_}
+use Prim.Native.Nat.{ℕ, zero, suc, _+_, _≤_, _<_}
 use native.Mathlib.Omega.{arith}
 use lib.ListN.{length, getD}
-use Rattle.oat.specs.Tables.{Tables, entryAt}
-use Rattle.typing_rules.specs.Labels.{Label}
-use Rattle.typing_rules.specs.Check.{rowsOf, parameterRows}
-use Rattle.expressions.specs.Contract.{RowsAt}
-use Rattle.steps.specs.Contract.{ListAt}
+use Rattle.file_sections.specs.Frames.{Same, Kept, ListAt}
 
+-- a list that is kept below a number
+pub same-less : (a b : ℕ) {l m : List ℕ} → a ≤ b → Same b l m → Same a l m
+same-less a b h s = record { at = λ i k. s .at i (omega arith) }
+
+pub same-trans : (a b : ℕ) {l m n : List ℕ} → a ≤ b → Same a l m → Same b m n → Same a l n
+same-trans a b h s t = record { at = λ i k. t .at i (omega arith) ∙ s .at i k }
+
+pub same-refl : (a : ℕ) (l : List ℕ) → Same a l l
+same-refl a l = record { at = λ i k. refl }
+
+pub same-more : {k : ℕ} {l m o : List ℕ} → Same k l m → Same k m o → Same k l o
+same-more a b = record { at = λ i h. b .at i h ∙ a .at i h }
+
+-- a list that is kept outside of a part
+pub kept-none : (a b : ℕ) (l : List ℕ) → Kept a b l l
+kept-none a b l = record { before = λ i h. refl; after = λ i h. refl }
+
+-- runs of numbers
 pub list-none : (R : List ℕ) (i : ℕ) → ListAt R i []
 list-none R i = record { at = λ j h. absurd (omega arith) }
 
@@ -45,28 +58,3 @@ list-append R i (a ∷ l) m h g =
 -- numbers that have not changed
 pub list-kept : (R R′ : List ℕ) (i : ℕ) (l : List ℕ) → ((j : ℕ) → i ≤ j → j < i + length l → getD R′ j 0 ≡ getD R j 0) → ListAt R i l → ListAt R′ i l
 list-kept R R′ i l f h = record { at = λ j g. f (i + j) (omega arith) (omega arith) ∙ h .at j g }
-
--- the rows of labels
-pub rows-count : (L : List (Label ℕ)) → length (rowsOf L) ≡ length L * 2
-unfolding rowsOf
-rows-count [] = refl
-rows-count (l ∷ L) = let e = rows-count L in omega arith
-
-pub rows-list : (R : List ℕ) (n : ℕ) (L : List (Label ℕ)) → RowsAt R n L → ListAt R (n * 2) (rowsOf L)
-unfolding rowsOf RowsAt
-rows-list R n [] h = list-none R (n * 2)
-rows-list R n (l ∷ L) h = list-row R (n * 2) _ _ (rowsOf L) (h .0) (h .1) (list-from R ((n + 1) * 2) (n * 2 + 2) (rowsOf L) (omega arith) (rows-list R (n + 1) L (h .2)))
-
--- of parameters
-pub parameters-count : (T : Tables) (p : ℕ) (ps : List ℕ) → length (parameterRows T p ps) ≡ length ps * 2
-unfolding parameterRows
-parameters-count T p [] = refl
-parameters-count T p (x ∷ xs) = let e = parameters-count T (suc p) xs in omega arith
-
--- of one parameter more
-pub parameters-more : (T : Tables) (p x : ℕ) (ps : List ℕ) → parameterRows T p (ps ++ (x ∷ [])) ≡ parameterRows T p ps ++ (entryAt T (p + length ps) ∷ 65535 ∷ [])
-unfolding parameterRows
-parameters-more T p x [] = let e : p ≡ p + 0 = omega arith in ap (λ i. entryAt T i ∷ 65535 ∷ []) e
-parameters-more T p x (y ∷ ys) =
-    let e : suc p + length ys ≡ p + suc (length ys) = omega arith in
-    ap (λ l. entryAt T p ∷ 65535 ∷ l) (parameters-more T (suc p) x ys ∙ ap (λ i. parameterRows T (suc p) ys ++ (entryAt T i ∷ 65535 ∷ [])) e)

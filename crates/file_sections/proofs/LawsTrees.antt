@@ -9,10 +9,10 @@ use lib.ListN.{length}
 use Rattle.oat.specs.Tables.{Tables, nodeAt}
 use Rattle.oat.specs.Syntax.{Literal, truth, falsity, integer, text, Expr, null, literal, name, arrayLiteral, defaultArray, arrayWith, index, lengthOf, structLiteral, field, call, unary, binary, Exprs, none, also, Inits, noInit, init, targetExpr, Vars, noVar, nextVar, Condition, noCondition, condition, Stmt, assign, var, returnValue, returnVoid, callStmt, ifElse, ifNull, for, while, Step, noStep, step, Block, block, Stmts, empty, then, Decl, global, function, size, sizes, sizeInits, sizeTarget, sizeVars, sizeCondition, sizeStep, sizeBlock, sizeStmt, sizeStmts, sizeDecl, count, countInits, countVars, countStmts}
 use Rattle.oat.specs.Nodes.{Node, LiteralStands, Stands, StandAll, InitsStand, VarsStand, ConditionStands, StmtStands, StepStands, BlockStands, StmtsStand, ParametersStand, DeclStands}
 use Rattle.file_sections.specs.declared.Sections.{Sections}
 use Rattle.file_sections.specs.Layout.{tablesOf}
+use Rattle.file_sections.specs.Trees.{Trees, no-tree, next-tree, Tree, Past}
 use Rattle.file_sections.proofs.LawsRecords.{nodes-long}
-use Rattle.fields.specs.Literal.{Trees, no-tree, next-tree, Tree, Past}
 
 module _ {T : Tables} where
   -- no tree, or one that begins at the node n
