@@ -24,7 +24,7 @@ use Rattle.file_sections.proofs.LawsRecords.{built-ins-long}
 use Rattle.file_sections.proofs.LawsFrames.{same-refl}
 use Rattle.bindings.specs.declared.Found.{Found}
 use Rattle.bindings.specs.declared.Found.the-variants.{At, Nothing}
-use Rattle.bindings.specs.Bindings.{entryOf, binderOf, typeBound, nameBound, isGlobal, namesOf, scopeOf, foundBelow, latest, Chained, Position, Scoped, Some, SomeFrom, Finds, Freshness, Assignability, Bindable, Bound, topOf}
+use Rattle.bindings.specs.Bindings.{entryOf, binderOf, typeBound, nameBound, isGlobal, namesOf, scopeOf, foundBelow, latest, Chained, Position, Scoped, Some, SomeFrom, Finds, Freshness, Assignability, Bindable, Bound}
 
 -- a position of a built-in
 module _ (F : List ℕ) (S : Sections) (W : List ℕ) (j : ℕ) (h : j < S .«built_ins») where

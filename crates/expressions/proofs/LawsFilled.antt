@@ -14,7 +14,7 @@ use Rattle.oat.specs.Nodes.{Stands}
 use Rattle.oat.proofs.LawsTables.{has-kind}
 use Rattle.typing_rules.specs.Contexts.{binds, isFresh}
 use Rattle.typing_rules.specs.Labels.{Label}
-use Rattle.typing_rules.specs.Judge.{Out, ok, no, andThen, needs, plain, isKind, referred, isBelow, formed, judge}
+use Rattle.typing_rules.specs.Judge.{ok, andThen, needs, plain, isKind, referred, isBelow, formed, judge}
 use Rattle.file_sections.specs.declared.Sections.{Sections}
 use Rattle.file_sections.specs.Layout.{Has, tablesOf, GoodTables}
 use Rattle.file_sections.specs.Frames.{Same}

@@ -14,7 +14,7 @@ use Rattle.oat.specs.Syntax.{Expr, arrayLiteral, structLiteral, call, size, Exp
 use Rattle.oat.specs.Nodes.{Stands, StandAll, InitsStand}
 use Rattle.oat.proofs.LawsTables.{has-kind}
 use Rattle.typing_rules.specs.Labels.{Label}
-use Rattle.typing_rules.specs.Judge.{Out, ok, no, andThen, needs, onDeclared, plain, isKind, referred, formed, eachBelow, argumentsBelow, judge}
+use Rattle.typing_rules.specs.Judge.{Out, ok, andThen, onDeclared, plain, isKind, referred, formed, eachBelow, argumentsBelow, judge}
 use Rattle.file_sections.specs.declared.Sections.{Sections}
 use Rattle.file_sections.specs.Layout.{Has, tablesOf}
 use Rattle.file_sections.specs.Frames.{Same}
@@ -31,8 +31,8 @@ use Rattle.answers.specs.declared.leaves.Expected.{Expected}
 use Rattle.answers.specs.declared.leaves.Expected.the-variants.{Each, Run}
 use Rattle.answers.specs.Answers.{withRow}
 use Rattle.expressions.specs.Contract.{contextOf, Fine, After, Typing, Listing, Meets, accepts, refuses, Answers, Ready, Told, expectedBelow, listed, ReadyList, ToldList, initialized, ReadyInits, ToldInits}
-use Rattle.expressions.proofs.LawsMeets.{Untyped, Unlisted, stops, passes, child-ok, list-no, list-ok, then-tested, child-no}
-use Rattle.expressions.proofs.LawsAfter.{fine-stack, typing-of, after-append, rule-typed, ready}
+use Rattle.expressions.proofs.LawsMeets.{Untyped, Unlisted, stops, passes, child-ok, list-no, list-ok, then-tested}
+use Rattle.expressions.proofs.LawsAfter.{fine-stack, typing-of, after-append, rule-typed}
 use Rattle.expressions.proofs.LawsChild.{child-within, has-type, kind-within, element-within, returned-within, type-entered, formed-is, parameters-within}
 use Rattle.expressions.proofs.LawsList.{exprIn, judgedIn, listedIn, listed-fine}
 use Rattle.expressions.proofs.LawsInits.{initsIn, fitsIn, initializedIn, initialized-fine}

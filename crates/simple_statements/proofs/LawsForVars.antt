@@ -15,7 +15,6 @@ use Rattle.file_sections.specs.declared.Sections.{Sections}
 use Rattle.file_sections.specs.Layout.{tablesOf}
 use Rattle.file_sections.specs.Frames.{Same}
 use Rattle.file_sections.proofs.LawsRecords.{nodes-long}
-use Rattle.file_sections.proofs.LawsFrames.{same-trans}
 use Rattle.type_index.specs.Index.{declared}
 use Rattle.bindings.specs.Bindings.{entryOf, scopeOf}
 use Rattle.bindings.proofs.LawsBindings.{names-same}

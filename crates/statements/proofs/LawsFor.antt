@@ -14,12 +14,10 @@ use Rattle.typing_rules.specs.Check.{nextResult}
 use Rattle.typing_rules.proofs.LawsOutcome.{ok-is, then-ok, either-then}
 use Rattle.file_sections.specs.declared.Sections.{Sections}
 use Rattle.file_sections.specs.Layout.{tablesOf}
-use Rattle.file_sections.specs.Frames.{Same}
 use Rattle.file_sections.proofs.LawsRecords.{nodes-long}
 use Rattle.bindings.specs.Bindings.{entryOf, scopeOf, Scoped}
-use Rattle.bindings.proofs.LawsBindings.{scope-same, names-same}
+use Rattle.bindings.proofs.LawsBindings.{scope-same}
 use Rattle.file_sections.proofs.LawsFrames.{same-less, same-more}
-use Rattle.type_index.specs.Index.{declared}
 use Rattle.answers.specs.declared.answer.Judgement.the-variants.{GoesOn, Refused}
 use Rattle.answers.specs.declared.answer.Judged.{Judged}
 use Rattle.answers.specs.Answers.{withRow, AnswerIs}

@@ -19,7 +19,7 @@ use Rattle.answers.specs.declared.answer.Judged.{Judged}
 use Rattle.answers.specs.Answers.{withRow, AnswerIs}
 use Rattle.expressions.specs.Contract.{contextOf, Fine, RowsAt, After, Meets, accepts}
 use Rattle.expressions.proofs.LawsMeets.{Unrefused, stops, passes, goes-on, part-of}
-use Rattle.expressions.proofs.LawsAfter.{same-none, row-length, row-other, row-result, row-binder, fine-rows}
+use Rattle.expressions.proofs.LawsAfter.{row-length, row-other, row-result, row-binder, fine-rows}
 use Rattle.expressions.proofs.LawsChild.{has-node}
 use Rattle.simple_statements.specs.Contract.{markOf, marked, ReadyStmt, ToldStmt}
 use Rattle.simple_statements.proofs.LawsLabels.{stmt-kind, stmt-mark}
