@@ -6,11 +6,10 @@ use crate::formed::struct_of;
 use crate::records::chain_records;
 use crate::same::bucket;
 use crate::same::lowest;
-use chains::link;
 use file_sections::Sections;
 ghost use mathlib.Core.Path.{_≡_};
 ghost use Prim.Native.Nat.{_+_, _<_, _≤_};
-ghost use lib.ListN.{length};
+ghost use lib.ListN.{length, getD, set};
 ghost use Rattle.oat.specs.Basics.{pick};
 ghost use Rattle.file_sections.specs.Layout.{tablesOf, GoodTables};
 ghost use Rattle.type_index.specs.Index.{Chained, Cleared, Indexed};
@@ -24,6 +23,14 @@ fn mark(test: bool) -> u16
         return 1;
     }
     0
+}
+
+// Puts the type i first in its chain.
+fn link(index: &mut [u16], i: usize, bucket: usize)
+    requires { ⌜ (2112 ≤ length (now index)) × (i < 512) × (bucket < 64) ⌝ }
+    ensures { λ _. ⌜ now (index .exit) ≡ set (set (now (index .entry)) (1536 + i) (getD (now (index .entry)) (2048 + bucket) 0)) (2048 + bucket) (i + 1) ⌝ }
+{
+    chains::link(index, 2048 + bucket, 1536 + i, i + 1);
 }
 
 // The entries of the type i and its place in its chain, where lower types are indexed and the struct records are chained.
@@ -41,7 +48,7 @@ fn index_one(file: &[u8], sections: Sections, records: &[u16], index: &mut [u16]
     index[i] = equal as u16;
     index[512 + i] = record as u16;
     index[1024 + i] = mark(formed);
-    link(index, 2048 + chain, 1536 + i, i + 1);
+    link(index, i, chain);
 }
 
 // Empties the chains.
