@@ -11,7 +11,7 @@ use Rattle.oat.specs.Types.{structsOf}
 use Rattle.typing_rules.specs.Contexts as Contexts
 use Rattle.typing_rules.specs.Judge.{Out, ok, needs}
 use Rattle.typing_rules.specs.Steps.{Step}
-use Rattle.typing_rules.specs.Check.{stepRows}
+use Rattle.typing_rules.specs.Check.{stepRows, nodeCount}
 use Rattle.file_sections.specs.declared.Sections.{Sections}
 use Rattle.file_sections.specs.Layout.{tablesOf}
 use Rattle.file_sections.proofs.LawsRecords.{structs-long}
@@ -20,7 +20,7 @@ use Rattle.expressions.specs.Contract.{contextOf}
 use Rattle.steps.specs.declared.context.Context.{Context}
 use Rattle.steps.specs.declared.context.Stepped.{Stepped}
 use Rattle.steps.specs.declared.context.Stepped.the-variants.{Next, Refused}
-use Rattle.steps.specs.Contract.{contextAt, afterStep, spanOf, Held, Stepping, accepts, refuses, Answering, answers-refused, Whole}
+use Rattle.steps.specs.Contract.{contextAt, afterStep, Held, Stepping, accepts, refuses, Answering, answers-refused, Whole}
 
 -- a premise that is tested
 module _ {F : List ℕ} {S : Sections} {X : List ℕ} {c : Context} {s : Step} {R R′ W′ K′ : List ℕ} {r : Stepped} where
@@ -39,7 +39,7 @@ module _ {T : Tables} {W : List ℕ} {c : Context} {s : Step} {r : Stepped} wher
 
 -- an accepted step without rows
 pub rowless : {F : List ℕ} {S : Sections} {X : List ℕ} {c : Context} {s : Step} {W′ K′ : List ℕ} {r : Stepped} (R : List ℕ) (C : Contexts.Context ℕ)
-    → spanOf s ≡ 0 → stepRows (tablesOf F S) s [] ≡ [] → r ≡ Next (afterStep s c) → Held F S X W′ K′ (afterStep s c)
+    → nodeCount s ≡ 0 → stepRows (tablesOf F S) s [] ≡ [] → r ≡ Next (afterStep s c) → Held F S X W′ K′ (afterStep s c)
     → contextAt (tablesOf F S) W′ (afterStep s c) ≡ C → Stepping F S X c s R R W′ K′ r (ok C [])
 rowless {F} {S} {X} {c} {s} {W′} {K′} {r} R C z n e h m =
     accepts C [] e

@@ -16,10 +16,10 @@ use Rattle.typing_rules.specs.Contexts.{Context}
 use Rattle.typing_rules.specs.Labels.{Label, Labels, unlabelled}
 use Rattle.typing_rules.specs.Judge.{Out, ok, no}
 use Rattle.typing_rules.specs.Steps.{Step, structName, builtIn, heading, globalValue, structFields, body, StepRule, contextAfter, StepsRule, no-step, next-step, nodesOf, SameOn, same-none, same-step}
-use Rattle.typing_rules.specs.Check.{Segment, Ran, accepted, refused, withSegment, onStep, runStep, run, rowsBegin, stepRows}
+use Rattle.typing_rules.specs.Check.{Segment, Ran, accepted, refused, withSegment, onStep, runStep, run, rowsBegin, nodeCount, stepRows}
 use Rattle.typing_rules.proofs.Claims.{File, ContextFits, eraseContext, erase, Holds}
 use Rattle.typing_rules.proofs.LawsBridge.{erase-long}
-use Rattle.typing_rules.proofs.LawsSteps.{structsAfter, nodeCount, StepStands, RightStep, sound-step, complete-step}
+use Rattle.typing_rules.proofs.LawsSteps.{structsAfter, StepStands, RightStep, sound-step, complete-step}
 
 -- the steps stand, k structs declared before them
 pub data Fitting (T : Tables) : ℕ → List Step → Type 0 where
