@@ -12,7 +12,7 @@ use Rattle.typing_rules.specs.Contexts as Contexts
 use Rattle.typing_rules.specs.Labels.{Label}
 use Rattle.typing_rules.specs.Judge.{Out, ok, andThen, needs}
 use Rattle.typing_rules.specs.Steps.{Step}
-use Rattle.typing_rules.specs.Check.{stepRows}
+use Rattle.typing_rules.specs.Check.{stepRows, nodeCount}
 use Rattle.file_sections.specs.declared.Sections.{Sections}
 use Rattle.file_sections.specs.Layout.{tablesOf}
 use Rattle.file_sections.proofs.LawsRecords.{structs-long}
@@ -24,7 +24,7 @@ use Rattle.expressions.proofs.LawsMeets.{Unrefused, part-of}
 use Rattle.steps.specs.declared.context.Context.{Context}
 use Rattle.steps.specs.declared.context.Stepped.{Stepped}
 use Rattle.steps.specs.declared.context.Stepped.the-variants.{Next, Refused}
-use Rattle.steps.specs.Contract.{contextAt, afterStep, handedUp, spanOf, Held, Stepping, accepts, refuses, Answering, answers-refused, Whole}
+use Rattle.steps.specs.Contract.{contextAt, afterStep, handedUp, Held, Stepping, accepts, refuses, Answering, answers-refused, Whole}
 
 -- a premise that is tested
 module _ {F : List ℕ} {S : Sections} {X : List ℕ} {c : Context} {s : Step} {R R′ W′ K′ : List ℕ} {r : Stepped} where
@@ -56,7 +56,7 @@ module _ {F : List ℕ} {S : Sections} {X : List ℕ} {c : Context} {s : Step} {
 
 -- an accepted step without rows
 pub rowless : {F : List ℕ} {S : Sections} {X : List ℕ} {c : Context} {s : Step} {W′ K′ : List ℕ} {r : Stepped} (R : List ℕ) (C : Contexts.Context ℕ)
-    → spanOf s ≡ 0 → stepRows (tablesOf F S) s [] ≡ [] → r ≡ Next (afterStep s c) → Held F S X W′ K′ (afterStep s c)
+    → nodeCount s ≡ 0 → stepRows (tablesOf F S) s [] ≡ [] → r ≡ Next (afterStep s c) → Held F S X W′ K′ (afterStep s c)
     → contextAt (tablesOf F S) W′ (afterStep s c) ≡ C → Stepping F S X c s R R W′ K′ r (ok C [])
 rowless {F} {S} {X} {c} {s} {W′} {K′} {r} R C z n e h m =
     accepts C [] e

@@ -17,7 +17,7 @@ use Rattle.typing_rules.specs.Contexts.{empty, findName}
 use Rattle.typing_rules.specs.Labels.{Label}
 use Rattle.typing_rules.specs.Judge.{Out, ok, no}
 use Rattle.typing_rules.specs.Steps.{Step, structName, builtIn, heading, globalValue, structFields, body, distinctNames, parameters}
-use Rattle.typing_rules.specs.Check.{isMiss, runStep, rowsBegin, stepRows, parameterRows}
+use Rattle.typing_rules.specs.Check.{isMiss, runStep, rowsBegin, nodeCount, stepRows, parameterRows}
 use Rattle.file_sections.specs.declared.Sections.{Sections}
 use Rattle.file_sections.specs.Layout.{Laid, tablesOf, GoodTables}
 use Rattle.file_sections.specs.Frames.{Same, Kept, ListAt}
@@ -54,15 +54,6 @@ afterStep (globalValue n x a) c = withName c
 afterStep (structFields i) c = withStep c
 afterStep (body n t ps b) c = withStep c
 
--- how many nodes a step has rows for
-abbrev pub spanOf : Step → ℕ
-spanOf (structName i) = 0
-spanOf (builtIn i) = 0
-spanOf (heading n x t) = 0
-spanOf (globalValue n x a) = 1 + size a
-spanOf (structFields i) = 0
-spanOf (body n t ps b) = 1 + length ps + sizeBlock b
-
 -- the buffers hold the names of the context c
 pub record Held (F : List ℕ) (S : Sections) (X W K : List ℕ) (c : Context) : Type 0 where
   pub good-tables : GoodTables F S
@@ -74,9 +65,9 @@ pub record Held (F : List ℕ) (S : Sections) (X W K : List ℕ) (c : Context) :
 pub record Accepted (F : List ℕ) (S : Sections) (X : List ℕ) (c : Context) (s : Step) (R R′ W′ K′ : List ℕ) (C : Contexts.Context ℕ) (L : List (Label ℕ)) : Type 0 where
   pub held : Held F S X W′ K′ (afterStep s c)
   pub made : contextAt (tablesOf F S) W′ (afterStep s c) ≡ C
-  pub long : length (stepRows (tablesOf F S) s L) ≡ spanOf s * 2
+  pub long : length (stepRows (tablesOf F S) s L) ≡ nodeCount s * 2
   pub rows : ListAt R′ (rowsBegin s * 2) (stepRows (tablesOf F S) s L)
-  pub kept : Kept (rowsBegin s * 2) ((rowsBegin s + spanOf s) * 2) R R′
+  pub kept : Kept (rowsBegin s * 2) ((rowsBegin s + nodeCount s) * 2) R R′
 
 -- the answer r of the step s in the context c meets the outcome of the definition
 pub data Stepping (F : List ℕ) (S : Sections) (X : List ℕ) (c : Context) (s : Step) (R R′ W′ K′ : List ℕ) (r : Stepped) : Out (Contexts.Context ℕ) → Type 0 where

@@ -10,7 +10,7 @@ use Rattle.oat.specs.Tables.{Tables}
 use Rattle.typing_rules.specs.Contexts as Contexts
 use Rattle.typing_rules.specs.Judge.{Out}
 use Rattle.typing_rules.specs.Steps.{Step, structName, builtIn, heading, globalValue, structFields, body}
-use Rattle.typing_rules.specs.Check.{rowsBegin, stepRows, runStep}
+use Rattle.typing_rules.specs.Check.{rowsBegin, stepRows, runStep, nodeCount}
 use Rattle.typing_rules.proofs.LawsSteps.{tabulate-more}
 use Rattle.file_sections.specs.declared.Sections.{Sections}
 use Rattle.file_sections.specs.Layout.{tablesOf}
@@ -20,13 +20,13 @@ use Rattle.bindings.specs.Bindings.{Scoped}
 use Rattle.steps.specs.declared.context.Context.{Context}
 use Rattle.steps.specs.declared.context.Stepped.{Stepped}
 use Rattle.steps.specs.declared.context.Stepped.the-variants.{Next}
-use Rattle.steps.specs.Contract.{contextAt, afterStep, spanOf, Held, Answering, answers-next, answers-refused, Answered}
+use Rattle.steps.specs.Contract.{contextAt, afterStep, Held, Answering, answers-next, answers-refused, Answered}
 use Rattle.typing.specs.Runs.{afterSteps, withSegments, written-none, written-next, Runs, goes, stops, AnsweringAll, all-next, all-refused, AnsweredAll}
 use Rattle.typing.proofs.LawsRuns.{after-append, written-append, Stopped, next-is, not-both, one-on, one-stop, then-on, then-breaks, breaks-still}
 use Rattle.typing.proofs.LawsCounts.{Alike, after-counted, tabulate-rest}
 
 -- a step without rows
-bare-rows : (T : Tables) (s : Step) → spanOf s ≡ 0 → stepRows T s [] ≡ []
+bare-rows : (T : Tables) (s : Step) → nodeCount s ≡ 0 → stepRows T s [] ≡ []
 unfolding stepRows
 bare-rows T (structName i) z = refl
 bare-rows T (builtIn i) z = refl
@@ -63,7 +63,7 @@ module _ {F : List ℕ} {S : Sections} where
   unfolding afterSteps withSegments
   all-none = record { tells = λ W. all-next [] refl (λ rest. refl) (λ R. written-none) }
 
-  all-one : {c : Context} {s : Step} {r : Stepped} → spanOf s ≡ 0 → Answered F S c s r → (W : List ℕ) → AnsweringAll (tablesOf F S) W c (s ∷ []) r
+  all-one : {c : Context} {s : Step} {r : Stepped} → nodeCount s ≡ 0 → Answered F S c s r → (W : List ℕ) → AnsweringAll (tablesOf F S) W c (s ∷ []) r
   unfolding afterSteps withSegments
   all-one {c} {s} {r} z a W = go (runStep (tablesOf F S) (contextAt (tablesOf F S) W c) s) refl (a .tells W)
     where
@@ -77,7 +77,7 @@ module _ {F : List ℕ} {S : Sections} where
       go o e (answers-refused p q i) = all-refused p (c .steps) q i (one-stop F S W c s p q e)
 
   -- the first i records have had their steps
-  module _ (f : ℕ → Step) (b : (i : ℕ) → spanOf (f i) ≡ 0) {c₀ c : Context} {t : Stepped} {i : ℕ} (a : AnsweredAll F S c₀ (tabulate i f) (Next c)) (h : Answered F S c (f i) t) where
+  module _ (f : ℕ → Step) (b : (i : ℕ) → nodeCount (f i) ≡ 0) {c₀ c : Context} {t : Stepped} {i : ℕ} (a : AnsweredAll F S c₀ (tabulate i f) (Next c)) (h : Answered F S c (f i) t) where
     one-after : (W : List ℕ) → AnsweringAll (tablesOf F S) W c₀ (tabulate (i + 1) f) t
     one-after W = subst (λ ss. AnsweringAll (tablesOf F S) W c₀ ss t) (tabulate-more i f) (all-then (a .tells W) refl (all-one (b i) h W))
 

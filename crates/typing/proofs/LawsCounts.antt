@@ -7,9 +7,9 @@ use lib.ListN.{length}
 use Rattle.oat.specs.Basics.{tabulate}
 use Rattle.oat.specs.Syntax.{Decl, global, function, sizeDecl}
 use Rattle.typing_rules.specs.Steps.{Step, structName, builtIn, heading, globalValue, structFields, body, headings, globals, bodies}
-use Rattle.typing_rules.specs.Check.{rowsBegin}
+use Rattle.typing_rules.specs.Check.{rowsBegin, nodeCount}
 use Rattle.steps.specs.declared.context.Context.{Context}
-use Rattle.steps.specs.Contract.{afterStep, spanOf}
+use Rattle.steps.specs.Contract.{afterStep}
 use Rattle.typing.specs.Runs.{afterSteps, Touched, touched-first, touched-later}
 
 -- how many structs and names a step adds
@@ -90,13 +90,13 @@ fields-alike n = tabulated 0 0 n structFields (λ i. refl) (λ i. refl)
 -- they touch no row
 pub data Bare : List Step → Type 0 where
   bare-none : Bare []
-  bare-next : {s : Step} {ss : List Step} → spanOf s ≡ 0 → Bare ss → Bare (s ∷ ss)
+  bare-next : {s : Step} {ss : List Step} → nodeCount s ≡ 0 → Bare ss → Bare (s ∷ ss)
 
 pub bare-untouched : {i : ℕ} {ss : List Step} → Bare ss → Touched i ss → ⊥
 bare-untouched (bare-next e b) (touched-first l h) = omega arith
 bare-untouched (bare-next e b) (touched-later t) = bare-untouched b t
 
-tabulated-bare : (n : ℕ) (f : ℕ → Step) → ((i : ℕ) → spanOf (f i) ≡ 0) → Bare (tabulate n f)
+tabulated-bare : (n : ℕ) (f : ℕ → Step) → ((i : ℕ) → nodeCount (f i) ≡ 0) → Bare (tabulate n f)
 unfolding tabulate
 tabulated-bare zero f a = bare-none
 tabulated-bare (suc n) f a = bare-next (a 0) (tabulated-bare n (λ i. f (suc i)) (λ i. a (suc i)))

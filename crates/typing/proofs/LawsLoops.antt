@@ -8,12 +8,13 @@ use Rattle.oat.specs.Basics.{tabulate}
 use Rattle.oat.proofs.LawsBasics.{tabulate-long}
 use Rattle.typing_rules.specs.Steps.{Step, structName, builtIn, structFields}
 use Rattle.typing_rules.proofs.LawsSteps.{tabulate-more}
+use Rattle.typing_rules.specs.Check.{nodeCount}
 use Rattle.file_sections.specs.declared.Sections.{Sections}
 use Rattle.file_sections.specs.Layout.{Laid}
 use Rattle.steps.specs.declared.context.Context.{Context}
 use Rattle.steps.specs.declared.context.Stepped.{Stepped}
 use Rattle.steps.specs.declared.context.Stepped.the-variants.{Next}
-use Rattle.steps.specs.Contract.{withStruct, withStep, spanOf, Answered, Steps, Rowless, Copied, ReadyStruct, ToldStruct, ReadyBuiltIn, ReadyFields}
+use Rattle.steps.specs.Contract.{withStruct, withStep, Answered, Steps, Rowless, Copied, ReadyStruct, ToldStruct, ReadyBuiltIn, ReadyFields}
 use Rattle.typing.specs.Runs.{start, Runs, AnsweredAll, ReadyBuiltIns, ToldBuiltIns, ReadyStructs}
 use Rattle.typing.proofs.LawsRuns.{Stopped, Apart, runs-none, runs-one, runs-then, runs-stop, runs-next}
 use Rattle.typing.proofs.LawsCounts.{after-counted, built-ins-alike, Bare, bare-none, bare-next, bare-untouched, tabulate-rest}
@@ -23,7 +24,7 @@ pub apart-bare : (ss : List Step) {ts : List Step} → Bare ts → Apart ss ts
 apart-bare ss b = record { never = λ i t u. bare-untouched b u }
 
 -- the first i records have had their steps
-module _ (f : ℕ → Step) (b : (i : ℕ) → spanOf (f i) ≡ 0) {F : List ℕ} {S : Sections} {X : List ℕ} {c₀ c : Context} {R₀ W₀ R W K R′ W′ K′ : List ℕ} {t : Stepped} {i : ℕ} where
+module _ (f : ℕ → Step) (b : (i : ℕ) → nodeCount (f i) ≡ 0) {F : List ℕ} {S : Sections} {X : List ℕ} {c₀ c : Context} {R₀ W₀ R W K R′ W′ K′ : List ℕ} {t : Stepped} {i : ℕ} where
   one-after : Runs F S X c₀ (tabulate i f) R₀ W₀ R W K (Next c) → Steps F S X c (f i) R W R′ W′ K′ t → Runs F S X c₀ (tabulate (i + 1) f) R₀ W₀ R′ W′ K′ t
   one-after a h =
       subst (λ ss. Runs F S X c₀ ss R₀ W₀ R′ W′ K′ t) (tabulate-more i f)

@@ -14,7 +14,7 @@ use Rattle.typing_rules.specs.Contexts as Contexts
 use Rattle.typing_rules.specs.Labels.{Label}
 use Rattle.typing_rules.specs.Judge.{Out, ok, no}
 use Rattle.typing_rules.specs.Steps.{Step, structName, builtIn, heading, globalValue, structFields, body}
-use Rattle.typing_rules.specs.Check.{Segment, Ran, refused, withSegment, rowsBegin, stepRows, runStep, run}
+use Rattle.typing_rules.specs.Check.{Segment, Ran, refused, withSegment, rowsBegin, nodeCount, stepRows, runStep, run}
 use Rattle.file_sections.specs.declared.Sections.{Sections}
 use Rattle.file_sections.specs.Layout.{tablesOf}
 use Rattle.file_sections.specs.Frames.{Kept}
@@ -23,7 +23,7 @@ use Rattle.steps.specs.declared.context.Context.{Context}
 use Rattle.steps.specs.declared.context.Stepped.{Stepped}
 use Rattle.steps.specs.declared.context.Stepped.the-variants.{Next, Refused}
 use Rattle.steps.proofs.context.Stepped.{the-type}
-use Rattle.steps.specs.Contract.{contextAt, afterStep, spanOf, Held, Stepping, accepts, refuses, Steps}
+use Rattle.steps.specs.Contract.{contextAt, afterStep, Held, Stepping, accepts, refuses, Steps}
 use Rattle.typing.specs.Runs.{afterSteps, withSegments, Touched, touched-first, touched-later, Written, written-none, written-next, GoOn, Break, Run, Runs, goes, stops}
 
 -- every step is counted
@@ -130,13 +130,13 @@ module _ (T : Tables) (c : Context) (ss ts : List Step) (W : List ℕ) where
   pub breaks-still : (p k q : ℕ) → Break T c ss W p k q → Break T c (ss ++ ts) W p k q
   breaks-still p k q n rest = again rest ∙ n (ts ++ rest)
 
-one-kept : (s : Step) {R R′ : List ℕ} → Kept (rowsBegin s * 2) ((rowsBegin s + spanOf s) * 2) R R′ → (i : ℕ) → (Touched i (s ∷ []) → ⊥) → getD R′ i 0 ≡ getD R i 0
-one-kept s {R} {R′} k i t = go (ltb i (rowsBegin s * 2)) (ltb i ((rowsBegin s + spanOf s) * 2)) refl refl
+one-kept : (s : Step) {R R′ : List ℕ} → Kept (rowsBegin s * 2) ((rowsBegin s + nodeCount s) * 2) R R′ → (i : ℕ) → (Touched i (s ∷ []) → ⊥) → getD R′ i 0 ≡ getD R i 0
+one-kept s {R} {R′} k i t = go (ltb i (rowsBegin s * 2)) (ltb i ((rowsBegin s + nodeCount s) * 2)) refl refl
   where
-    go : (a b : Bool) → ltb i (rowsBegin s * 2) ≡ a → ltb i ((rowsBegin s + spanOf s) * 2) ≡ b → getD R′ i 0 ≡ getD R i 0
+    go : (a b : Bool) → ltb i (rowsBegin s * 2) ≡ a → ltb i ((rowsBegin s + nodeCount s) * 2) ≡ b → getD R′ i 0 ≡ getD R i 0
     go true b e f = k .before i (ltb-true i (rowsBegin s * 2) e)
-    go false true e f = absurd (t (touched-first (ltb-false i (rowsBegin s * 2) e) (ltb-true i ((rowsBegin s + spanOf s) * 2) f)))
-    go false false e f = k .after i (ltb-false i ((rowsBegin s + spanOf s) * 2) f)
+    go false true e f = absurd (t (touched-first (ltb-false i (rowsBegin s * 2) e) (ltb-true i ((rowsBegin s + nodeCount s) * 2) f)))
+    go false false e f = k .after i (ltb-false i ((rowsBegin s + nodeCount s) * 2) f)
 
 module _ {F : List ℕ} {S : Sections} {X : List ℕ} where
   -- no step

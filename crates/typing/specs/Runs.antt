@@ -10,7 +10,7 @@ use Rattle.oat.specs.Syntax.{Decl, sizeDecl, sizeDecls}
 use Rattle.oat.specs.Nodes.{DeclStands, DeclsStand}
 use Rattle.oat.specs.ProgramFile.{Program}
 use Rattle.typing_rules.specs.Steps.{Step, structName, builtIn, headings, stepsOf}
-use Rattle.typing_rules.specs.Check.{Segment, Ran, refused, withSegment, rowsBegin, run}
+use Rattle.typing_rules.specs.Check.{Segment, Ran, refused, withSegment, rowsBegin, nodeCount, run}
 use Rattle.file_sections.specs.declared.Sections.{Sections}
 use Rattle.file_sections.specs.Layout.{tablesOf, GoodTables}
 use Rattle.file_sections.specs.Frames.{ListAt}
@@ -18,7 +18,7 @@ use Rattle.type_index.specs.Index.{Indexed}
 use Rattle.steps.specs.declared.context.Context.{Context}
 use Rattle.steps.specs.declared.context.Stepped.{Stepped}
 use Rattle.steps.specs.declared.context.Stepped.the-variants.{Next, Refused}
-use Rattle.steps.specs.Contract.{contextAt, afterStep, spanOf, Held, Whole}
+use Rattle.steps.specs.Contract.{contextAt, afterStep, Held, Whole}
 
 -- the context before the first step
 abbrev pub start : Context
@@ -36,13 +36,13 @@ withSegments (g ∷ gs) r = withSegment g (withSegments gs r)
 
 -- the number i of the rows belongs to a node of one of the steps
 pub data Touched (i : ℕ) : List Step → Type 0 where
-  touched-first : {s : Step} {ss : List Step} → rowsBegin s * 2 ≤ i → i < (rowsBegin s + spanOf s) * 2 → Touched i (s ∷ ss)
+  touched-first : {s : Step} {ss : List Step} → rowsBegin s * 2 ≤ i → i < (rowsBegin s + nodeCount s) * 2 → Touched i (s ∷ ss)
   touched-later : {s : Step} {ss : List Step} → Touched i ss → Touched i (s ∷ ss)
 
 -- every step has its segment, which stands in the rows
 pub data Written (R : List ℕ) : List Step → List Segment → Type 0 where
   written-none : Written R [] []
-  written-next : {s : Step} {ss : List Step} {g : Segment} {gs : List Segment} → g .node ≡ rowsBegin s → length (g .rows) ≡ spanOf s * 2
+  written-next : {s : Step} {ss : List Step} {g : Segment} {gs : List Segment} → g .node ≡ rowsBegin s → length (g .rows) ≡ nodeCount s * 2
       → ListAt R (rowsBegin s * 2) (g .rows) → Written R ss gs → Written R (s ∷ ss) (g ∷ gs)
 
 -- the steps ss are accepted from c on, whatever follows, with the segments gs; W is the stack before them, W′ after them

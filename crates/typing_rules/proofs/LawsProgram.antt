@@ -14,8 +14,8 @@ use Rattle.oat.specs.Nodes.{DeclsStand}
 use Rattle.oat.specs.ProgramFile.{Program}
 use Rattle.oat.proofs.LawsBasics.{and-right, and-left}
 use Rattle.typing_rules.specs.Steps.{Step, structName, builtIn, structFields, body, headings, globals, bodies, stepsOf}
-use Rattle.typing_rules.specs.Check.{rowsBegin}
-use Rattle.typing_rules.proofs.LawsSteps.{structsAfter, nodeCount, StepStands}
+use Rattle.typing_rules.specs.Check.{rowsBegin, nodeCount}
+use Rattle.typing_rules.proofs.LawsSteps.{structsAfter, StepStands}
 use Rattle.typing_rules.proofs.LawsRuns.{Fitting, fit-none, fit-step, isWithin, stepsAt}
 
 -- each kind of step in front of others

@@ -17,7 +17,7 @@ use Rattle.typing_rules.specs.Contexts.{empty, Context, findName}
 use Rattle.typing_rules.specs.Labels.{marks, Label, Labels, unlabelled}
 use Rattle.typing_rules.specs.Judge.{ok, referred, judge, executeBlock}
 use Rattle.typing_rules.specs.Steps.{Step, structName, builtIn, heading, globalValue, structFields, body, distinctNames, StepRule, typ-fdeclok}
-use Rattle.typing_rules.specs.Check.{isMiss, Segment, accepted, withSegment, rowsOf, parameterRows, stepRows, rowsBegin, runStep, run, segmentAt}
+use Rattle.typing_rules.specs.Check.{isMiss, Segment, accepted, withSegment, rowsOf, parameterRows, stepRows, rowsBegin, nodeCount, runStep, run, segmentAt}
 use Rattle.typing_rules.specs.Rows.{RowsAre, rows-node, labelsFrom, ParametersAre, parameters-none, parameters-next}
 use Rattle.typing_rules.proofs.Claims.{File, fits-empty, ContextFits, erase, Holds}
 use Rattle.typing_rules.proofs.LawsBridge.{erase-long}
@@ -25,7 +25,7 @@ use Rattle.typing_rules.proofs.LawsOutcome.{ok-is, then-ok, needs-ok}
 use Rattle.typing_rules.proofs.LawsRows.{LabelsFit, fit-label, rows-are}
 use Rattle.typing_rules.proofs.LawsFit.{expr-fit}
 use Rattle.typing_rules.proofs.LawsFitStmts.{fit-block}
-use Rattle.typing_rules.proofs.LawsSteps.{nodeCount, StepStands, parameterScope, type-is, scope-fits, front-labelled, RightStep}
+use Rattle.typing_rules.proofs.LawsSteps.{StepStands, parameterScope, type-is, scope-fits, front-labelled, RightStep}
 use Rattle.typing_rules.proofs.LawsRuns.{Fitting, fit-step, Labelled, labelled-none, labelled-step, stepsAt, within-true}
 
 -- R are the rows of a step's nodes, as D has them; a step without nodes has no rows

@@ -16,7 +16,7 @@ use Rattle.oat.specs.TableRules.{hasKind, fieldsBefore}
 use Rattle.oat.specs.Types.{Ty, typeOf, Field, Struct, structOf, structsOf, Lookup, found, missing, lookup}
 use Rattle.oat.specs.Subtyping.{Formed}
 use Rattle.oat.specs.Decide.{isFormed}
-use Rattle.oat.specs.Syntax.{Expr, Block, size, sizeBlock}
+use Rattle.oat.specs.Syntax.{Expr, Block}
 use Rattle.oat.specs.Nodes.{Stands, BlockStands}
 use Rattle.oat.proofs.LawsBasics.{below-or-last}
 use Rattle.oat.proofs.LawsSame.{iff-then, and-says}
@@ -27,7 +27,7 @@ use Rattle.typing_rules.specs.Derivations.{Derives, DerivesBlock}
 use Rattle.typing_rules.specs.Labels.{Result, marks, Label, Labels, unlabelled}
 use Rattle.typing_rules.specs.Judge.{ok, formed, referred, judge, executeBlock}
 use Rattle.typing_rules.specs.Steps.{Step, structName, builtIn, heading, globalValue, structFields, body, distinctFields, distinctNames, FieldsFormed, formed-noField, formed-field, parameters, Unlabelled, StepRule, typ-stdecl, typ-builtin, typ-ftyp, typ-ggdecl, typ-tdeclok, typ-fdeclok, addName, addStruct, contextAfter}
-use Rattle.typing_rules.specs.Check.{isMissing, isMiss, fieldsFormed, runStep, rowsBegin}
+use Rattle.typing_rules.specs.Check.{isMissing, isMiss, fieldsFormed, runStep, rowsBegin, nodeCount}
 use Rattle.typing_rules.proofs.Claims.{File, Value, ScopeFits, fits-empty, fits-bind, fits-name, ContextFits, eraseScope, eraseNames, eraseContext, erase, Holds}
 use Rattle.typing_rules.proofs.LawsBridge.{eraseHit, name-erase, formed-value, erase-append, erase-long, holds-split, holds-join}
 use Rattle.typing_rules.proofs.LawsOutcome.{ok-is, then-ok, needs-ok}
@@ -45,15 +45,6 @@ structsAfter k (heading n x t) = k
 structsAfter k (globalValue n x a) = k
 structsAfter k (structFields i) = k
 structsAfter k (body n t ps b) = k
-
--- how many nodes a step has
-abbrev pub nodeCount : Step → ℕ
-nodeCount (structName i) = 0
-nodeCount (builtIn i) = 0
-nodeCount (heading n x t) = 0
-nodeCount (globalValue n x a) = 1 + size a
-nodeCount (structFields i) = 0
-nodeCount (body n t ps b) = 1 + length ps + sizeBlock b
 
 -- a step of the file, k structs declared before it
 abbrev pub StepStands : Tables → ℕ → Step → Type 0

@@ -13,9 +13,8 @@ use Rattle.oat.specs.ProgramFile.{Program}
 use Rattle.typing_rules.specs.Contexts.{Context}
 use Rattle.typing_rules.specs.Labels.{Label, Labels}
 use Rattle.typing_rules.specs.Steps.{Step, structName, builtIn, globalValue, structFields, body, headings, globals, bodies, stepsOf, emptyContext, DerivesFile}
-use Rattle.typing_rules.specs.Check.{Segment, accepted, rowsBegin, segmentAt, rowsFrom}
+use Rattle.typing_rules.specs.Check.{Segment, accepted, rowsBegin, nodeCount, segmentAt, rowsFrom}
 use Rattle.typing_rules.specs.Rows.{RowsAre, rows-none, rows-node, labelsFrom, ParametersAre, parameters-none, parameters-next, DeclRows, no-rows, global-rows, function-rows}
-use Rattle.typing_rules.proofs.LawsSteps.{nodeCount}
 use Rattle.typing_rules.proofs.LawsRuns.{Labelled}
 use Rattle.typing_rules.proofs.LawsProgram.{steps-apart}
 use Rattle.typing_rules.proofs.LawsSegments.{RowsFit, no-nodes, of-global, of-body, Segments, run-segments, In, in-first, in-later, found-rows}

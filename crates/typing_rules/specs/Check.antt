@@ -8,7 +8,7 @@ use Rattle.oat.specs.Basics.{pick}
 use Rattle.oat.specs.Tables.{Tables, typeAt, entryAt, structAt, builtInAt}
 use Rattle.oat.specs.Types.{Field, Lookup, found, missing, lookup, structOf}
 use Rattle.oat.specs.Decide.{isFormed}
-use Rattle.oat.specs.Syntax.{Decl, sizeDecl}
+use Rattle.oat.specs.Syntax.{Decl, size, sizeBlock, sizeDecl}
 use Rattle.oat.specs.ProgramFile.{Program}
 use Rattle.typing_rules.specs.Contexts.{empty, Hit, hit, miss, Context, findName}
 use Rattle.typing_rules.specs.Labels.{Result, gives, marks, nothing, Label, unlabelled}
@@ -91,6 +91,15 @@ rowsBegin (heading n x t) = 0
 rowsBegin (globalValue n x a) = n
 rowsBegin (structFields i) = 0
 rowsBegin (body n t ps b) = n
+
+-- how many nodes a step has rows for
+abbrev pub nodeCount : Step → ℕ
+nodeCount (structName i) = 0
+nodeCount (builtIn i) = 0
+nodeCount (heading n x t) = 0
+nodeCount (globalValue n x a) = 1 + size a
+nodeCount (structFields i) = 0
+nodeCount (body n t ps b) = 1 + length ps + sizeBlock b
 
 -- the rows of declarations, each from its node on
 pub record Segment : Type 0 where
