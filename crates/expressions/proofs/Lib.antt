@@ -9,6 +9,6 @@ pub mod LawsPairs
 pub mod LawsList
 pub mod LawsInits
 pub mod LawsListRules
-pub mod LawsFilled
+pub mod LawsArrayWith
 pub mod LawsLeaves
 pub mod LawsDispatch

@@ -58,12 +58,12 @@ pub fn expression(
         10 => null(file, frame.sections, index, rows, at),
         11..=14 => literal(file, frame.sections, rows, at),
         15 => name(file, frame.sections, rows, &*work, &*chains, at),
-        16 => array(file, frame, index, rows, work, chains, at),
-        17 => zeroed(file, frame, index, rows, work, chains, at),
-        18 => filled(file, frame, index, rows, work, chains, at),
-        19 => element(file, frame, index, rows, work, chains, at),
+        16 => array_literal(file, frame, index, rows, work, chains, at),
+        17 => default_array(file, frame, index, rows, work, chains, at),
+        18 => array_with(file, frame, index, rows, work, chains, at),
+        19 => index_expression(file, frame, index, rows, work, chains, at),
         20 => length_of(file, frame, index, rows, work, chains, at),
-        21 => structure(file, frame, index, rows, work, chains, at),
+        21 => struct_literal(file, frame, index, rows, work, chains, at),
         23 => field(file, frame, index, rows, work, chains, at),
         24 => call(file, frame, index, rows, work, chains, at),
         25 => unary(file, frame, index, rows, work, chains, at),
@@ -162,7 +162,7 @@ fn inits(
 }
 
 // Array literal: element type, all elements, all subtypes.
-fn array(
+fn array_literal(
     file: &[u8],
     frame: Frame,
     index: &[u16],
@@ -203,7 +203,7 @@ fn array(
 }
 
 // Default array: element type, length, the element's default.
-fn zeroed(
+fn default_array(
     file: &[u8],
     frame: Frame,
     index: &[u16],
@@ -247,7 +247,7 @@ fn zeroed(
 }
 
 // Array with initializer: element type, length, fresh index name, value.
-fn filled(
+fn array_with(
     file: &[u8],
     frame: Frame,
     index: &[u16],
@@ -294,7 +294,7 @@ fn filled(
     ) {
         return refused(7, at.node, one.at);
     }
-    let two = filling(file, frame, index, rows, work, chains, at, one.at);
+    let two = array_value(file, frame, index, rows, work, chains, at, one.at);
     let second = two.judgement;
     let Judgement::Typed(_) = second else {
         return two;
@@ -303,7 +303,7 @@ fn filled(
 }
 
 // The value at `value` of the array with initializer at `at`, with the index name bound, and its subtype.
-fn filling(
+fn array_value(
     file: &[u8],
     frame: Frame,
     index: &[u16],
@@ -348,7 +348,7 @@ fn filling(
 }
 
 // Index: array, its sort, index, its sort.
-fn element(
+fn index_expression(
     file: &[u8],
     frame: Frame,
     index: &[u16],
@@ -428,7 +428,7 @@ fn length_of(
 }
 
 // Struct literal: declared struct, names, values, subtypes.
-fn structure(
+fn struct_literal(
     file: &[u8],
     frame: Frame,
     index: &[u16],

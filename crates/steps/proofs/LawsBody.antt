@@ -49,8 +49,6 @@ use Rattle.steps.specs.declared.context.Stepped.{Stepped}
 use Rattle.steps.specs.declared.context.Stepped.the-variants.{Next, Refused}
 use Rattle.steps.specs.Contract.{contextAt, withStep, handedUp, Accepted, accepts, ReadyParameters, BoundAll, ToldParameters, ReadyBody, ToldBody}
 use Rattle.steps.proofs.LawsStepping.{stops, passes, hands-up, goes-on, whole-context}
-use Rattle.steps.proofs.LawsListAt.{rows-count, rows-list, parameters-count}
-use Rattle.steps.proofs.LawsGlobal.{hands-up, goes-on}
 use Rattle.steps.proofs.LawsRows.{rows-count, rows-list, parameters-count}
 
 -- the answer is no return

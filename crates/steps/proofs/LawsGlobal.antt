@@ -37,7 +37,6 @@ use Rattle.steps.specs.declared.context.Stepped.{Stepped}
 use Rattle.steps.specs.declared.context.Stepped.the-variants.{Next, Refused}
 use Rattle.steps.specs.Contract.{contextAt, withName, handedUp, Accepted, Stepping, accepts, Newness, ReadyGlobal, ToldGlobal}
 use Rattle.steps.proofs.LawsStepping.{stops, passes, hands-up, whole-context}
-use Rattle.steps.proofs.LawsListAt.{rows-count, rows-list}
 use Rattle.steps.proofs.LawsRows.{rows-count, rows-list}
 
 entry-is : {t n x y : ℕ} {b : Bool} {l k : List (Entry ℕ)} → x ≡ y → b ≡ true → l ≡ k

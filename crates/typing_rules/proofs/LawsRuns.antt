@@ -20,7 +20,7 @@ use Rattle.typing_rules.specs.Check.{Segment, Ran, accepted, refused, wi
 use Rattle.typing_rules.proofs.Claims.{File, ContextFits, eraseContext, erase, Holds}
 use Rattle.typing_rules.proofs.LawsBridge.{erase-long}
 use Rattle.typing_rules.proofs.LawsOutcome.{same-next}
-use Rattle.typing_rules.proofs.LawsSteps.{structsAfter, nodeCount, StepStands, RightStep, sound-step, complete-step}
+use Rattle.typing_rules.proofs.LawsSteps.{structsAfter, StepStands, RightStep, sound-step, complete-step}
 
 -- the steps stand, k structs declared before them
 pub data Fitting (T : Tables) : ℕ → List Step → Type 0 where

@@ -3,13 +3,13 @@ use borrow.Author.Needs.{needs}
 use Prim.Native.Nat.{ℕ, _-_}
 use native.Mathlib.Omega.{arith}
 use mathlib.Core.Path.{_≡_, refl}
-use Rattle.expressions.proofs.cycle.+array+binary+call+element+equality+expression+field+filled+filling+inits+length_of+list+operator+structure+unary+zeroed.Lts-list as list-lts
+use Rattle.expressions.proofs.cycle.+array_literal+array_value+array_with+binary+call+default_array+equality+expression+field+index_expression+inits+length_of+list+operator+struct_literal+unary.Lts-list as list-lts
 use Rattle.expressions.proofs.cycle.expression.Reads as expression
 use Rattle.expressions.proofs.cycle.list.Reads as list
 use Rattle.answers.proofs.answer.goes_on.Reads as goes-on-reads
 use Rattle.answers.proofs.answer.refused.Reads as refused-reads
 use Rattle.answers.proofs.leaves.still_below.Reads as still-below-reads
-use Rattle.expressions.proofs.cycle.+array+binary+call+element+equality+expression+field+filled+filling+inits+length_of+list+operator+structure+unary+zeroed.Proof.Measures.{list-at, expression-below}
+use Rattle.expressions.proofs.cycle.+array_literal+array_value+array_with+binary+call+default_array+equality+expression+field+index_expression+inits+length_of+list+operator+struct_literal+unary.Proof.Measures.{list-at, expression-below}
 use Rattle.expressions.proofs.LawsMeets.{untyped}
 use Rattle.expressions.proofs.LawsList.{list-level, Walked, list-start, list-forward, list-ready, list-child-no, list-tested, list-again, list-unfit, list-done}
 use lib.ListN.{length}
@@ -61,7 +61,25 @@ loop-less t c =
     omega (arith, at-loop-test .loop-test .taken)
 
 loop-again : (t : ℕ) → list-lts.Need-loop-again (claims t) (list-at t) list.Post Inv-loop μ-loop
-loop-again t c = (list-again (c .before .before .before .before .before .before .before .before .before .before .before .before .before .before .before .before .before .before .before .before .before .before .pre .1) (c .before .before .before .before .before .before .before .before .before .before .before .before .before .before .before .before .loop .inv .0) (c .before .before .before .before .before .before .before .before .before .before .before .before .before .before .before .loop-test .taken) (c .before .before .before .before .before .before .before .before .before .before .before .before .before .before .before .before .loop .inv .1) (c .before .before .before .before .before .before .before .before .before .before .before .expression .ensures) (c .before .before .before .judgement .given .1) (c .before .still-below .ensures), list-level (c .before .before .before .before .before .before .before .before .before .before .before .before .before .before .before .before .before .before .before .before .before .before .pre .1) (c .before .before .before .before .before .before .before .before .before .before .before .before .before .before .before .before .loop .inv .0) (c .before .before .before .before .before .before .before .before .before .before .before .before .before .before .before .loop-test .taken) (c .before .before .before .before .before .before .before .before .before .before .before .before .before .before .before .before .loop .inv .1) (c .before .before .before .before .before .before .before .before .before .before .before .expression .ensures) (c .before .before .before .judgement .given .1), search needs, search needs, search needs)
+loop-again t c = (
+  (
+      let at-judgement = c .before .before .before in
+      let at-expression = at-judgement .before .before .before .before .before .before .before .before in
+      let at-loop-test = at-expression .before .before .before .before in
+      let at-loop = at-loop-test .before in
+      let at-start = at-loop .before .before .before .before .before .before in
+      list-again (at-start .pre .1) (at-loop .loop .inv .0) (at-loop-test .loop-test .taken) (at-loop .loop .inv .1) (at-expression .expression .ensures) (at-judgement .judgement .given .1) (c .before .still-below .ensures)),
+  (
+      let at-judgement = c .before .before .before in
+      let at-expression = at-judgement .before .before .before .before .before .before .before .before in
+      let at-loop-test = at-expression .before .before .before .before in
+      let at-loop = at-loop-test .before in
+      let at-start = at-loop .before .before .before .before .before .before in
+      list-level (at-start .pre .1) (at-loop .loop .inv .0) (at-loop-test .loop-test .taken) (at-loop .loop .inv .1) (at-expression .expression .ensures) (at-judgement .judgement .given .1)),
+  search needs,
+  search needs,
+  search needs,
+)
 
 returns-2 : (t : ℕ) → list-lts.Need-returns-2 (claims t) (list-at t) list.Post Inv-loop μ-loop
 returns-2 t c =

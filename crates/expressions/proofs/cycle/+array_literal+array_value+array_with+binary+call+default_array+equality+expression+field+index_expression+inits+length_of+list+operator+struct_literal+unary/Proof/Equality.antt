@@ -2,13 +2,13 @@
 use borrow.Author.Needs.{needs}
 use Prim.Native.Nat.{ℕ, _-_}
 use native.Mathlib.Omega.{arith}
-use Rattle.expressions.proofs.cycle.+array+binary+call+element+equality+expression+field+filled+filling+inits+length_of+list+operator+structure+unary+zeroed.Lts-equality as equality-lts
+use Rattle.expressions.proofs.cycle.+array_literal+array_value+array_with+binary+call+default_array+equality+expression+field+index_expression+inits+length_of+list+operator+struct_literal+unary.Lts-equality as equality-lts
 use Rattle.expressions.proofs.cycle.equality.Reads as equality
 use Rattle.expressions.proofs.cycle.expression.Reads as expression
 use Rattle.answers.proofs.answer.refused.Reads as refused-reads
 use Rattle.answers.proofs.answer.typed.Reads as typed-reads
 use Rattle.subtyping.proofs.below.below.Reads as below-reads
-use Rattle.expressions.proofs.cycle.+array+binary+call+element+equality+expression+field+filled+filling+inits+length_of+list+operator+structure+unary+zeroed.Proof.Measures.{equality-at, expression-below}
+use Rattle.expressions.proofs.cycle.+array_literal+array_value+array_with+binary+call+default_array+equality+expression+field+index_expression+inits+length_of+list+operator+struct_literal+unary.Proof.Measures.{equality-at, expression-below}
 use Rattle.expressions.proofs.LawsMeets.{untyped}
 use Rattle.expressions.proofs.LawsChild.{base-within, child-within, child-fine}
 use Rattle.expressions.proofs.LawsPairs.{binary-first, binary-no, binary-second, equality-no-2, equality-there, equality-back, equality-ok}

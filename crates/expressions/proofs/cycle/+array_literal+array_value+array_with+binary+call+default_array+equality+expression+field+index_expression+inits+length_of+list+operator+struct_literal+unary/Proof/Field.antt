@@ -2,7 +2,7 @@
 use borrow.Author.Needs.{needs}
 use Prim.Native.Nat.{ℕ, _-_}
 use native.Mathlib.Omega.{arith}
-use Rattle.expressions.proofs.cycle.+array+binary+call+element+equality+expression+field+filled+filling+inits+length_of+list+operator+structure+unary+zeroed.Lts-field as field-lts
+use Rattle.expressions.proofs.cycle.+array_literal+array_value+array_with+binary+call+default_array+equality+expression+field+index_expression+inits+length_of+list+operator+struct_literal+unary.Lts-field as field-lts
 use Rattle.expressions.proofs.cycle.expression.Reads as expression
 use Rattle.expressions.proofs.cycle.field.Reads as field
 use Rattle.answers.proofs.answer.refused.Reads as refused-reads
@@ -11,7 +11,7 @@ use Rattle.fields.proofs.lookup.field_of.Reads as field-of-reads
 use Rattle.file_sections.proofs.records.node_x.Reads as node-x-reads
 use Rattle.file_sections.proofs.records.type_kind.Reads as type-kind-reads
 use Rattle.type_index.proofs.formed.struct_record.Reads as struct-record-reads
-use Rattle.expressions.proofs.cycle.+array+binary+call+element+equality+expression+field+filled+filling+inits+length_of+list+operator+structure+unary+zeroed.Proof.Measures.{field-at, expression-below}
+use Rattle.expressions.proofs.cycle.+array_literal+array_value+array_with+binary+call+default_array+equality+expression+field+index_expression+inits+length_of+list+operator+struct_literal+unary.Proof.Measures.{field-at, expression-below}
 use Rattle.expressions.proofs.LawsMeets.{untyped}
 use Rattle.expressions.proofs.LawsChild.{has-node, type-entered, child-within, child-type, child-fine}
 use Rattle.expressions.proofs.LawsSorts.{field-first, field-no, field-sort, field-unknown, field-within, field-ok}

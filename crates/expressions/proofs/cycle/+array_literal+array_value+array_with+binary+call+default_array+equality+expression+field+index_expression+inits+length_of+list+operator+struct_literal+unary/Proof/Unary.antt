@@ -2,7 +2,7 @@
 use borrow.Author.Needs.{needs}
 use Prim.Native.Nat.{ℕ, _-_}
 use native.Mathlib.Omega.{arith}
-use Rattle.expressions.proofs.cycle.+array+binary+call+element+equality+expression+field+filled+filling+inits+length_of+list+operator+structure+unary+zeroed.Lts-unary as unary-lts
+use Rattle.expressions.proofs.cycle.+array_literal+array_value+array_with+binary+call+default_array+equality+expression+field+index_expression+inits+length_of+list+operator+struct_literal+unary.Lts-unary as unary-lts
 use Rattle.expressions.proofs.cycle.expression.Reads as expression
 use Rattle.expressions.proofs.cycle.unary.Reads as unary
 use Rattle.answers.proofs.answer.refused.Reads as refused-reads
@@ -10,7 +10,7 @@ use Rattle.answers.proofs.answer.typed.Reads as typed-reads
 use Rattle.answers.proofs.leaves.unary_type.Reads as unary-type-reads
 use Rattle.file_sections.proofs.records.node_x.Reads as node-x-reads
 use Rattle.file_sections.proofs.records.type_kind.Reads as type-kind-reads
-use Rattle.expressions.proofs.cycle.+array+binary+call+element+equality+expression+field+filled+filling+inits+length_of+list+operator+structure+unary+zeroed.Proof.Measures.{unary-at, expression-below}
+use Rattle.expressions.proofs.cycle.+array_literal+array_value+array_with+binary+call+default_array+equality+expression+field+index_expression+inits+length_of+list+operator+struct_literal+unary.Proof.Measures.{unary-at, expression-below}
 use Rattle.expressions.proofs.LawsMeets.{untyped}
 use Rattle.expressions.proofs.LawsChild.{has-node, child-type, child-fine}
 use Rattle.expressions.proofs.LawsSorts.{unary-first, unary-no, unary-given, unary-sort, unary-ok}

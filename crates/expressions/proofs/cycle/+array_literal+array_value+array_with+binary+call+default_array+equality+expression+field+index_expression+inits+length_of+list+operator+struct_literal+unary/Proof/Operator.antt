@@ -2,13 +2,13 @@
 use borrow.Author.Needs.{needs}
 use Prim.Native.Nat.{ℕ, _-_}
 use native.Mathlib.Omega.{arith}
-use Rattle.expressions.proofs.cycle.+array+binary+call+element+equality+expression+field+filled+filling+inits+length_of+list+operator+structure+unary+zeroed.Lts-operator as operator-lts
+use Rattle.expressions.proofs.cycle.+array_literal+array_value+array_with+binary+call+default_array+equality+expression+field+index_expression+inits+length_of+list+operator+struct_literal+unary.Lts-operator as operator-lts
 use Rattle.expressions.proofs.cycle.expression.Reads as expression
 use Rattle.expressions.proofs.cycle.operator.Reads as operator
 use Rattle.answers.proofs.answer.refused.Reads as refused-reads
 use Rattle.answers.proofs.answer.typed.Reads as typed-reads
 use Rattle.file_sections.proofs.records.type_kind.Reads as type-kind-reads
-use Rattle.expressions.proofs.cycle.+array+binary+call+element+equality+expression+field+filled+filling+inits+length_of+list+operator+structure+unary+zeroed.Proof.Measures.{operator-at, expression-below}
+use Rattle.expressions.proofs.cycle.+array_literal+array_value+array_with+binary+call+default_array+equality+expression+field+index_expression+inits+length_of+list+operator+struct_literal+unary.Proof.Measures.{operator-at, expression-below}
 use Rattle.expressions.proofs.LawsMeets.{untyped}
 use Rattle.expressions.proofs.LawsChild.{child-type, child-fine}
 use Rattle.expressions.proofs.LawsPairs.{binary-first, binary-no, binary-second, operator-given, operator-sort, operator-no-2, operator-sort-2, operator-ok}
@@ -83,7 +83,14 @@ returns-3 t c =
     operator-no-2 (at-start .pre .1 .0) (at-start .pre .1 .1 .0) (at-expression .expression .ensures) (at-first .first .given .1) (at-start .pre .1 .1 .1) (at-type-kind .type-kind .ensures .0) (at-if1 .if1 .left) (at-expression2 .expression2 .ensures) (untyped _ (c .match2 .keys2))
 
 type-kind-requires-2 : (t : ℕ) → operator-lts.Need-type-kind-requires-2 (claims t) (operator-at t) operator.Post
-type-kind-requires-2 t c κs = search (child-type (binary-first (c .before .before .before .before .before .before .before .before .before .before .before .before .before .before .before .before .before .before .before .before .before .before .before .before .before .before .before .before .before .before .before .before .before .before .pre .1 .0) (c .before .before .before .before .before .before .before .before .before .before .before .before .before .before .before .before .before .before .before .before .before .before .before .before .before .before .before .before .before .before .before .before .before .before .pre .1 .1 .0)) (c .before .before .before .before .before .before .before .before .before .before .before .before .before .before .before .before .before .before .before .before .before .before .before .before .expression .ensures) (c .before .before .before .before .before .before .before .before .before .before .before .before .before .before .before .before .first .given .1), child-type (binary-second (c .before .before .before .before .before .before .before .before .before .before .before .before .before .before .before .before .before .before .before .before .before .before .before .before .before .before .before .before .before .before .before .before .before .before .pre .1 .0) (c .before .before .before .before .before .before .before .before .before .before .before .before .before .before .before .before .before .before .before .before .before .before .before .before .before .before .before .before .before .before .before .before .before .before .pre .1 .1 .0) (c .before .before .before .before .before .before .before .before .before .before .before .before .before .before .before .before .before .before .before .before .before .before .before .before .expression .ensures) (c .before .before .before .before .before .before .before .before .before .before .before .before .before .before .before .before .first .given .1) .1) (c .before .before .before .before .before .before .before .before .before .expression2 .ensures) (c .before .second .given .1))
+type-kind-requires-2 t c κs =
+    let at-expression2 = c .before .before .before .before .before .before .before .before .before in
+    let at-first = at-expression2 .before .before .before .before .before .before .before in
+    let at-expression = at-first .before .before .before .before .before .before .before .before in
+    let at-start = at-expression .before .before .before .before .before .before .before .before .before .before in
+    let first-there = child-type (binary-first (at-start .pre .1 .0) (at-start .pre .1 .1 .0)) (at-expression .expression .ensures) (at-first .first .given .1) in
+    let second-there = child-type (binary-second (at-start .pre .1 .0) (at-start .pre .1 .1 .0) (at-expression .expression .ensures) (at-first .first .given .1) .1) (at-expression2 .expression2 .ensures) (c .before .second .given .1) in
+    search (first-there, second-there)
 
 same-length-10 : (t : ℕ) → operator-lts.Need-same-length-10 (claims t) (operator-at t) operator.Post
 same-length-10 t c =

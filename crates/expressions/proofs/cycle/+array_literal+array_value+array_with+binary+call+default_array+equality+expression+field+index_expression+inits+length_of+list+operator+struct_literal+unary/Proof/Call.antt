@@ -2,7 +2,7 @@
 use borrow.Author.Needs.{needs}
 use Prim.Native.Nat.{ℕ, _-_}
 use native.Mathlib.Omega.{arith}
-use Rattle.expressions.proofs.cycle.+array+binary+call+element+equality+expression+field+filled+filling+inits+length_of+list+operator+structure+unary+zeroed.Lts-call as call-lts
+use Rattle.expressions.proofs.cycle.+array_literal+array_value+array_with+binary+call+default_array+equality+expression+field+index_expression+inits+length_of+list+operator+struct_literal+unary.Lts-call as call-lts
 use Rattle.expressions.proofs.cycle.call.Reads as call
 use Rattle.expressions.proofs.cycle.expression.Reads as expression
 use Rattle.expressions.proofs.cycle.list.Reads as list
@@ -13,7 +13,7 @@ use Rattle.file_sections.proofs.records.type_a.Reads as type-a-reads
 use Rattle.file_sections.proofs.records.type_b.Reads as type-b-reads
 use Rattle.file_sections.proofs.records.type_c.Reads as type-c-reads
 use Rattle.file_sections.proofs.records.type_kind.Reads as type-kind-reads
-use Rattle.expressions.proofs.cycle.+array+binary+call+element+equality+expression+field+filled+filling+inits+length_of+list+operator+structure+unary+zeroed.Proof.Measures.{call-at, expression-below, list-below}
+use Rattle.expressions.proofs.cycle.+array_literal+array_value+array_with+binary+call+default_array+equality+expression+field+index_expression+inits+length_of+list+operator+struct_literal+unary.Proof.Measures.{call-at, expression-below, list-below}
 use Rattle.expressions.proofs.LawsMeets.{untyped, unlisted}
 use Rattle.expressions.proofs.LawsChild.{has-node, child-type}
 use Rattle.expressions.proofs.LawsListRules.{call-first, call-no, call-sort, call-type, call-void, call-count, call-list, call-no-2, call-row, call-ok}

@@ -3,7 +3,7 @@ use borrow.Author.Needs.{needs}
 use Prim.Native.Nat.{ℕ, _-_}
 use native.Mathlib.Omega.{arith}
 use mathlib.Core.Path.{_≡_, refl}
-use Rattle.expressions.proofs.cycle.+array+binary+call+element+equality+expression+field+filled+filling+inits+length_of+list+operator+structure+unary+zeroed.Lts-inits as inits-lts
+use Rattle.expressions.proofs.cycle.+array_literal+array_value+array_with+binary+call+default_array+equality+expression+field+index_expression+inits+length_of+list+operator+struct_literal+unary.Lts-inits as inits-lts
 use Rattle.expressions.proofs.cycle.expression.Reads as expression
 use Rattle.expressions.proofs.cycle.inits.Reads as inits
 use Rattle.answers.proofs.answer.goes_on.Reads as goes-on-reads
@@ -11,7 +11,7 @@ use Rattle.answers.proofs.answer.refused.Reads as refused-reads
 use Rattle.answers.proofs.answer.row.Reads as row-reads
 use Rattle.answers.proofs.leaves.still_fits.Reads as still-fits-reads
 use Rattle.file_sections.proofs.records.node_x.Reads as node-x-reads
-use Rattle.expressions.proofs.cycle.+array+binary+call+element+equality+expression+field+filled+filling+inits+length_of+list+operator+structure+unary+zeroed.Proof.Measures.{inits-at, expression-below}
+use Rattle.expressions.proofs.cycle.+array_literal+array_value+array_with+binary+call+default_array+equality+expression+field+index_expression+inits+length_of+list+operator+struct_literal+unary.Proof.Measures.{inits-at, expression-below}
 use Rattle.expressions.proofs.LawsMeets.{untyped}
 use Rattle.expressions.proofs.LawsChild.{has-node}
 use Rattle.expressions.proofs.LawsInits.{inits-level, WalkedInits, inits-start, inits-forward, inits-here, inits-ready, inits-child-no, inits-row, inits-tested, inits-again, inits-unfit, inits-done}
@@ -88,7 +88,27 @@ loop-less t c =
     omega (arith, at-loop-test .loop-test .taken)
 
 loop-again : (t : ℕ) → inits-lts.Need-loop-again (claims t) (inits-at t) inits.Post Inv-loop μ-loop
-loop-again t c = (inits-again (c .before .before .before .before .before .before .before .before .before .before .before .before .before .before .before .before .before .before .before .before .before .before .before .before .before .before .before .before .pre .1) (c .before .before .before .before .before .before .before .before .before .before .before .before .before .before .before .before .before .before .before .before .before .before .loop .inv .0) (c .before .before .before .before .before .before .before .before .before .before .before .before .before .before .before .before .before .before .before .before .before .loop-test .taken) (c .before .before .before .before .before .before .before .before .before .before .before .before .before .before .before .before .before .before .before .before .before .before .loop .inv .1) (c .before .before .before .before .before .before .before .before .before .before .before .before .before .before .before .before .expression .ensures) (c .before .before .before .before .before .before .before .before .judgement .given .1) (c .before .before .before .before .before .row .ensures) (c .before .before .node-x .ensures .0) (c .before .still-fits .ensures), inits-level (c .before .before .before .before .before .before .before .before .before .before .before .before .before .before .before .before .before .before .before .before .before .before .before .before .before .before .before .before .pre .1) (c .before .before .before .before .before .before .before .before .before .before .before .before .before .before .before .before .before .before .before .before .before .before .loop .inv .0) (c .before .before .before .before .before .before .before .before .before .before .before .before .before .before .before .before .before .before .before .before .before .loop-test .taken) (c .before .before .before .before .before .before .before .before .before .before .before .before .before .before .before .before .before .before .before .before .before .before .loop .inv .1) (c .before .before .before .before .before .before .before .before .before .before .before .before .before .before .before .before .expression .ensures) (c .before .before .before .before .before .before .before .before .judgement .given .1), search needs, search needs, search needs)
+loop-again t c = (
+  (
+      let at-node-x = c .before .before in
+      let at-row = at-node-x .before .before .before in
+      let at-judgement = at-row .before .before .before in
+      let at-expression = at-judgement .before .before .before .before .before .before .before .before in
+      let at-loop-test = at-expression .before .before .before .before .before in
+      let at-loop = at-loop-test .before in
+      let at-start = at-loop .before .before .before .before .before .before in
+      inits-again (at-start .pre .1) (at-loop .loop .inv .0) (at-loop-test .loop-test .taken) (at-loop .loop .inv .1) (at-expression .expression .ensures) (at-judgement .judgement .given .1) (at-row .row .ensures) (at-node-x .node-x .ensures .0) (c .before .still-fits .ensures)),
+  (
+      let at-judgement = c .before .before .before .before .before .before .before .before in
+      let at-expression = at-judgement .before .before .before .before .before .before .before .before in
+      let at-loop-test = at-expression .before .before .before .before .before in
+      let at-loop = at-loop-test .before in
+      let at-start = at-loop .before .before .before .before .before .before in
+      inits-level (at-start .pre .1) (at-loop .loop .inv .0) (at-loop-test .loop-test .taken) (at-loop .loop .inv .1) (at-expression .expression .ensures) (at-judgement .judgement .given .1)),
+  search needs,
+  search needs,
+  search needs,
+)
 
 returns-2 : (t : ℕ) → inits-lts.Need-returns-2 (claims t) (inits-at t) inits.Post Inv-loop μ-loop
 returns-2 t c =

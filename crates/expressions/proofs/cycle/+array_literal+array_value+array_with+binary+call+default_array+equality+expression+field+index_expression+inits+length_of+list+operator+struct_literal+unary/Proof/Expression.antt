@@ -3,29 +3,29 @@ use borrow.Author.Needs.{needs}
 use Prim.Native.Nat.{ℕ, _-_}
 use native.Mathlib.Omega.{arith}
 use mathlib.Core.Logic.{⊎-elim}
-use Rattle.expressions.proofs.cycle.+array+binary+call+element+equality+expression+field+filled+filling+inits+length_of+list+operator+structure+unary+zeroed.Lts-expression as expression-lts
-use Rattle.expressions.proofs.cycle.array.Reads as array
+use Rattle.expressions.proofs.cycle.+array_literal+array_value+array_with+binary+call+default_array+equality+expression+field+index_expression+inits+length_of+list+operator+struct_literal+unary.Lts-expression as expression-lts
+use Rattle.expressions.proofs.cycle.array_literal.Reads as array-literal
 use Rattle.expressions.proofs.cycle.binary.Reads as binary
 use Rattle.expressions.proofs.cycle.call.Reads as call
-use Rattle.expressions.proofs.cycle.element.Reads as element
+use Rattle.expressions.proofs.cycle.index_expression.Reads as index-expression
 use Rattle.expressions.proofs.cycle.expression.Reads as expression
 use Rattle.expressions.proofs.cycle.field.Reads as field
-use Rattle.expressions.proofs.cycle.filled.Reads as filled
+use Rattle.expressions.proofs.cycle.array_with.Reads as array-with
 use Rattle.expressions.proofs.cycle.length_of.Reads as length-of
-use Rattle.expressions.proofs.cycle.structure.Reads as structure
+use Rattle.expressions.proofs.cycle.struct_literal.Reads as struct-literal
 use Rattle.expressions.proofs.cycle.unary.Reads as unary
-use Rattle.expressions.proofs.cycle.zeroed.Reads as zeroed
+use Rattle.expressions.proofs.cycle.default_array.Reads as default-array
 use Rattle.answers.proofs.leaves.literal.Reads as literal-reads
 use Rattle.answers.proofs.leaves.name.Reads as name-reads
 use Rattle.answers.proofs.leaves.null.Reads as null-reads
 use Rattle.file_sections.proofs.records.node_kind.Reads as node-kind-reads
-use Rattle.expressions.proofs.cycle.+array+binary+call+element+equality+expression+field+filled+filling+inits+length_of+list+operator+structure+unary+zeroed.Proof.Measures.{expression-at, array-below, binary-below, call-below, element-below, field-below, filled-below, length-of-below, structure-below, unary-below, zeroed-below}
+use Rattle.expressions.proofs.cycle.+array_literal+array_value+array_with+binary+call+default_array+equality+expression+field+index_expression+inits+length_of+list+operator+struct_literal+unary.Proof.Measures.{expression-at, array-literal-below, binary-below, call-below, index-expression-below, field-below, array-with-below, length-of-below, struct-literal-below, unary-below, default-array-below}
 use Rattle.expressions.proofs.LawsChild.{has-node}
 use Rattle.expressions.proofs.LawsLeaves.{null-asked, null-told, literal-asked, literal-told, name-asked, name-told}
 use Rattle.expressions.proofs.LawsDispatch.{past-null, kind-at, literal-from, literal-to, binary-kind}
 
 abbrev claims : ℕ → expression-lts.Claims
-claims t = (node-kind-reads.Asked, node-kind-reads.Learnt, null-reads.Asked, null-reads.Learnt, name-reads.Asked, name-reads.Learnt, array-below t, array.Post, zeroed-below t, zeroed.Post, filled-below t, filled.Post, element-below t, element.Post, length-of-below t, length-of.Post, structure-below t, structure.Post, field-below t, field.Post, call-below t, call.Post, unary-below t, unary.Post, literal-reads.Asked, literal-reads.Learnt, binary-below t, binary.Post)
+claims t = (node-kind-reads.Asked, node-kind-reads.Learnt, null-reads.Asked, null-reads.Learnt, name-reads.Asked, name-reads.Learnt, array-literal-below t, array-literal.Post, default-array-below t, default-array.Post, array-with-below t, array-with.Post, index-expression-below t, index-expression.Post, length-of-below t, length-of.Post, struct-literal-below t, struct-literal.Post, field-below t, field.Post, call-below t, call.Post, unary-below t, unary.Post, literal-reads.Asked, literal-reads.Learnt, binary-below t, binary.Post)
 
 node-kind-requires : (t : ℕ) → expression-lts.Need-node-kind-requires (claims t) (expression-at t) expression.Post
 node-kind-requires t c κs =
@@ -43,29 +43,29 @@ name-requires t c κs =
     let at-start = c .before .before .before .before .before .before .before .before .before .before in
     name-asked (at-start .pre .1)
 
-array-requires : (t : ℕ) → expression-lts.Need-array-requires (claims t) (expression-at t) expression.Post
-array-requires t c κs =
+array-literal-requires : (t : ℕ) → expression-lts.Need-array-literal-requires (claims t) (expression-at t) expression.Post
+array-literal-requires t c κs =
     let at-match = c .before .before .before in
     let at-node-kind = at-match .before in
     let at-start = at-node-kind .before .before .before .before .before .before in
     (omega (arith, at-start .pre .0), ((at-start .pre .1), (kind-at (at-start .pre .1) (at-node-kind .node-kind .ensures .0) (at-match .match .keys3))))
 
-zeroed-requires : (t : ℕ) → expression-lts.Need-zeroed-requires (claims t) (expression-at t) expression.Post
-zeroed-requires t c κs =
+default-array-requires : (t : ℕ) → expression-lts.Need-default-array-requires (claims t) (expression-at t) expression.Post
+default-array-requires t c κs =
     let at-match = c .before .before .before in
     let at-node-kind = at-match .before in
     let at-start = at-node-kind .before .before .before .before .before .before in
     (omega (arith, at-start .pre .0), ((at-start .pre .1), (kind-at (at-start .pre .1) (at-node-kind .node-kind .ensures .0) (at-match .match .keys4))))
 
-filled-requires : (t : ℕ) → expression-lts.Need-filled-requires (claims t) (expression-at t) expression.Post
-filled-requires t c κs =
+array-with-requires : (t : ℕ) → expression-lts.Need-array-with-requires (claims t) (expression-at t) expression.Post
+array-with-requires t c κs =
     let at-match = c .before .before .before in
     let at-node-kind = at-match .before in
     let at-start = at-node-kind .before .before .before .before .before .before in
     (omega (arith, at-start .pre .0), ((at-start .pre .1), (kind-at (at-start .pre .1) (at-node-kind .node-kind .ensures .0) (at-match .match .keys5))))
 
-element-requires : (t : ℕ) → expression-lts.Need-element-requires (claims t) (expression-at t) expression.Post
-element-requires t c κs =
+index-expression-requires : (t : ℕ) → expression-lts.Need-index-expression-requires (claims t) (expression-at t) expression.Post
+index-expression-requires t c κs =
     let at-match = c .before .before .before in
     let at-node-kind = at-match .before in
     let at-start = at-node-kind .before .before .before .before .before .before in
@@ -78,8 +78,8 @@ length-of-requires t c κs =
     let at-start = at-node-kind .before .before .before .before .before .before in
     (omega (arith, at-start .pre .0), ((at-start .pre .1), (kind-at (at-start .pre .1) (at-node-kind .node-kind .ensures .0) (at-match .match .keys7))))
 
-structure-requires : (t : ℕ) → expression-lts.Need-structure-requires (claims t) (expression-at t) expression.Post
-structure-requires t c κs =
+struct-literal-requires : (t : ℕ) → expression-lts.Need-struct-literal-requires (claims t) (expression-at t) expression.Post
+struct-literal-requires t c κs =
     let at-match = c .before .before .before in
     let at-node-kind = at-match .before in
     let at-start = at-node-kind .before .before .before .before .before .before in
@@ -137,23 +137,23 @@ returns-2 t c =
 
 returns-3 : (t : ℕ) → expression-lts.Need-returns-3 (claims t) (expression-at t) expression.Post
 returns-3 t c =
-    let at-array = c .before .before .before .before .before .before in
-    at-array .array .ensures
+    let at-array-literal = c .before .before .before .before .before .before in
+    at-array-literal .array-literal .ensures
 
 returns-4 : (t : ℕ) → expression-lts.Need-returns-4 (claims t) (expression-at t) expression.Post
 returns-4 t c =
-    let at-zeroed = c .before .before .before .before .before .before in
-    at-zeroed .zeroed .ensures
+    let at-default-array = c .before .before .before .before .before .before in
+    at-default-array .default-array .ensures
 
 returns-5 : (t : ℕ) → expression-lts.Need-returns-5 (claims t) (expression-at t) expression.Post
 returns-5 t c =
-    let at-filled = c .before .before .before .before .before .before in
-    at-filled .filled .ensures
+    let at-array-with = c .before .before .before .before .before .before in
+    at-array-with .array-with .ensures
 
 returns-6 : (t : ℕ) → expression-lts.Need-returns-6 (claims t) (expression-at t) expression.Post
 returns-6 t c =
-    let at-element = c .before .before .before .before .before .before in
-    at-element .element .ensures
+    let at-index-expression = c .before .before .before .before .before .before in
+    at-index-expression .index-expression .ensures
 
 returns-7 : (t : ℕ) → expression-lts.Need-returns-7 (claims t) (expression-at t) expression.Post
 returns-7 t c =
@@ -162,8 +162,8 @@ returns-7 t c =
 
 returns-8 : (t : ℕ) → expression-lts.Need-returns-8 (claims t) (expression-at t) expression.Post
 returns-8 t c =
-    let at-structure = c .before .before .before .before .before .before in
-    at-structure .structure .ensures
+    let at-struct-literal = c .before .before .before .before .before .before in
+    at-struct-literal .struct-literal .ensures
 
 returns-9 : (t : ℕ) → expression-lts.Need-returns-9 (claims t) (expression-at t) expression.Post
 returns-9 t c =
@@ -196,4 +196,13 @@ returns-13 t c =
     at-binary .binary .ensures
 
 pub closed : {M : Type 1} (t : ℕ) → expression-lts.Closed (claims t) (expression-at t) expression.Post M
-closed t = expression-lts.spec (claims t) (expression-at t) expression.Post (node-kind-requires t) (null-requires t) (name-requires t) (array-requires t) (zeroed-requires t) (filled-requires t) (element-requires t) (length-of-requires t) (structure-requires t) (field-requires t) (call-requires t) (unary-requires t) (literal-requires t) (binary-requires t) (λ c. search needs) (returns t) (λ c. search needs) (λ c. search needs) (λ c. search needs) (returns-2 t) (λ c. search needs) (λ c. search needs) (λ c. search needs) (returns-3 t) (λ c. search needs) (λ c. search needs) (λ c. search needs) (returns-4 t) (λ c. search needs) (λ c. search needs) (λ c. search needs) (returns-5 t) (λ c. search needs) (λ c. search needs) (λ c. search needs) (returns-6 t) (λ c. search needs) (λ c. search needs) (λ c. search needs) (returns-7 t) (λ c. search needs) (λ c. search needs) (λ c. search needs) (returns-8 t) (λ c. search needs) (λ c. search needs) (λ c. search needs) (returns-9 t) (λ c. search needs) (λ c. search needs) (λ c. search needs) (returns-10 t) (λ c. search needs) (λ c. search needs) (λ c. search needs) (returns-11 t) (λ c. search needs) (returns-12 t) (λ c. search needs) (λ c. search needs) (λ c. search needs) (returns-13 t)
+closed t =
+    expression-lts.spec (claims t) (expression-at t) expression.Post (node-kind-requires t) (null-requires t) (name-requires t) (array-literal-requires t)
+    (default-array-requires t) (array-with-requires t) (index-expression-requires t) (length-of-requires t) (struct-literal-requires t) (field-requires t)
+    (call-requires t) (unary-requires t) (literal-requires t) (binary-requires t) (λ c. search needs) (returns t) (λ c. search needs) (λ c. search needs)
+    (λ c. search needs) (returns-2 t) (λ c. search needs) (λ c. search needs) (λ c. search needs) (returns-3 t) (λ c. search needs) (λ c. search needs)
+    (λ c. search needs) (returns-4 t) (λ c. search needs) (λ c. search needs) (λ c. search needs) (returns-5 t) (λ c. search needs) (λ c. search needs)
+    (λ c. search needs) (returns-6 t) (λ c. search needs) (λ c. search needs) (λ c. search needs) (returns-7 t) (λ c. search needs) (λ c. search needs)
+    (λ c. search needs) (returns-8 t) (λ c. search needs) (λ c. search needs) (λ c. search needs) (returns-9 t) (λ c. search needs) (λ c. search needs)
+    (λ c. search needs) (returns-10 t) (λ c. search needs) (λ c. search needs) (λ c. search needs) (returns-11 t) (λ c. search needs) (returns-12 t)
+    (λ c. search needs) (λ c. search needs) (λ c. search needs) (returns-13 t)

@@ -3,12 +3,12 @@ use borrow.Author.Needs.{needs}
 use Prim.Native.Nat.{ℕ, _-_}
 use native.Mathlib.Omega.{arith}
 use mathlib.Core.Logic.{⊎-elim}
-use Rattle.expressions.proofs.cycle.+array+binary+call+element+equality+expression+field+filled+filling+inits+length_of+list+operator+structure+unary+zeroed.Lts-binary as binary-lts
+use Rattle.expressions.proofs.cycle.+array_literal+array_value+array_with+binary+call+default_array+equality+expression+field+index_expression+inits+length_of+list+operator+struct_literal+unary.Lts-binary as binary-lts
 use Rattle.expressions.proofs.cycle.binary.Reads as binary
 use Rattle.expressions.proofs.cycle.equality.Reads as equality
 use Rattle.expressions.proofs.cycle.operator.Reads as operator
 use Rattle.file_sections.proofs.records.node_x.Reads as node-x-reads
-use Rattle.expressions.proofs.cycle.+array+binary+call+element+equality+expression+field+filled+filling+inits+length_of+list+operator+structure+unary+zeroed.Proof.Measures.{binary-at, equality-below, operator-below}
+use Rattle.expressions.proofs.cycle.+array_literal+array_value+array_with+binary+call+default_array+equality+expression+field+index_expression+inits+length_of+list+operator+struct_literal+unary.Proof.Measures.{binary-at, equality-below, operator-below}
 use Rattle.expressions.proofs.LawsChild.{has-node}
 use Rattle.expressions.proofs.LawsDispatch.{operator-low, ints-low, ints-high, ints-to-bool, equality-is, bools-to-bool, bools-rest}
 

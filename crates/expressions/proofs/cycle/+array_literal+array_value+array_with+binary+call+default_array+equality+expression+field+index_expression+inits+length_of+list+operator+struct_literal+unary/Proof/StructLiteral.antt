@@ -1,53 +1,53 @@
--- What `structure` needs. Assumes nothing.
+-- What `struct_literal` needs. Assumes nothing.
 use borrow.Author.Needs.{needs}
 use Prim.Native.Nat.{ℕ, _-_}
 use native.Mathlib.Omega.{arith}
-use Rattle.expressions.proofs.cycle.+array+binary+call+element+equality+expression+field+filled+filling+inits+length_of+list+operator+structure+unary+zeroed.Lts-structure as structure-lts
+use Rattle.expressions.proofs.cycle.+array_literal+array_value+array_with+binary+call+default_array+equality+expression+field+index_expression+inits+length_of+list+operator+struct_literal+unary.Lts-struct_literal as struct-literal-lts
 use Rattle.expressions.proofs.cycle.inits.Reads as inits
-use Rattle.expressions.proofs.cycle.structure.Reads as structure
+use Rattle.expressions.proofs.cycle.struct_literal.Reads as struct-literal
 use Rattle.answers.proofs.answer.refused.Reads as refused-reads
 use Rattle.answers.proofs.answer.typed.Reads as typed-reads
 use Rattle.fields.proofs.literal.names_fit.Reads as names-fit-reads
 use Rattle.file_sections.proofs.records.node_children.Reads as node-children-reads
 use Rattle.file_sections.proofs.records.node_t.Reads as node-t-reads
 use Rattle.type_index.proofs.formed.struct_record.Reads as struct-record-reads
-use Rattle.expressions.proofs.cycle.+array+binary+call+element+equality+expression+field+filled+filling+inits+length_of+list+operator+structure+unary+zeroed.Proof.Measures.{structure-at, inits-below}
+use Rattle.expressions.proofs.cycle.+array_literal+array_value+array_with+binary+call+default_array+equality+expression+field+index_expression+inits+length_of+list+operator+struct_literal+unary.Proof.Measures.{struct-literal-at, inits-below}
 use Rattle.expressions.proofs.LawsMeets.{unlisted}
 use Rattle.expressions.proofs.LawsChild.{has-node, type-entered}
 use Rattle.expressions.proofs.LawsListRules.{struct-within, struct-low, struct-missing, struct-named, struct-names, struct-inits, struct-no, struct-row, struct-ok}
 
-abbrev claims : ℕ → structure-lts.Claims
+abbrev claims : ℕ → struct-literal-lts.Claims
 claims t = (node-t-reads.Asked, node-t-reads.Learnt, struct-record-reads.Asked, struct-record-reads.Learnt, refused-reads.Asked, refused-reads.Learnt, names-fit-reads.Asked, names-fit-reads.Learnt, node-children-reads.Asked, node-children-reads.Learnt, inits-below t, inits.Post, typed-reads.Asked, typed-reads.Learnt)
 
-node-t-requires : (t : ℕ) → structure-lts.Need-node-t-requires (claims t) (structure-at t) structure.Post
+node-t-requires : (t : ℕ) → struct-literal-lts.Need-node-t-requires (claims t) (struct-literal-at t) struct-literal.Post
 node-t-requires t c κs =
     let at-start = c .before .before .before .before .before in
     has-node ((at-start .pre .1 .0) .fine .good-tables) ((at-start .pre .1 .0) .within)
 
-struct-record-requires : (t : ℕ) → structure-lts.Need-struct-record-requires (claims t) (structure-at t) structure.Post
+struct-record-requires : (t : ℕ) → struct-literal-lts.Need-struct-record-requires (claims t) (struct-literal-at t) struct-literal.Post
 struct-record-requires t c κs =
     let at-start = c .before .before .before .before .before .before in
     type-entered ((at-start .pre .1 .0) .fine) (struct-within (at-start .pre .1 .0) (at-start .pre .1 .1) (c .node-t .ensures .0))
 
-returns : (t : ℕ) → structure-lts.Need-returns (claims t) (structure-at t) structure.Post
+returns : (t : ℕ) → struct-literal-lts.Need-returns (claims t) (struct-literal-at t) struct-literal.Post
 returns t c =
     let at-struct-record = c .before .before .before in
     let at-node-t = at-struct-record .before in
     let at-start = at-node-t .before .before .before .before .before .before in
     struct-missing (at-start .pre .1 .0) (at-start .pre .1 .1) (at-node-t .node-t .ensures .0) (at-struct-record .struct-record .ensures) (c .before .if1 .taken) (c .refused .ensures .0)
 
-sub-names-fit : (t : ℕ) → structure-lts.Need-sub-names-fit (claims t) (structure-at t) structure.Post
+sub-names-fit : (t : ℕ) → struct-literal-lts.Need-sub-names-fit (claims t) (struct-literal-at t) struct-literal.Post
 sub-names-fit t c =
     let at-node-t = c .before .before .before .before .before .before in
     let at-start = at-node-t .before .before .before .before .before .before in
     struct-low (at-start .pre .1 .0) (at-start .pre .1 .1) (at-node-t .node-t .ensures .0)
 
-mul-names-fit : (t : ℕ) → structure-lts.Need-mul-names-fit (claims t) (structure-at t) structure.Post
+mul-names-fit : (t : ℕ) → struct-literal-lts.Need-mul-names-fit (claims t) (struct-literal-at t) struct-literal.Post
 mul-names-fit t c =
     let at-start = c .before .before .before .before .before .before .before .before .before .before .before .before in
     omega (arith, (at-start .pre .1 .0) .fine .scoped .high, (at-start .pre .1 .0) .fine .good-tables .laid .nodes-most, (at-start .pre .1 .0) .fine .good-tables .laid .built-ins-most)
 
-names-fit-requires : (t : ℕ) → structure-lts.Need-names-fit-requires (claims t) (structure-at t) structure.Post
+names-fit-requires : (t : ℕ) → struct-literal-lts.Need-names-fit-requires (claims t) (struct-literal-at t) struct-literal.Post
 names-fit-requires t c κs =
     let at-if1 = c .before .before .before in
     let at-struct-record = at-if1 .before .before in
@@ -55,7 +55,7 @@ names-fit-requires t c κs =
     let at-start = at-node-t .before .before .before .before .before .before in
     struct-named (at-start .pre .1 .0) (at-start .pre .1 .1) (at-node-t .node-t .ensures .0) (at-struct-record .struct-record .ensures) (at-if1 .if1 .left)
 
-returns-2 : (t : ℕ) → structure-lts.Need-returns-2 (claims t) (structure-at t) structure.Post
+returns-2 : (t : ℕ) → struct-literal-lts.Need-returns-2 (claims t) (struct-literal-at t) struct-literal.Post
 returns-2 t c =
     let at-names-fit = c .before .before .before .before in
     let at-if1 = at-names-fit .before .before .before .before in
@@ -64,17 +64,17 @@ returns-2 t c =
     let at-start = at-node-t .before .before .before .before .before .before in
     struct-names (at-start .pre .1 .0) (at-start .pre .1 .1) (at-node-t .node-t .ensures .0) (at-struct-record .struct-record .ensures) (at-if1 .if1 .left) (at-names-fit .names-fit .ensures) (c .before .if2 .taken) (c .refused2 .ensures .0)
 
-add-t15 : (t : ℕ) → structure-lts.Need-add-t15 (claims t) (structure-at t) structure.Post
+add-t15 : (t : ℕ) → struct-literal-lts.Need-add-t15 (claims t) (struct-literal-at t) struct-literal.Post
 add-t15 t c =
     let at-start = c .before .before .before .before .before .before .before .before .before .before .before .before .before .before .before .before .before .before .before .before in
     omega (arith, (at-start .pre .1 .0) .within, (at-start .pre .1 .0) .fine .good-tables .laid .nodes-most)
 
-node-children-requires : (t : ℕ) → structure-lts.Need-node-children-requires (claims t) (structure-at t) structure.Post
+node-children-requires : (t : ℕ) → struct-literal-lts.Need-node-children-requires (claims t) (struct-literal-at t) struct-literal.Post
 node-children-requires t c κs =
     let at-start = c .before .before .before .before .before .before .before .before .before .before .before .before .before .before .before .before .before .before .before .before in
     has-node ((at-start .pre .1 .0) .fine .good-tables) ((at-start .pre .1 .0) .within)
 
-inits-requires : (t : ℕ) → structure-lts.Need-inits-requires (claims t) (structure-at t) structure.Post
+inits-requires : (t : ℕ) → struct-literal-lts.Need-inits-requires (claims t) (struct-literal-at t) struct-literal.Post
 inits-requires t c κs =
     let at-names-fit = c .before .before .before .before .before .before .before .before in
     let at-if1 = at-names-fit .before .before .before .before in
@@ -83,25 +83,25 @@ inits-requires t c κs =
     let at-start = at-node-t .before .before .before .before .before .before in
     (omega (arith, at-start .pre .0, (at-start .pre .1 .0) .within), struct-inits (at-start .pre .1 .0) (at-start .pre .1 .1) (at-node-t .node-t .ensures .0) (at-struct-record .struct-record .ensures) (at-if1 .if1 .left) (at-names-fit .names-fit .ensures) (at-names-fit .names-fit .kept .1 .1 .0) (c .node-children .ensures .0))
 
-same-length-2 : (t : ℕ) → structure-lts.Need-same-length-2 (claims t) (structure-at t) structure.Post
+same-length-2 : (t : ℕ) → struct-literal-lts.Need-same-length-2 (claims t) (struct-literal-at t) struct-literal.Post
 same-length-2 t c =
     let at-inits = c .before .before .before .before .before .before .before in
     let at-names-fit = at-inits .before .before .before .before .before .before .before .before .before in
     omega (arith, at-inits .inits, at-names-fit .names-fit)
 
-same-length-3 : (t : ℕ) → structure-lts.Need-same-length-3 (claims t) (structure-at t) structure.Post
+same-length-3 : (t : ℕ) → struct-literal-lts.Need-same-length-3 (claims t) (struct-literal-at t) struct-literal.Post
 same-length-3 t c =
     let at-inits = c .before .before .before .before .before .before .before in
     let at-names-fit = at-inits .before .before .before .before .before .before .before .before .before in
     omega (arith, at-inits .inits, at-names-fit .names-fit)
 
-same-length-4 : (t : ℕ) → structure-lts.Need-same-length-4 (claims t) (structure-at t) structure.Post
+same-length-4 : (t : ℕ) → struct-literal-lts.Need-same-length-4 (claims t) (struct-literal-at t) struct-literal.Post
 same-length-4 t c =
     let at-inits = c .before .before .before .before .before .before .before in
     let at-names-fit = at-inits .before .before .before .before .before .before .before .before .before in
     omega (arith, at-inits .inits, at-names-fit .names-fit)
 
-returns-3 : (t : ℕ) → structure-lts.Need-returns-3 (claims t) (structure-at t) structure.Post
+returns-3 : (t : ℕ) → struct-literal-lts.Need-returns-3 (claims t) (struct-literal-at t) struct-literal.Post
 returns-3 t c =
     let at-inits = c .before .before .before .before .before .before .before in
     let at-node-children = at-inits .before in
@@ -113,7 +113,7 @@ returns-3 t c =
     let at-start = at-node-t .before .before .before .before .before .before in
     struct-no (at-start .pre .1 .0) (at-start .pre .1 .1) (at-node-t .node-t .ensures .0) (at-struct-record .struct-record .ensures) (at-if1 .if1 .left) (at-names-fit .names-fit .ensures) (at-if2 .if2 .left) (at-node-children .node-children .ensures .0) (at-inits .inits .ensures) (unlisted _ (c .match .keys2))
 
-typed-requires : (t : ℕ) → structure-lts.Need-typed-requires (claims t) (structure-at t) structure.Post
+typed-requires : (t : ℕ) → struct-literal-lts.Need-typed-requires (claims t) (struct-literal-at t) struct-literal.Post
 typed-requires t c κs =
     let at-inits = c .before .before .before .before .before .before .before .before .before in
     let at-node-children = at-inits .before in
@@ -125,28 +125,28 @@ typed-requires t c κs =
     let at-start = at-node-t .before .before .before .before .before .before in
     struct-row (at-start .pre .1 .0) (at-start .pre .1 .1) (at-node-t .node-t .ensures .0) (at-struct-record .struct-record .ensures) (at-if1 .if1 .left) (at-names-fit .names-fit .ensures) (at-if2 .if2 .left) (at-node-children .node-children .ensures .0) (at-inits .inits .ensures) (at-names-fit .names-fit .kept .1 .1 .0) (c .before .enum-told .given .1)
 
-same-length-5 : (t : ℕ) → structure-lts.Need-same-length-5 (claims t) (structure-at t) structure.Post
+same-length-5 : (t : ℕ) → struct-literal-lts.Need-same-length-5 (claims t) (struct-literal-at t) struct-literal.Post
 same-length-5 t c =
     let at-typed = c .before .before in
     let at-inits = at-typed .before .before .before .before .before .before .before .before .before .before in
     let at-names-fit = at-inits .before .before .before .before .before .before .before .before .before in
     omega (arith, at-inits .inits, at-typed .typed, at-names-fit .names-fit)
 
-same-length-6 : (t : ℕ) → structure-lts.Need-same-length-6 (claims t) (structure-at t) structure.Post
+same-length-6 : (t : ℕ) → struct-literal-lts.Need-same-length-6 (claims t) (struct-literal-at t) struct-literal.Post
 same-length-6 t c =
     let at-typed = c .before .before in
     let at-inits = at-typed .before .before .before .before .before .before .before .before .before .before in
     let at-names-fit = at-inits .before .before .before .before .before .before .before .before .before in
     omega (arith, at-inits .inits, at-typed .typed, at-names-fit .names-fit)
 
-same-length-7 : (t : ℕ) → structure-lts.Need-same-length-7 (claims t) (structure-at t) structure.Post
+same-length-7 : (t : ℕ) → struct-literal-lts.Need-same-length-7 (claims t) (struct-literal-at t) struct-literal.Post
 same-length-7 t c =
     let at-typed = c .before .before in
     let at-inits = at-typed .before .before .before .before .before .before .before .before .before .before in
     let at-names-fit = at-inits .before .before .before .before .before .before .before .before .before in
     omega (arith, at-inits .inits, at-typed .typed, at-names-fit .names-fit)
 
-returns-4 : (t : ℕ) → structure-lts.Need-returns-4 (claims t) (structure-at t) structure.Post
+returns-4 : (t : ℕ) → struct-literal-lts.Need-returns-4 (claims t) (struct-literal-at t) struct-literal.Post
 returns-4 t c =
     let at-typed = c .before .before in
     let at-enum-told = at-typed .before .before in
@@ -160,5 +160,5 @@ returns-4 t c =
     let at-start = at-node-t .before .before .before .before .before .before in
     struct-ok (at-start .pre .1 .0) (at-start .pre .1 .1) (at-node-t .node-t .ensures .0) (at-struct-record .struct-record .ensures) (at-if1 .if1 .left) (at-names-fit .names-fit .ensures) (at-if2 .if2 .left) (at-node-children .node-children .ensures .0) (at-inits .inits .ensures) (at-enum-told .enum-told .given .1) (at-typed .typed .ensures .0) (at-typed .typed .ensures .1)
 
-pub closed : {M : Type 1} (t : ℕ) → structure-lts.Closed (claims t) (structure-at t) structure.Post M
-closed t = structure-lts.spec (claims t) (structure-at t) structure.Post (node-t-requires t) (struct-record-requires t) (λ c κs. search needs) (returns t) (sub-names-fit t) (mul-names-fit t) (names-fit-requires t) (λ c κs. search needs) (λ c. search needs) (returns-2 t) (add-t15 t) (node-children-requires t) (inits-requires t) (λ c. search needs) (same-length-2 t) (same-length-3 t) (same-length-4 t) (returns-3 t) (typed-requires t) (same-length-5 t) (same-length-6 t) (same-length-7 t) (returns-4 t)
+pub closed : {M : Type 1} (t : ℕ) → struct-literal-lts.Closed (claims t) (struct-literal-at t) struct-literal.Post M
+closed t = struct-literal-lts.spec (claims t) (struct-literal-at t) struct-literal.Post (node-t-requires t) (struct-record-requires t) (λ c κs. search needs) (returns t) (sub-names-fit t) (mul-names-fit t) (names-fit-requires t) (λ c κs. search needs) (λ c. search needs) (returns-2 t) (add-t15 t) (node-children-requires t) (inits-requires t) (λ c. search needs) (same-length-2 t) (same-length-3 t) (same-length-4 t) (returns-3 t) (typed-requires t) (same-length-5 t) (same-length-6 t) (same-length-7 t) (returns-4 t)

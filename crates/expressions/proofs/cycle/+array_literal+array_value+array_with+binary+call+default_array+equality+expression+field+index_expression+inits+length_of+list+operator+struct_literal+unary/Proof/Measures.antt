@@ -6,24 +6,24 @@ use borrow.Fn.Kinds.{In}
 use borrow.Fn.PlainCycle.{Measures, is, falls, and}
 use Rattle.answers.specs.declared.answer.Frame.{Frame}
 use Rattle.answers.specs.declared.answer.At.{At}
-use Rattle.expressions.proofs.cycle.array.Reads as array
-use Rattle.expressions.proofs.cycle.array.Kinds as array-kinds
+use Rattle.expressions.proofs.cycle.array_literal.Reads as array-literal
+use Rattle.expressions.proofs.cycle.array_literal.Kinds as array-literal-kinds
 use Rattle.expressions.proofs.cycle.binary.Reads as binary
 use Rattle.expressions.proofs.cycle.binary.Kinds as binary-kinds
 use Rattle.expressions.proofs.cycle.call.Reads as call
 use Rattle.expressions.proofs.cycle.call.Kinds as call-kinds
-use Rattle.expressions.proofs.cycle.element.Reads as element
-use Rattle.expressions.proofs.cycle.element.Kinds as element-kinds
+use Rattle.expressions.proofs.cycle.index_expression.Reads as index-expression
+use Rattle.expressions.proofs.cycle.index_expression.Kinds as index-expression-kinds
 use Rattle.expressions.proofs.cycle.equality.Reads as equality
 use Rattle.expressions.proofs.cycle.equality.Kinds as equality-kinds
 use Rattle.expressions.proofs.cycle.expression.Reads as expression
 use Rattle.expressions.proofs.cycle.expression.Kinds as expression-kinds
 use Rattle.expressions.proofs.cycle.field.Reads as field
 use Rattle.expressions.proofs.cycle.field.Kinds as field-kinds
-use Rattle.expressions.proofs.cycle.filled.Reads as filled
-use Rattle.expressions.proofs.cycle.filled.Kinds as filled-kinds
-use Rattle.expressions.proofs.cycle.filling.Reads as filling
-use Rattle.expressions.proofs.cycle.filling.Kinds as filling-kinds
+use Rattle.expressions.proofs.cycle.array_with.Reads as array-with
+use Rattle.expressions.proofs.cycle.array_with.Kinds as array-with-kinds
+use Rattle.expressions.proofs.cycle.array_value.Reads as array-value
+use Rattle.expressions.proofs.cycle.array_value.Kinds as array-value-kinds
 use Rattle.expressions.proofs.cycle.inits.Reads as inits
 use Rattle.expressions.proofs.cycle.inits.Kinds as inits-kinds
 use Rattle.expressions.proofs.cycle.length_of.Reads as length-of
@@ -32,12 +32,12 @@ use Rattle.expressions.proofs.cycle.list.Reads as list
 use Rattle.expressions.proofs.cycle.list.Kinds as list-kinds
 use Rattle.expressions.proofs.cycle.operator.Reads as operator
 use Rattle.expressions.proofs.cycle.operator.Kinds as operator-kinds
-use Rattle.expressions.proofs.cycle.structure.Reads as structure
-use Rattle.expressions.proofs.cycle.structure.Kinds as structure-kinds
+use Rattle.expressions.proofs.cycle.struct_literal.Reads as struct-literal
+use Rattle.expressions.proofs.cycle.struct_literal.Kinds as struct-literal-kinds
 use Rattle.expressions.proofs.cycle.unary.Reads as unary
 use Rattle.expressions.proofs.cycle.unary.Kinds as unary-kinds
-use Rattle.expressions.proofs.cycle.zeroed.Reads as zeroed
-use Rattle.expressions.proofs.cycle.zeroed.Kinds as zeroed-kinds
+use Rattle.expressions.proofs.cycle.default_array.Reads as default-array
+use Rattle.expressions.proofs.cycle.default_array.Kinds as default-array-kinds
 
 -- what falls, at a rank below four
 abbrev pub nodesLeft : Frame → At → ℕ → ℕ
@@ -66,18 +66,18 @@ abbrev pub μ-expression : Measures 5 expression-kinds.ps ℕ
 abbrev pub μ-binary : Measures 5 binary-kinds.ps ℕ
 μ-binary κs a = nodesLeft (a .1 .0) (a .1 .1 .1 .1 .1 .1 .0) 1
 
-abbrev pub μ-filled : Measures 5 filled-kinds.ps ℕ
-μ-filled κs a = nodesLeft (a .1 .0) (a .1 .1 .1 .1 .1 .1 .0) 1
+abbrev pub μ-array-with : Measures 5 array-with-kinds.ps ℕ
+μ-array-with κs a = nodesLeft (a .1 .0) (a .1 .1 .1 .1 .1 .1 .0) 1
 
 -- rank 0: the other rules, and the second parts
-abbrev pub μ-array : Measures 5 array-kinds.ps ℕ
-μ-array κs a = nodesLeft (a .1 .0) (a .1 .1 .1 .1 .1 .1 .0) 0
+abbrev pub μ-array-literal : Measures 5 array-literal-kinds.ps ℕ
+μ-array-literal κs a = nodesLeft (a .1 .0) (a .1 .1 .1 .1 .1 .1 .0) 0
 
 abbrev pub μ-call : Measures 5 call-kinds.ps ℕ
 μ-call κs a = nodesLeft (a .1 .0) (a .1 .1 .1 .1 .1 .1 .0) 0
 
-abbrev pub μ-element : Measures 5 element-kinds.ps ℕ
-μ-element κs a = nodesLeft (a .1 .0) (a .1 .1 .1 .1 .1 .1 .0) 0
+abbrev pub μ-index-expression : Measures 5 index-expression-kinds.ps ℕ
+μ-index-expression κs a = nodesLeft (a .1 .0) (a .1 .1 .1 .1 .1 .1 .0) 0
 
 abbrev pub μ-equality : Measures 5 equality-kinds.ps ℕ
 μ-equality κs a = nodesLeft (a .1 .0) (a .1 .1 .1 .1 .1 .1 .0) 0
@@ -85,8 +85,8 @@ abbrev pub μ-equality : Measures 5 equality-kinds.ps ℕ
 abbrev pub μ-field : Measures 5 field-kinds.ps ℕ
 μ-field κs a = nodesLeft (a .1 .0) (a .1 .1 .1 .1 .1 .1 .0) 0
 
-abbrev pub μ-filling : Measures 5 filling-kinds.ps ℕ
-μ-filling κs a = nodesLeft (a .1 .0) (a .1 .1 .1 .1 .1 .1 .0) 0
+abbrev pub μ-array-value : Measures 5 array-value-kinds.ps ℕ
+μ-array-value κs a = nodesLeft (a .1 .0) (a .1 .1 .1 .1 .1 .1 .0) 0
 
 abbrev pub μ-length-of : Measures 5 length-of-kinds.ps ℕ
 μ-length-of κs a = nodesLeft (a .1 .0) (a .1 .1 .1 .1 .1 .1 .0) 0
@@ -94,21 +94,21 @@ abbrev pub μ-length-of : Measures 5 length-of-kinds.ps ℕ
 abbrev pub μ-operator : Measures 5 operator-kinds.ps ℕ
 μ-operator κs a = nodesLeft (a .1 .0) (a .1 .1 .1 .1 .1 .1 .0) 0
 
-abbrev pub μ-structure : Measures 5 structure-kinds.ps ℕ
-μ-structure κs a = nodesLeft (a .1 .0) (a .1 .1 .1 .1 .1 .1 .0) 0
+abbrev pub μ-struct-literal : Measures 5 struct-literal-kinds.ps ℕ
+μ-struct-literal κs a = nodesLeft (a .1 .0) (a .1 .1 .1 .1 .1 .1 .0) 0
 
 abbrev pub μ-unary : Measures 5 unary-kinds.ps ℕ
 μ-unary κs a = nodesLeft (a .1 .0) (a .1 .1 .1 .1 .1 .1 .0) 0
 
-abbrev pub μ-zeroed : Measures 5 zeroed-kinds.ps ℕ
-μ-zeroed κs a = nodesLeft (a .1 .0) (a .1 .1 .1 .1 .1 .1 .0) 0
+abbrev pub μ-default-array : Measures 5 default-array-kinds.ps ℕ
+μ-default-array κs a = nodesLeft (a .1 .0) (a .1 .1 .1 .1 .1 .1 .0) 0
 
 -- each function at its measure, and below it
-abbrev pub array-at : ℕ → In 5 array-kinds.ps
-array-at = holds-at array-kinds.ps μ-array array.Pre
+abbrev pub array-literal-at : ℕ → In 5 array-literal-kinds.ps
+array-literal-at = holds-at array-literal-kinds.ps μ-array-literal array-literal.Pre
 
-abbrev pub array-below : ℕ → In 5 array-kinds.ps
-array-below = holds-below array-kinds.ps μ-array array.Pre
+abbrev pub array-literal-below : ℕ → In 5 array-literal-kinds.ps
+array-literal-below = holds-below array-literal-kinds.ps μ-array-literal array-literal.Pre
 
 abbrev pub binary-at : ℕ → In 5 binary-kinds.ps
 binary-at = holds-at binary-kinds.ps μ-binary binary.Pre
@@ -122,11 +122,11 @@ call-at = holds-at call-kinds.ps μ-call call.Pre
 abbrev pub call-below : ℕ → In 5 call-kinds.ps
 call-below = holds-below call-kinds.ps μ-call call.Pre
 
-abbrev pub element-at : ℕ → In 5 element-kinds.ps
-element-at = holds-at element-kinds.ps μ-element element.Pre
+abbrev pub index-expression-at : ℕ → In 5 index-expression-kinds.ps
+index-expression-at = holds-at index-expression-kinds.ps μ-index-expression index-expression.Pre
 
-abbrev pub element-below : ℕ → In 5 element-kinds.ps
-element-below = holds-below element-kinds.ps μ-element element.Pre
+abbrev pub index-expression-below : ℕ → In 5 index-expression-kinds.ps
+index-expression-below = holds-below index-expression-kinds.ps μ-index-expression index-expression.Pre
 
 abbrev pub equality-at : ℕ → In 5 equality-kinds.ps
 equality-at = holds-at equality-kinds.ps μ-equality equality.Pre
@@ -146,17 +146,17 @@ field-at = holds-at field-kinds.ps μ-field field.Pre
 abbrev pub field-below : ℕ → In 5 field-kinds.ps
 field-below = holds-below field-kinds.ps μ-field field.Pre
 
-abbrev pub filled-at : ℕ → In 5 filled-kinds.ps
-filled-at = holds-at filled-kinds.ps μ-filled filled.Pre
+abbrev pub array-with-at : ℕ → In 5 array-with-kinds.ps
+array-with-at = holds-at array-with-kinds.ps μ-array-with array-with.Pre
 
-abbrev pub filled-below : ℕ → In 5 filled-kinds.ps
-filled-below = holds-below filled-kinds.ps μ-filled filled.Pre
+abbrev pub array-with-below : ℕ → In 5 array-with-kinds.ps
+array-with-below = holds-below array-with-kinds.ps μ-array-with array-with.Pre
 
-abbrev pub filling-at : ℕ → In 5 filling-kinds.ps
-filling-at = holds-at filling-kinds.ps μ-filling filling.Pre
+abbrev pub array-value-at : ℕ → In 5 array-value-kinds.ps
+array-value-at = holds-at array-value-kinds.ps μ-array-value array-value.Pre
 
-abbrev pub filling-below : ℕ → In 5 filling-kinds.ps
-filling-below = holds-below filling-kinds.ps μ-filling filling.Pre
+abbrev pub array-value-below : ℕ → In 5 array-value-kinds.ps
+array-value-below = holds-below array-value-kinds.ps μ-array-value array-value.Pre
 
 abbrev pub inits-at : ℕ → In 5 inits-kinds.ps
 inits-at = holds-at inits-kinds.ps μ-inits inits.Pre
@@ -182,11 +182,11 @@ operator-at = holds-at operator-kinds.ps μ-operator operator.Pre
 abbrev pub operator-below : ℕ → In 5 operator-kinds.ps
 operator-below = holds-below operator-kinds.ps μ-operator operator.Pre
 
-abbrev pub structure-at : ℕ → In 5 structure-kinds.ps
-structure-at = holds-at structure-kinds.ps μ-structure structure.Pre
+abbrev pub struct-literal-at : ℕ → In 5 struct-literal-kinds.ps
+struct-literal-at = holds-at struct-literal-kinds.ps μ-struct-literal struct-literal.Pre
 
-abbrev pub structure-below : ℕ → In 5 structure-kinds.ps
-structure-below = holds-below structure-kinds.ps μ-structure structure.Pre
+abbrev pub struct-literal-below : ℕ → In 5 struct-literal-kinds.ps
+struct-literal-below = holds-below struct-literal-kinds.ps μ-struct-literal struct-literal.Pre
 
 abbrev pub unary-at : ℕ → In 5 unary-kinds.ps
 unary-at = holds-at unary-kinds.ps μ-unary unary.Pre
@@ -194,8 +194,8 @@ unary-at = holds-at unary-kinds.ps μ-unary unary.Pre
 abbrev pub unary-below : ℕ → In 5 unary-kinds.ps
 unary-below = holds-below unary-kinds.ps μ-unary unary.Pre
 
-abbrev pub zeroed-at : ℕ → In 5 zeroed-kinds.ps
-zeroed-at = holds-at zeroed-kinds.ps μ-zeroed zeroed.Pre
+abbrev pub default-array-at : ℕ → In 5 default-array-kinds.ps
+default-array-at = holds-at default-array-kinds.ps μ-default-array default-array.Pre
 
-abbrev pub zeroed-below : ℕ → In 5 zeroed-kinds.ps
-zeroed-below = holds-below zeroed-kinds.ps μ-zeroed zeroed.Pre
+abbrev pub default-array-below : ℕ → In 5 default-array-kinds.ps
+default-array-below = holds-below default-array-kinds.ps μ-default-array default-array.Pre
