@@ -132,4 +132,11 @@ returns-9 t c =
     at-while-loop .while-loop .ensures
 
 pub closed : {M : Type 1} (t : ℕ) → statement-lts.Closed (claims t) (statement-at t) statement′.Post M
-closed t = statement-lts.spec (claims t) (statement-at t) statement′.Post (node-kind-requires t) (assignment-requires t) (variable-requires t) (return-value-requires t) (return-void-requires t) (call-statement-requires t) (if-else-requires t) (if-null-requires t) (for-loop-requires t) (while-loop-requires t) (λ c. search needs) (λ c. search needs) (λ c. search needs) (returns t) (λ c. search needs) (λ c. search needs) (λ c. search needs) (returns-2 t) (λ c. search needs) (λ c. search needs) (λ c. search needs) (returns-3 t) (λ c. search needs) (λ c. search needs) (λ c. search needs) (returns-4 t) (λ c. search needs) (λ c. search needs) (λ c. search needs) (returns-5 t) (λ c. search needs) (λ c. search needs) (λ c. search needs) (returns-6 t) (λ c. search needs) (λ c. search needs) (λ c. search needs) (returns-7 t) (λ c. search needs) (λ c. search needs) (λ c. search needs) (returns-8 t) (λ c. search needs) (λ c. search needs) (λ c. search needs) (returns-9 t)
+closed t =
+    statement-lts.spec (claims t) (statement-at t) statement′.Post (node-kind-requires t) (assignment-requires t) (variable-requires t)
+    (return-value-requires t) (return-void-requires t) (call-statement-requires t) (if-else-requires t) (if-null-requires t) (for-loop-requires t)
+    (while-loop-requires t) (λ c. search needs) (λ c. search needs) (λ c. search needs) (returns t) (λ c. search needs) (λ c. search needs)
+    (λ c. search needs) (returns-2 t) (λ c. search needs) (λ c. search needs) (λ c. search needs) (returns-3 t) (λ c. search needs) (λ c. search needs)
+    (λ c. search needs) (returns-4 t) (λ c. search needs) (λ c. search needs) (λ c. search needs) (returns-5 t) (λ c. search needs) (λ c. search needs)
+    (λ c. search needs) (returns-6 t) (λ c. search needs) (λ c. search needs) (λ c. search needs) (returns-7 t) (λ c. search needs) (λ c. search needs)
+    (λ c. search needs) (returns-8 t) (λ c. search needs) (λ c. search needs) (λ c. search needs) (returns-9 t)
