@@ -14,15 +14,20 @@ use Rattle.oat.specs.Tables.{Tables, TypeRecord, typeAt, entryAt}
 use Rattle.oat.specs.TypeRules.{kindAt, isReferenceKind}
 use Rattle.oat.specs.Types.{Ty, function, written, writtenParams, typeOf, Struct}
 use Rattle.oat.specs.Decide.{kindOf, sameTy, structBelow, allTests, below}
+use Rattle.oat.proofs.LawsBasics.{and-parts}
+use Rattle.oat.proofs.LawsSame.{same-sound}
+use Rattle.oat.proofs.LawsFormed.{formed-is}
+use Rattle.oat.proofs.LawsSubtyping.{below-is}
+use Rattle.oat.proofs.LawsOrder.{reflexive}
 use Rattle.oat.proofs.LawsTypes.{TypesFormed, types-formed}
 use Rattle.oat.proofs.LawsWritten.{type-struct, type-array, type-function, type-nullable}
 use Rattle.oat.proofs.LawsBelow.{plain, params-many, below-base, below-struct, below-array, below-function, below-nullable, below-nullables, below-kinds, below-not-ref, all-none, all-also, all-uneven}
 use Rattle.file_sections.specs.declared.Sections.{Sections}
 use Rattle.file_sections.specs.Layout.{tablesOf, GoodTables}
 use Rattle.file_sections.proofs.LawsRecords.{types-long, list-long}
-use Rattle.type_index.specs.Index.{declared, lowestEntry, Indexed}
+use Rattle.type_index.specs.Index.{declared, lowestEntry, formedEntry, Indexed}
 use Rattle.type_index.proofs.LawsIndex.{entries-same}
-use Rattle.subtyping.specs.Numbered.{belowAt, paramsBelow, Params}
+use Rattle.subtyping.specs.Numbered.{isItself, belowAt, paramsBelow, Params}
 
 -- the kind of a type written out is its record's kind
 kind-pick : (b : Bool) (k n : ℕ) (x y : Ty) → eqb k n ≡ b → kindOf x ≡ n → ((k ≡ n → ⊥) → kindOf y ≡ k) → kindOf (pick b x y) ≡ k
@@ -86,6 +91,16 @@ unfolding paramsBelow writtenParams
 param-decides T p q zero n v = absurd (n refl)
 param-decides T p q (suc count) n v = rw (sub-one, add-one p, add-one q) (all-also (declared T) _ _ _ _ v)
 
+-- equal types that are well-formed
+module _ (index : List ℕ) (a b : ℕ) (t : Bool) (et : t ≡ eqb (lowestEntry index a) (lowestEntry index b)) where
+  pub equal-formed : (r : Bool) → t ≡ true → r ≡ formedEntry index a → r ≡ isItself index a b
+  unfolding isItself
+  equal-formed r e er = er ∙ rw (← et, e)
+
+  pub not-equal : (r : Bool) → r ≡ false → t ≡ false → r ≡ isItself index a b
+  unfolding isItself
+  not-equal r er e = er ∙ rw (← et, e)
+
 module _ (s : List ℕ) (S : Sections) where
   abbrev pub T : Tables
   T = tablesOf s S
@@ -126,6 +141,15 @@ module _ (s : List ℕ) (S : Sections) where
 
     pub params-too : (i p m n : ℕ) → p ≡ typeAt T i .b → n ≡ typeAt T i .c → m ≡ n → typeAt T i .kind ≡ 6 → i < S .types → Params s S i p m
     params-too i p m n ep en e = params-of i p m ep (e ∙ en)
+
+    -- equal types that are well-formed: each is below the other
+    pub itself-below : (index : List ℕ) (a b : ℕ) (t : Bool) → t ≡ isItself index a b → t ≡ true → Indexed index T (S .types) → a < S .types → b < S .types → true ≡ belowAt T a b
+    unfolding isItself
+    itself-below index a b t et e I la lb =
+        let (same, is-formed) = and-parts (eqb (lowestEntry index a) (lowestEntry index b)) (formedEntry index a) (sym et ∙ e) in
+        let equal : typeOf T a ≡ typeOf T b = same-sound (typeOf T a) (typeOf T b) (sym (entries-same I a b la lb) ∙ same) in
+        let self : belowAt T a a ≡ true = below-is H (typeOf T a) (typeOf T a) .1 (reflexive (formed-is H (typeOf T a) .0 (sym (I .formed a la) ∙ is-formed))) in
+        sym (ap (below H (typeOf T a)) (sym equal) ∙ self)
 
     -- the kinds of two types
     module _ (a b : ℕ) (la : a < S .types) (lb : b < S .types) where

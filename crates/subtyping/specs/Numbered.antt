@@ -11,7 +11,7 @@ use Rattle.oat.specs.Types.{typeOf, writtenParams}
 use Rattle.oat.specs.Decide.{sameTy, allTests, below}
 use Rattle.file_sections.specs.declared.Sections.{Sections}
 use Rattle.file_sections.specs.Layout.{tablesOf}
-use Rattle.type_index.specs.Index.{declared}
+use Rattle.type_index.specs.Index.{declared, lowestEntry, formedEntry}
 
 -- the fields i and j have the same name and the same type
 unfoldable pub sameField : Tables → ℕ → ℕ → Bool
@@ -21,6 +21,10 @@ sameField T i j =
 -- `count` fields from p on are those from q on
 unfoldable pub sameFields : Tables → ℕ → ℕ → ℕ → Bool
 sameFields T p q count = allBelow count (λ j. sameField T (p + j) (q + j))
+
+-- the types a and b are equal and well-formed, as the index has it
+unfoldable pub isItself : List ℕ → ℕ → ℕ → Bool
+isItself index a b = eqb (lowestEntry index a) (lowestEntry index b) && formedEntry index a
 
 -- the type a is below the type b
 abbrev pub belowAt : Tables → ℕ → ℕ → Bool

@@ -9,6 +9,7 @@ use file_sections::records::type_a;
 use file_sections::records::type_b;
 use file_sections::records::type_c;
 use file_sections::records::type_kind;
+use type_index::formed::is_formed;
 use type_index::formed::struct_record;
 use type_index::same::same;
 ghost use mathlib.Core.Path.{_≡_};
@@ -17,8 +18,8 @@ ghost use Rattle.oat.specs.Tables.{typeAt};
 ghost use Rattle.oat.specs.Types.{typeOf, structOf};
 ghost use Rattle.oat.specs.Decide;
 ghost use Rattle.file_sections.specs.Layout.{tablesOf, GoodTables};
-ghost use Rattle.type_index.specs.Index.{declared, Indexed};
-ghost use Rattle.subtyping.specs.Numbered.{sameField, sameFields, belowAt, paramsBelow, Params};
+ghost use Rattle.type_index.specs.Index.{declared, Entered, Indexed};
+ghost use Rattle.subtyping.specs.Numbered.{sameField, sameFields, isItself, belowAt, paramsBelow, Params};
 
 // The fields i and j have the same name and the same type.
 fn same_field(file: &[u8], sections: Sections, index: &[u16], i: usize, j: usize) -> bool
@@ -178,11 +179,22 @@ fn kind_below(
     }
 }
 
+// The types a and b are equal and well-formed: a well-formed type is below itself.
+fn is_itself(index: &[u16], a: usize, b: usize) -> bool
+    requires { ⌜ Entered (now index) a × Entered (now index) b ⌝ }
+    ensures { λ r. ⌜ r ≡ isItself (now (index .entry)) a b ⌝ }
+{
+    same(index, a, b) && is_formed(index, a)
+}
+
 // The type a is below the type b, as return types.
 pub fn below(file: &[u8], sections: Sections, index: &[u16], a: usize, b: usize) -> bool
     requires { ⌜ GoodTables (now file) sections × Indexed (now index) (tablesOf (now file) sections) (sections .types) × (a < sections .types) × (b < sections .types) ⌝ }
     ensures { λ r. ⌜ r ≡ Decide.below (declared (tablesOf (now (file .entry)) sections)) (typeOf (tablesOf (now (file .entry)) sections) a) (typeOf (tablesOf (now (file .entry)) sections) b) ⌝ }
 {
+    if is_itself(index, a, b) {
+        return true;
+    }
     let kind = type_kind(file, sections, a);
     let other = type_kind(file, sections, b);
     if kind == other {

@@ -8,7 +8,7 @@ use borrow.Author.Needs.{needs}
 use borrow.Fn.Kinds.{In}
 use borrow.Fn.PlainCycle.{Measures, is, falls, and}
 use Rattle.type_index.proofs.LawsIndex.{entered}
-use Rattle.subtyping.proofs.LawsTypesBelow.{array-lower, nullable-lower, returns-lower, params-of, params-too, kinds-apart, below-4, from-7, string-held, other-held, base-below, struct-is, array-is, nullable-is, counts-differ, params-fail, returns-are, no-params, first-lower, other-params, first-fails, others-decide}
+use Rattle.subtyping.proofs.LawsTypesBelow.{itself-below, array-lower, nullable-lower, returns-lower, params-of, params-too, kinds-apart, below-4, from-7, string-held, other-held, base-below, struct-is, array-is, nullable-is, counts-differ, params-fail, returns-are, no-params, first-lower, other-params, first-fails, others-decide}
 use Rattle.subtyping.proofs.below.below.Reads as below
 use Rattle.subtyping.proofs.below.below.Kinds as below-kinds
 use Rattle.subtyping.proofs.below.+below+function_below+kind_below+params_below.Lts-below as below-lts
@@ -21,6 +21,7 @@ use Rattle.subtyping.proofs.below.+below+function_below+kind_below+para
 use Rattle.subtyping.proofs.below.params_below.Reads as params-below
 use Rattle.subtyping.proofs.below.params_below.Kinds as params-below-kinds
 use Rattle.subtyping.proofs.below.+below+function_below+kind_below+params_below.Lts-params_below as params-below-lts
+use Rattle.subtyping.proofs.below.is_itself.Reads as is-itself-reads
 use Rattle.file_sections.proofs.records.list_entry.Reads as list-entry-reads
 use Rattle.file_sections.proofs.records.type_a.Reads as type-a-reads
 use Rattle.file_sections.proofs.records.type_b.Reads as type-b-reads
@@ -88,6 +89,8 @@ params-below-below t =
 pub +below+function-below+kind-below+params-below-spec : {M : Type 1} → statement M
 +below+function-below+kind-below+params-below-spec =
     close μ-below μ-function-below μ-kind-below μ-params-below (λ t. below-lts.spec (
+      is-itself-reads.Asked,
+      is-itself-reads.Learnt,
       type-kind-reads.Asked,
       type-kind-reads.Learnt,
       kind-below-below t,
@@ -99,6 +102,8 @@ pub +below+function-below+kind-below+params-below-spec : {M : Type 1} → statem
     )
     (below-at t)
     below.Post
+    (λ c κs. search (entered, needs))
+    (λ c. search (itself-below, needs))
     (λ c κs. search needs)
     (λ c κs. search needs)
     (λ c κs. (omega arith, search needs))
@@ -106,7 +111,7 @@ pub +below+function-below+kind-below+params-below-spec : {M : Type 1} → statem
     (λ c. search (kinds-apart, needs))
     (λ c κs. search needs)
     (λ c κs.
-    let A = c .before .before .before .before .before .before .before .before in
+    let A = c .before .before .before .before .before .before .before .before .before .before in
     let x : c .type-a .result < A .args .b = search (nullable-lower, needs) in
     (omega arith, search needs))
     (λ c. search (below-4, needs))
