@@ -1,1 +1,2 @@
 pub mod LawsAnswers
+pub mod LawsOperators

@@ -9,6 +9,7 @@ use lib.Dec.{eqb}
 use Rattle.oat.specs.Basics.{pick}
 use Rattle.oat.specs.Tables.{Tables, entryAt, nodeAt}
 use Rattle.typing_rules.specs.Contexts.{Context}
+use Rattle.typing_rules.specs.Operators.{isEquality, operandType, resultType}
 use Rattle.type_index.specs.Index.{declared, formedEntry}
 use Rattle.file_sections.specs.declared.Sections.{Sections}
 use Rattle.file_sections.specs.Layout.{tablesOf}
@@ -17,6 +18,8 @@ use Rattle.bindings.specs.Bindings.{binderOf, typeBound, latest, Scoped}
 use Rattle.answers.specs.declared.answer.Judgement.{Judgement}
 use Rattle.answers.specs.declared.answer.Judgement.the-variants.{Typed, Refused}
 use Rattle.answers.specs.declared.answer.Judged.{Judged}
+use Rattle.answers.specs.declared.leaves.Operator.{Operator}
+use Rattle.answers.specs.declared.leaves.Operator.the-variants.{Fixed, Equality}
 use Rattle.answers.specs.declared.leaves.Expected.{Expected}
 use Rattle.answers.specs.declared.leaves.Expected.the-variants.{Each, Run}
 
@@ -48,6 +51,10 @@ pub record NameAnswer (F : List ℕ) (S : Sections) (R W K : List ℕ) (n s : �
   pub found : (h j : ℕ) → Scoped F S W K h → latest (tablesOf F S) W (nodeAt (tablesOf F S) n .x) h ≡ At j
       → LeafAnswer (typeBound (tablesOf F S) W j) n s r × (R′ ≡ withRow R n (typeBound (tablesOf F S) W j) (binderOf (tablesOf F S) W j))
   pub missing : (h : ℕ) → Scoped F S W K h → latest (tablesOf F S) W (nodeAt (tablesOf F S) n .x) h ≡ Nothing → r .judgement ≡ Refused 8 n
+
+-- what a binary operator asks of its operands
+unfoldable pub operatorOf : ℕ → Operator
+operatorOf x = pick (isEquality x) Equality (Fixed (operandType x) (resultType x))
 
 -- the type of a literal of this kind
 abbrev pub literalKind : ℕ → ℕ

@@ -31,7 +31,13 @@ ghost use Rattle.typing_rules.specs.Judge.{hasDefault, isBelow, isBelowMember};
 ghost use Rattle.file_sections.specs.Layout.{Laid, Has, tablesOf, GoodTables};
 ghost use Rattle.type_index.specs.Index.{Entered, Indexed};
 ghost use Rattle.bindings.specs.Bindings.{Some};
-ghost use Rattle.answers.specs.Answers.{structsAlone, withRow, LeafAnswer, literalKind, Expecting, expectedAt, NullAnswer, NameAnswer};
+ghost use Rattle.answers.specs.Answers.{structsAlone, withRow, LeafAnswer, operatorOf, literalKind, Expecting, expectedAt, NullAnswer, NameAnswer};
+
+// What a binary operator asks of its operands: both are of one type, and the type that it gives; or each is below the other.
+pub enum Operator {
+    Fixed(usize, usize),
+    Equality,
+}
 
 // What the types of a list of expressions are to be below: each the same type, or the run of the type list from an entry on.
 pub enum Expected {
@@ -117,6 +123,19 @@ pub fn unary_type(operator: usize) -> usize
         return 1;
     }
     0
+}
+
+// What a binary operator takes and gives: the comparisons ints to bool, & and | bools to bool, == and != both subtype directions, the
+// others ints to int.
+pub fn operator_of(operator: usize) -> Operator
+    ensures { λ r. ⌜ r ≡ operatorOf operator ⌝ }
+{
+    match operator {
+        6..=9 => Operator::Fixed(0, 1),
+        10..=11 => Operator::Equality,
+        12..=13 => Operator::Fixed(1, 1),
+        _ => Operator::Fixed(0, 0),
+    }
 }
 
 pub fn null(file: &[u8], sections: Sections, index: &[u16], rows: &mut [u16], at: At) -> Judged

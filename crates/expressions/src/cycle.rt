@@ -9,10 +9,12 @@ use answers::answer::refused;
 use answers::answer::row;
 use answers::answer::typed;
 use answers::leaves::Expected;
+use answers::leaves::Operator;
 use answers::leaves::has_default;
 use answers::leaves::literal;
 use answers::leaves::name;
 use answers::leaves::null;
+use answers::leaves::operator_of;
 use answers::leaves::still_below;
 use answers::leaves::still_fits;
 use answers::leaves::unary_type;
@@ -620,7 +622,7 @@ fn unary(
     typed(rows, at.node, taken, one.at)
 }
 
-// Binary operator: ints to int, ints to bool, both subtype directions, bools to bool.
+// Binary operator: one that takes two of one type, or == and !=.
 fn binary(
     file: &[u8],
     frame: Frame,
@@ -634,11 +636,12 @@ fn binary(
     requires { ⌜ nodeAt (tablesOf (now file) (frame .sections)) (at .node) .kind ≡ 26 ⌝ }
     ensures { λ r. ⌜ Told (now (file .entry)) (frame .sections) (now (index .entry)) (now (rows .entry)) (now (work .entry)) (frame .base) (at .node) (at .scope) (now (rows .exit)) (now (work .exit)) (now (chains .exit)) r ⌝ }
 {
-    match node_x(file, frame.sections, at.node) {
-        0..=5 | 14..=15 => operator(file, frame, index, rows, work, chains, at, 0, 0),
-        6..=9 => operator(file, frame, index, rows, work, chains, at, 0, 1),
-        10..=11 => equality(file, frame, index, rows, work, chains, at),
-        _ => operator(file, frame, index, rows, work, chains, at, 1, 1),
+    let asked = operator_of(node_x(file, frame.sections, at.node));
+    match asked {
+        Operator::Fixed(taken, given) => {
+            operator(file, frame, index, rows, work, chains, at, taken, given)
+        }
+        Operator::Equality => equality(file, frame, index, rows, work, chains, at),
     }
 }
 
