@@ -134,10 +134,6 @@ module _ (T : Tables) (i first : ℕ) where
   unfolding paramsRight
   no-params = none-tested _
 
-  pub params-done : (count j : ℕ) → j ≤ count → count ≤ j → paramsRight T i first j ≡ true → true ≡ paramsRight T i first count
-  unfolding paramsRight
-  params-done count j h k a = loop-done count _ j h k a
-
   module _ (j x : ℕ) (l : Bool) (ex : x ≡ entryAt T (first + j)) (el : l ≡ isLowerValue T i x) where
     pub param-fails : (count : ℕ) → j < count → not l ≡ true → false ≡ paramsRight T i first count
     unfolding paramsRight
@@ -163,33 +159,33 @@ module _ (s : List ℕ) (S : Sections) (i : ℕ) (r : TypeRecord) (a : ℕ) (ea 
       unfolding functionRule
       function-cut l = rw (← ea, lt-ltb _ _ h, ← eb, ← et, eq-eqb _ _ n, ← ec, list-long s S, lt-leb _ _ l)
 
-      pub function-rest : (u : Bool) → first + count ≤ S .list → u ≡ paramsRight (tablesOf s S) i first count → u ≡ functionRule (tablesOf s S) i r
+      pub function-rest : first + count ≤ S .list → paramsRight (tablesOf s S) i first count ≡ functionRule (tablesOf s S) i r
       unfolding functionRule
-      function-rest u l e = rw (← ea, lt-ltb _ _ h, ← eb, ← et, eq-eqb _ _ n, ← ec, list-long s S, le-leb _ _ l) e
+      function-rest l = rw (← ea, lt-ltb _ _ h, ← eb, ← et, eq-eqb _ _ n, ← ec, list-long s S, le-leb _ _ l)
 
 -- the rule of any type, by its number and its kind
-module _ (T : Tables) (i : ℕ) (r : TypeRecord) (u : Bool) where
-  pub type-base : i < 4 → u ≡ baseRule i r → u ≡ typeRule T i r
+module _ (T : Tables) (i : ℕ) (r : TypeRecord) where
+  pub type-base : i < 4 → baseRule i r ≡ typeRule T i r
   unfolding typeRule
-  type-base h e = rw (lt-ltb _ _ h) e
+  type-base h = rw (lt-ltb _ _ h)
 
   module _ (k : ℕ) (h : 4 ≤ i) (ek : k ≡ r .kind) where
-    pub type-struct : k ≡ 4 → u ≡ unusedBC r → u ≡ typeRule T i r
+    pub type-struct : k ≡ 4 → unusedBC r ≡ typeRule T i r
     unfolding typeRule
-    type-struct f e = rw (le-ltb _ _ h, eq-eqb (r .kind) 4 (omega arith)) e
+    type-struct f = rw (le-ltb _ _ h, ← ek, f)
 
-    pub type-array : k ≡ 5 → u ≡ arrayRule T i r → u ≡ typeRule T i r
+    pub type-array : k ≡ 5 → arrayRule T i r ≡ typeRule T i r
     unfolding typeRule
-    type-array f e = rw (le-ltb _ _ h, ne-eqb (r .kind) 4 (λ x. omega arith), eq-eqb (r .kind) 5 (omega arith)) e
+    type-array f = rw (le-ltb _ _ h, ← ek, f)
 
-    pub type-function : k ≡ 6 → u ≡ functionRule T i r → u ≡ typeRule T i r
+    pub type-function : k ≡ 6 → functionRule T i r ≡ typeRule T i r
     unfolding typeRule
-    type-function f e = rw (le-ltb _ _ h, ne-eqb (r .kind) 4 (λ x. omega arith), ne-eqb (r .kind) 5 (λ x. omega arith), eq-eqb (r .kind) 6 (omega arith)) e
+    type-function f = rw (le-ltb _ _ h, ← ek, f)
 
-    pub type-nullable : k ≡ 7 → u ≡ nullableRule T i r → u ≡ typeRule T i r
+    pub type-nullable : k ≡ 7 → nullableRule T i r ≡ typeRule T i r
     unfolding typeRule
-    type-nullable f e = rw (le-ltb _ _ h, ne-eqb (r .kind) 4 (λ x. omega arith), ne-eqb (r .kind) 5 (λ x. omega arith), ne-eqb (r .kind) 6 (λ x. omega arith), eq-eqb (r .kind) 7 (omega arith)) e
+    type-nullable f = rw (le-ltb _ _ h, ← ek, f)
 
-pub type-other : (T : Tables) (i : ℕ) (r : TypeRecord) (k : ℕ) → 4 ≤ i → k ≡ r .kind → (k ≡ 4 → ⊥) → (k ≡ 5 → ⊥) → (k ≡ 6 → ⊥) → (k ≡ 7 → ⊥) → false ≡ typeRule T i r
-unfolding typeRule
-type-other T i r k h ek a b c d = rw (le-ltb _ _ h, ← ek, ne-eqb _ _ a, ne-eqb _ _ b, ne-eqb _ _ c, ne-eqb _ _ d)
+    pub type-other : (k ≡ 4 → ⊥) → (k ≡ 5 → ⊥) → (k ≡ 6 → ⊥) → (k ≡ 7 → ⊥) → false ≡ typeRule T i r
+    unfolding typeRule
+    type-other a b c d = rw (le-ltb _ _ h, ← ek, ne-eqb _ _ a, ne-eqb _ _ b, ne-eqb _ _ c, ne-eqb _ _ d)

@@ -14,10 +14,6 @@ pub record Measured (parts : List ℕ) (T : Tables) (i : ℕ) : Type 0 where
   pub long : 512 ≤ length parts
   pub each : (j : ℕ) → j < i → getD parts j 0 ≡ partsAt T j
 
--- the parameters from the entry `first` on are types below `most`
-pub record Below (T : Tables) (first count most : ℕ) : Type 0 where
-  pub each : (j : ℕ) → j < count → entryAt T (first + j) < most
-
 -- the parts of the `count` parameters from the entry `first` on, where `parts` holds those of lower types
 unfoldable pub paramParts : List ℕ → Tables → ℕ → ℕ → ℕ
 paramParts parts T first count = sumBelow count (λ j. getD parts (entryAt T (first + j)) 0)

@@ -6,13 +6,13 @@ use file_sections::records::type_b;
 use file_sections::records::type_c;
 use file_sections::records::type_kind;
 ghost use mathlib.Core.Path.{_≡_};
-ghost use mathlib.Core.Bool.{true};
 ghost use Prim.Native.Nat.{_+_, _*_, _<_, _≤_};
 ghost use lib.ListN.{length, getD};
+ghost use Rattle.oat.specs.Basics.{pick};
 ghost use Rattle.oat.specs.Tables.{typeAt};
 ghost use Rattle.oat.specs.TypeRules.{isLowerValue, isReferenceKind, paramCount, takenBefore, unusedBC, baseRule, arrayRule, paramsRight, functionRule, nullableRule, typeRule, partsAt, eachTypeRight, typesRight};
 ghost use Rattle.file_sections.specs.Layout.{Laid, Has, tablesOf};
-ghost use Rattle.type_tables.specs.Parts.{Measured, Below, paramParts};
+ghost use Rattle.type_tables.specs.Parts.{Measured, paramParts};
 
 // The type j is lower than i, and it isn't void.
 pub fn lower_value(file: &[u8], sections: Sections, i: usize, j: usize) -> bool
@@ -46,40 +46,6 @@ pub fn param_count(file: &[u8], sections: Sections, i: usize) -> usize
     0
 }
 
-// Every parameter of the type i is a lower type that isn't void.
-fn params_right(file: &[u8], sections: Sections, i: usize, first: usize, count: usize) -> bool
-    requires { ⌜ Laid (now file) sections × (i ≤ sections .types) × (first + count ≤ sections .list) ⌝ }
-    ensures { λ r. ⌜ r ≡ paramsRight (tablesOf (now (file .entry)) sections) i first count ⌝ }
-{
-    let mut j = 0;
-    while j < count {
-        if !lower_value(file, sections, i, list_entry(file, sections, first + j)) {
-            return false;
-        }
-        j += 1;
-    }
-    true
-}
-
-// The rule of a function type, whose parameters begin at the entry `taken` of the type list.
-fn function_right(file: &[u8], sections: Sections, i: usize, taken: usize) -> bool
-    requires { ⌜ Has (now file) sections i (sections .types) × (taken ≡ takenBefore (tablesOf (now file) sections) i) ⌝ }
-    ensures { λ r. ⌜ r ≡ functionRule (tablesOf (now (file .entry)) sections) i (typeAt (tablesOf (now (file .entry)) sections) i) ⌝ }
-{
-    let first = type_b(file, sections, i);
-    let count = type_c(file, sections, i);
-    if i <= type_a(file, sections, i) {
-        return false;
-    }
-    if first != taken {
-        return false;
-    }
-    if sections.list < first + count {
-        return false;
-    }
-    params_right(file, sections, i, first, count)
-}
-
 // b and c of the type i are 0.
 fn unused(file: &[u8], sections: Sections, i: usize) -> bool
     requires { ⌜ Has (now file) sections i (sections .types) ⌝ }
@@ -102,49 +68,6 @@ fn base_right(file: &[u8], sections: Sections, i: usize) -> bool
     unused(file, sections, i)
 }
 
-// The rule of an array type.
-fn array_right(file: &[u8], sections: Sections, i: usize) -> bool
-    requires { ⌜ Has (now file) sections i (sections .types) ⌝ }
-    ensures { λ r. ⌜ r ≡ arrayRule (tablesOf (now (file .entry)) sections) i (typeAt (tablesOf (now (file .entry)) sections) i) ⌝ }
-{
-    if !lower_value(file, sections, i, type_a(file, sections, i)) {
-        return false;
-    }
-    unused(file, sections, i)
-}
-
-// The rule of a nullable type.
-fn nullable_right(file: &[u8], sections: Sections, i: usize) -> bool
-    requires { ⌜ Has (now file) sections i (sections .types) ⌝ }
-    ensures { λ r. ⌜ r ≡ nullableRule (tablesOf (now (file .entry)) sections) i (typeAt (tablesOf (now (file .entry)) sections) i) ⌝ }
-{
-    let a = type_a(file, sections, i);
-    if i <= a {
-        return false;
-    }
-    if !reference_kind(type_kind(file, sections, a)) {
-        return false;
-    }
-    unused(file, sections, i)
-}
-
-// The rule of the type i, but for its parts.
-fn type_right(file: &[u8], sections: Sections, i: usize, taken: usize) -> bool
-    requires { ⌜ Has (now file) sections i (sections .types) × (taken ≡ takenBefore (tablesOf (now file) sections) i) ⌝ }
-    ensures { λ r. ⌜ r ≡ typeRule (tablesOf (now (file .entry)) sections) i (typeAt (tablesOf (now (file .entry)) sections) i) ⌝ }
-{
-    if i < 4 {
-        return base_right(file, sections, i);
-    }
-    match type_kind(file, sections, i) {
-        4 => unused(file, sections, i),
-        5 => array_right(file, sections, i),
-        6 => function_right(file, sections, i, taken),
-        7 => nullable_right(file, sections, i),
-        _ => false,
-    }
-}
-
 // The parts of the lower type j.
 fn part(parts: &[u16], j: usize) -> usize
     requires { ⌜ j < length (now parts) ⌝ }
@@ -153,44 +76,117 @@ fn part(parts: &[u16], j: usize) -> usize
     parts[j] as usize
 }
 
-// The parts of `count` parameters that begin at the entry `first`.
-fn param_parts(file: &[u8], sections: Sections, parts: &[u16], first: usize, count: usize) -> usize
-    requires { ⌜ Laid (now file) sections × (first + count ≤ sections .list) ⌝ }
-    requires { ⌜ Below (tablesOf (now file) sections) first count (length (now parts)) ⌝ }
-    ensures { λ r. ⌜ r ≡ paramParts (now (parts .entry)) (tablesOf (now (file .entry)) sections) first count ⌝ }
-    ensures { λ r. ⌜ r ≤ 65535 * count ⌝ }
+// The parts of a type that refers to no other, or 0 where it breaks its rule.
+fn one_part(right: bool) -> usize
+    ensures { λ r. ⌜ r ≡ pick right 1 0 ⌝ }
 {
-    let mut sum: usize = 0;
+    if right {
+        return 1;
+    }
+    0
+}
+
+// The parts of the array type i, or 0 where it breaks its rule.
+fn array_parts(file: &[u8], sections: Sections, parts: &[u16], i: usize) -> usize
+    requires { ⌜ Has (now file) sections i (sections .types) × Measured (now parts) (tablesOf (now file) sections) i ⌝ }
+    requires { ⌜ typeAt (tablesOf (now file) sections) i .kind ≡ 5 ⌝ }
+    ensures { λ r. ⌜ r ≡ pick (arrayRule (tablesOf (now (file .entry)) sections) i (typeAt (tablesOf (now (file .entry)) sections) i)) (partsAt (tablesOf (now (file .entry)) sections) i) 0 ⌝ }
+{
+    let a = type_a(file, sections, i);
+    if !lower_value(file, sections, i, a) {
+        return 0;
+    }
+    if !unused(file, sections, i) {
+        return 0;
+    }
+    1 + part(parts, a)
+}
+
+// The parts of the nullable type i, or 0 where it breaks its rule.
+fn nullable_parts(file: &[u8], sections: Sections, parts: &[u16], i: usize) -> usize
+    requires { ⌜ Has (now file) sections i (sections .types) × Measured (now parts) (tablesOf (now file) sections) i ⌝ }
+    requires { ⌜ typeAt (tablesOf (now file) sections) i .kind ≡ 7 ⌝ }
+    ensures { λ r. ⌜ r ≡ pick (nullableRule (tablesOf (now (file .entry)) sections) i (typeAt (tablesOf (now (file .entry)) sections) i)) (partsAt (tablesOf (now (file .entry)) sections) i) 0 ⌝ }
+{
+    let a = type_a(file, sections, i);
+    if i <= a {
+        return 0;
+    }
+    if !reference_kind(type_kind(file, sections, a)) {
+        return 0;
+    }
+    if !unused(file, sections, i) {
+        return 0;
+    }
+    1 + part(parts, a)
+}
+
+// 1 and the parts of `count` parameters of the type i that begin at the entry `first`, or 0 where one is void or isn't a lower type.
+fn params_parts(
+    file: &[u8],
+    sections: Sections,
+    parts: &[u16],
+    i: usize,
+    first: usize,
+    count: usize,
+) -> usize
+    requires { ⌜ Has (now file) sections i (sections .types) × Measured (now parts) (tablesOf (now file) sections) i × (first + count ≤ sections .list) ⌝ }
+    ensures { λ r. ⌜ r ≡ pick (paramsRight (tablesOf (now (file .entry)) sections) i first count) (1 + paramParts (now (parts .entry)) (tablesOf (now (file .entry)) sections) first count) 0 ⌝ }
+    ensures { λ r. ⌜ r ≤ 1 + 65535 * count ⌝ }
+{
+    let mut sum: usize = 1;
     let mut j = 0;
     while j < count {
-        sum += part(parts, list_entry(file, sections, first + j));
+        let param = list_entry(file, sections, first + j);
+        if !lower_value(file, sections, i, param) {
+            return 0;
+        }
+        sum += part(parts, param);
         j += 1;
     }
     sum
 }
 
-// The parts of the function type i, from those of lower types.
-fn function_parts(file: &[u8], sections: Sections, parts: &[u16], i: usize) -> usize
-    requires { ⌜ Has (now file) sections i (sections .types) × Measured (now parts) (tablesOf (now file) sections) i ⌝ }
-    requires { ⌜ functionRule (tablesOf (now file) sections) i (typeAt (tablesOf (now file) sections) i) ≡ true ⌝ }
-    requires { ⌜ typeAt (tablesOf (now file) sections) i .kind ≡ 6 ⌝ }
-    ensures { λ r. ⌜ r ≡ partsAt (tablesOf (now (file .entry)) sections) i ⌝ }
+// The parts of the function type i, whose parameters begin at the entry `taken` of the type list, or 0 where it breaks its rule.
+fn function_parts(file: &[u8], sections: Sections, parts: &[u16], i: usize, taken: usize) -> usize
+    requires { ⌜ Has (now file) sections i (sections .types) × (taken ≡ takenBefore (tablesOf (now file) sections) i) ⌝ }
+    requires { ⌜ Measured (now parts) (tablesOf (now file) sections) i × (typeAt (tablesOf (now file) sections) i .kind ≡ 6) ⌝ }
+    ensures { λ r. ⌜ r ≡ pick (functionRule (tablesOf (now (file .entry)) sections) i (typeAt (tablesOf (now (file .entry)) sections) i)) (partsAt (tablesOf (now (file .entry)) sections) i) 0 ⌝ }
 {
     let first = type_b(file, sections, i);
     let count = type_c(file, sections, i);
-    1 + part(parts, type_a(file, sections, i)) + param_parts(file, sections, parts, first, count)
+    let a = type_a(file, sections, i);
+    if i <= a {
+        return 0;
+    }
+    if first != taken {
+        return 0;
+    }
+    if sections.list < first + count {
+        return 0;
+    }
+    let sum = params_parts(file, sections, parts, i, first, count);
+    if sum == 0 {
+        return 0;
+    }
+    sum + part(parts, a)
 }
 
-// The parts of the type i, from those of lower types.
-fn parts_of(file: &[u8], sections: Sections, parts: &[u16], i: usize) -> usize
-    requires { ⌜ Has (now file) sections i (sections .types) × Measured (now parts) (tablesOf (now file) sections) i ⌝ }
-    requires { ⌜ typeRule (tablesOf (now file) sections) i (typeAt (tablesOf (now file) sections) i) ≡ true ⌝ }
-    ensures { λ r. ⌜ r ≡ partsAt (tablesOf (now (file .entry)) sections) i ⌝ }
+// The parts of the type i, from those of lower types, or 0 where it breaks its rule.
+fn type_parts(file: &[u8], sections: Sections, parts: &[u16], i: usize, taken: usize) -> usize
+    requires { ⌜ Has (now file) sections i (sections .types) × (taken ≡ takenBefore (tablesOf (now file) sections) i) ⌝ }
+    requires { ⌜ Measured (now parts) (tablesOf (now file) sections) i ⌝ }
+    ensures { λ r. ⌜ r ≡ pick (typeRule (tablesOf (now (file .entry)) sections) i (typeAt (tablesOf (now (file .entry)) sections) i)) (partsAt (tablesOf (now (file .entry)) sections) i) 0 ⌝ }
 {
+    if i < 4 {
+        return one_part(base_right(file, sections, i));
+    }
     match type_kind(file, sections, i) {
-        5 | 7 => 1 + part(parts, type_a(file, sections, i)),
-        6 => function_parts(file, sections, parts, i),
-        _ => 1,
+        4 => one_part(unused(file, sections, i)),
+        5 => array_parts(file, sections, parts, i),
+        6 => function_parts(file, sections, parts, i, taken),
+        7 => nullable_parts(file, sections, parts, i),
+        _ => 0,
     }
 }
 
@@ -202,10 +198,10 @@ fn each_type(file: &[u8], sections: Sections, parts: &mut [u16], most: usize) ->
     let mut taken = 0;
     let mut i = 0;
     while i < sections.types {
-        if !type_right(file, sections, i, taken) {
+        let own = type_parts(file, sections, &*parts, i, taken);
+        if own == 0 {
             return false;
         }
-        let own = parts_of(file, sections, &*parts, i);
         if most < own {
             return false;
         }

@@ -8,7 +8,7 @@ use Rattle.oat.specs.Basics.{allBelow}
 use Rattle.oat.specs.TypeRules.{takenBefore}
 use Rattle.file_sections.specs.Layout.{tablesOf}
 use Rattle.type_tables.specs.Parts.{Measured, keeps}
-use Rattle.type_tables.proofs.LawsParts.{kept, none-taken, taken-more, measured-none, measured-more, keeps-more, type-fails, parts-fail, types-end}
+use Rattle.type_tables.proofs.LawsParts.{none-taken, taken-more, measured-none, measured-more, keeps-more, type-fails, parts-fail, types-end}
 use Rattle.type_tables.proofs.LawsTypes.{none-tested}
 use Rattle.type_tables.proofs.types.each_type.Statement.{statement}
 use Rattle.type_tables.proofs.types.each_type.Tie as tie
@@ -29,7 +29,6 @@ each-type-spec =
     (λ c κs. search needs)
     (λ c. search needs)
     (λ c. search (type-fails, needs))
-    (λ c κs. (search needs, search (kept, needs)))
     (λ c. search needs)
     (λ c. search (parts-fail, needs))
     (λ c. search needs)
