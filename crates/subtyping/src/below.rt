@@ -179,22 +179,11 @@ fn kind_below(
     }
 }
 
-// The types a and b are equal and well-formed: a well-formed type is below itself.
-fn is_itself(index: &[u16], a: usize, b: usize) -> bool
-    requires { ⌜ Entered (now index) a × Entered (now index) b ⌝ }
-    ensures { λ r. ⌜ r ≡ isItself (now (index .entry)) a b ⌝ }
-{
-    same(index, a, b) && is_formed(index, a)
-}
-
-// The type a is below the type b, as return types.
-pub fn below(file: &[u8], sections: Sections, index: &[u16], a: usize, b: usize) -> bool
+// The type a is below the type b, by their kinds.
+fn by_kinds(file: &[u8], sections: Sections, index: &[u16], a: usize, b: usize) -> bool
     requires { ⌜ GoodTables (now file) sections × Indexed (now index) (tablesOf (now file) sections) (sections .types) × (a < sections .types) × (b < sections .types) ⌝ }
-    ensures { λ r. ⌜ r ≡ Decide.below (declared (tablesOf (now (file .entry)) sections)) (typeOf (tablesOf (now (file .entry)) sections) a) (typeOf (tablesOf (now (file .entry)) sections) b) ⌝ }
+    ensures { λ r. ⌜ r ≡ belowAt (tablesOf (now (file .entry)) sections) a b ⌝ }
 {
-    if is_itself(index, a, b) {
-        return true;
-    }
     let kind = type_kind(file, sections, a);
     let other = type_kind(file, sections, b);
     if kind == other {
@@ -207,4 +196,23 @@ pub fn below(file: &[u8], sections: Sections, index: &[u16], a: usize, b: usize)
         2 | 4..=6 => below(file, sections, index, a, type_a(file, sections, b)),
         _ => false,
     }
+}
+
+// The types a and b are equal and well-formed: a well-formed type is below itself.
+fn is_itself(index: &[u16], a: usize, b: usize) -> bool
+    requires { ⌜ Entered (now index) a × Entered (now index) b ⌝ }
+    ensures { λ r. ⌜ r ≡ isItself (now (index .entry)) a b ⌝ }
+{
+    same(index, a, b) && is_formed(index, a)
+}
+
+// The type a is below the type b, as return types. Most are equal and well-formed, and are answered here: a call further on copies much.
+pub fn below(file: &[u8], sections: Sections, index: &[u16], a: usize, b: usize) -> bool
+    requires { ⌜ GoodTables (now file) sections × Indexed (now index) (tablesOf (now file) sections) (sections .types) × (a < sections .types) × (b < sections .types) ⌝ }
+    ensures { λ r. ⌜ r ≡ Decide.below (declared (tablesOf (now (file .entry)) sections)) (typeOf (tablesOf (now (file .entry)) sections) a) (typeOf (tablesOf (now (file .entry)) sections) b) ⌝ }
+{
+    if is_itself(index, a, b) {
+        return true;
+    }
+    by_kinds(file, sections, index, a, b)
 }

@@ -1,6 +1,6 @@
--- `below::below`, `below::kind_below`, `below::function_below` and `below::params_below` meet their contracts. The sum of the two type
--- numbers falls from call to call; at the same sum the calls go from `below` to a kind, and on to a function type and its parameters, of
--- which one less is left each time. Assumes nothing.
+-- `below::below`, `below::by_kinds`, `below::kind_below`, `below::function_below` and `below::params_below` meet their contracts. The sum
+-- of the two type numbers falls from call to call; at the same sum the calls go from `below` to the kinds, to one kind, and on to a
+-- function type and its parameters, of which one less is left each time. Assumes nothing.
 use Prim.Native.Nat.{ℕ, _<_, _+_, _*_}
 use mathlib.Core.Logic.{⊎-elim}
 use native.Mathlib.Omega.{arith}
@@ -11,16 +11,19 @@ use Rattle.type_index.proofs.LawsIndex.{entered}
 use Rattle.subtyping.proofs.LawsTypesBelow.{itself-below, array-lower, nullable-lower, returns-lower, params-of, params-too, kinds-apart, below-4, from-7, string-held, other-held, base-below, struct-is, array-is, nullable-is, counts-differ, params-fail, returns-are, no-params, first-lower, other-params, first-fails, others-decide}
 use Rattle.subtyping.proofs.below.below.Reads as below
 use Rattle.subtyping.proofs.below.below.Kinds as below-kinds
-use Rattle.subtyping.proofs.below.+below+function_below+kind_below+params_below.Lts-below as below-lts
+use Rattle.subtyping.proofs.below.+below+by_kinds+function_below+kind_below+params_below.Lts-below as below-lts
+use Rattle.subtyping.proofs.below.by_kinds.Reads as by-kinds
+use Rattle.subtyping.proofs.below.by_kinds.Kinds as by-kinds-kinds
+use Rattle.subtyping.proofs.below.+below+by_kinds+function_below+kind_below+params_below.Lts-by_kinds as by-kinds-lts
 use Rattle.subtyping.proofs.below.function_below.Reads as function-below
 use Rattle.subtyping.proofs.below.function_below.Kinds as function-below-kinds
-use Rattle.subtyping.proofs.below.+below+function_below+kind_below+params_below.Lts-function_below as function-below-lts
+use Rattle.subtyping.proofs.below.+below+by_kinds+function_below+kind_below+params_below.Lts-function_below as function-below-lts
 use Rattle.subtyping.proofs.below.kind_below.Reads as kind-below
 use Rattle.subtyping.proofs.below.kind_below.Kinds as kind-below-kinds
-use Rattle.subtyping.proofs.below.+below+function_below+kind_below+params_below.Lts-kind_below as kind-below-lts
+use Rattle.subtyping.proofs.below.+below+by_kinds+function_below+kind_below+params_below.Lts-kind_below as kind-below-lts
 use Rattle.subtyping.proofs.below.params_below.Reads as params-below
 use Rattle.subtyping.proofs.below.params_below.Kinds as params-below-kinds
-use Rattle.subtyping.proofs.below.+below+function_below+kind_below+params_below.Lts-params_below as params-below-lts
+use Rattle.subtyping.proofs.below.+below+by_kinds+function_below+kind_below+params_below.Lts-params_below as params-below-lts
 use Rattle.subtyping.proofs.below.is_itself.Reads as is-itself-reads
 use Rattle.file_sections.proofs.records.list_entry.Reads as list-entry-reads
 use Rattle.file_sections.proofs.records.type_a.Reads as type-a-reads
@@ -29,17 +32,20 @@ use Rattle.file_sections.proofs.records.type_c.Reads as type-c-reads
 use Rattle.file_sections.proofs.records.type_kind.Reads as type-kind-reads
 use Rattle.subtyping.proofs.below.struct_below.Reads as struct-below-reads
 use Rattle.type_index.proofs.same.same.Reads as same-reads
-use Rattle.subtyping.proofs.below.+below+function_below+kind_below+params_below.{statement}
-use Rattle.subtyping.proofs.below.+below+function_below+kind_below+params_below.Tie.{close}
+use Rattle.subtyping.proofs.below.+below+by_kinds+function_below+kind_below+params_below.{statement}
+use Rattle.subtyping.proofs.below.+below+by_kinds+function_below+kind_below+params_below.Tie.{close}
 
 abbrev μ-below : Measures 2 below-kinds.ps ℕ
 μ-below κs a = (a .1 .1 .1 .0 + a .1 .1 .1 .1 .0) * 131072 + 131071
 
+abbrev μ-by-kinds : Measures 2 by-kinds-kinds.ps ℕ
+μ-by-kinds κs a = (a .1 .1 .1 .0 + a .1 .1 .1 .1 .0) * 131072 + 131070
+
 abbrev μ-function-below : Measures 2 function-below-kinds.ps ℕ
-μ-function-below κs a = (a .1 .1 .1 .0 + a .1 .1 .1 .1 .0) * 131072 + 131069
+μ-function-below κs a = (a .1 .1 .1 .0 + a .1 .1 .1 .1 .0) * 131072 + 131068
 
 abbrev μ-kind-below : Measures 2 kind-below-kinds.ps ℕ
-μ-kind-below κs a = (a .1 .1 .1 .1 .0 + a .1 .1 .1 .1 .1 .0) * 131072 + 131070
+μ-kind-below κs a = (a .1 .1 .1 .1 .0 + a .1 .1 .1 .1 .1 .0) * 131072 + 131069
 
 abbrev μ-params-below : Measures 2 params-below-kinds.ps ℕ
 μ-params-below κs a = (a .1 .1 .1 .0 + a .1 .1 .1 .1 .0) * 131072 + a .1 .1 .1 .1 .1 .1 .1 .0
@@ -49,6 +55,12 @@ below-at t = and 2 below-kinds.ps (is 2 below-kinds.ps μ-below t) below.Pre
 
 abbrev below-below : ℕ → In 2 below-kinds.ps
 below-below t = and 2 below-kinds.ps (falls 2 below-kinds.ps _<_ μ-below t) below.Pre
+
+abbrev by-kinds-at : ℕ → In 2 by-kinds-kinds.ps
+by-kinds-at t = and 2 by-kinds-kinds.ps (is 2 by-kinds-kinds.ps μ-by-kinds t) by-kinds.Pre
+
+abbrev by-kinds-below : ℕ → In 2 by-kinds-kinds.ps
+by-kinds-below t = and 2 by-kinds-kinds.ps (falls 2 by-kinds-kinds.ps _<_ μ-by-kinds t) by-kinds.Pre
 
 abbrev function-below-at : ℕ → In 2 function-below-kinds.ps
 function-below-at t =
@@ -86,11 +98,21 @@ params-below-below t =
     (falls 2 params-below-kinds.ps _<_ μ-params-below t)
     params-below.Pre
 
-pub +below+function-below+kind-below+params-below-spec : {M : Type 1} → statement M
-+below+function-below+kind-below+params-below-spec =
-    close μ-below μ-function-below μ-kind-below μ-params-below (λ t. below-lts.spec (
+pub +below+by-kinds+function-below+kind-below+params-below-spec : {M : Type 1} → statement M
++below+by-kinds+function-below+kind-below+params-below-spec =
+    close μ-below μ-by-kinds μ-function-below μ-kind-below μ-params-below (λ t. below-lts.spec (
       is-itself-reads.Asked,
       is-itself-reads.Learnt,
+      by-kinds-below t,
+      by-kinds.Post,
+    )
+    (below-at t)
+    below.Post
+    (λ c κs. (search (entered, needs), search (entered, needs)))
+    (λ c. search (itself-below, needs))
+    (λ c κs. (omega arith, search needs))
+    (λ c. search needs))
+    (λ t. by-kinds-lts.spec (
       type-kind-reads.Asked,
       type-kind-reads.Learnt,
       kind-below-below t,
@@ -100,10 +122,8 @@ pub +below+function-below+kind-below+params-below-spec : {M : Type 1} → statem
       below-below t,
       below.Post,
     )
-    (below-at t)
-    below.Post
-    (λ c κs. search (entered, needs))
-    (λ c. search (itself-below, needs))
+    (by-kinds-at t)
+    by-kinds.Post
     (λ c κs. search needs)
     (λ c κs. search needs)
     (λ c κs. (omega arith, search needs))
@@ -111,7 +131,7 @@ pub +below+function-below+kind-below+params-below-spec : {M : Type 1} → statem
     (λ c. search (kinds-apart, needs))
     (λ c κs. search needs)
     (λ c κs.
-    let A = c .before .before .before .before .before .before .before .before .before .before in
+    let A = c .before .before .before .before .before .before .before .before in
     let x : c .type-a .result < A .args .b = search (nullable-lower, needs) in
     (omega arith, search needs))
     (λ c. search (below-4, needs))
