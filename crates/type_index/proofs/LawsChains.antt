@@ -1,9 +1,10 @@
 -- Laws of the chains: equal types are in one chain, the way along a chain to an equal type, and chains with one type more. Assumes
 -- nothing.
-use mathlib.Core.Path.{_≡_, refl, ap, ap₂, sym, subst, _∙_}
+use mathlib.Core.Path.{_≡_, refl, ap, sym, subst, _∙_}
 use mathlib.Core.Bool.{Bool, true, false, false≢true}
 use mathlib.Core.List.{List}
-use Prim.Native.Nat.{ℕ, _+_, _-_, _%_, _≤_, _<_}
+use mathlib.Core.Logic.{inl, inr}
+use Prim.Native.Nat.{ℕ, _+_, _-_, _*_, _%_, _≤_, _<_}
 use native.Mathlib.Nat.{not-suc-le-zero, mod-lt}
 use native.Mathlib.Omega.{arith}
 use lib.ListN.{length, getD, set, length-set}
@@ -16,6 +17,7 @@ use Rattle.oat.specs.Tables.{Tables, typeAt}
 use Rattle.oat.specs.TypeRules.{kindAt}
 use Rattle.oat.specs.Types.{Ty, int, bool, string, void, struct, array, function, nullable, typeOf}
 use Rattle.oat.specs.Decide.{kindOf, sameTy, isFormed}
+use Rattle.oat.proofs.LawsBelow.{howMany, params-many}
 use Rattle.oat.proofs.LawsSame.{same-sound}
 use Rattle.oat.proofs.LawsWritten.{type-struct, type-array, type-function, type-nullable}
 use Rattle.chains.proofs.LawsChains.{Walks, walk-starts, walk-falls, walk-on, linked, chains-none}
@@ -23,9 +25,9 @@ use Rattle.file_sections.specs.declared.Sections.{Sections}
 use Rattle.file_sections.specs.Layout.{tablesOf, GoodTables}
 use Rattle.type_index.specs.Index.{declared, firstBelow, structNamed, lowestEntry, structEntry, formedEntry, bucketOf, Chained, Cleared, Indexed}
 use Rattle.type_index.proofs.LawsIndex.{firstOf, first-equal, first-nowhere, indexed-more}
-use Rattle.type_index.proofs.LawsSameTypes.{kind-is, kind-most, array-kept, function-kept, nullable-kept}
+use Rattle.type_index.proofs.LawsSameTypes.{kind-is, kind-most, unused-kept, array-kept, function-kept, nullable-kept}
 
--- the name that a type has, and the type of its operand a
+-- the name that a type has, the type of its operand a, and its number of parameters
 abbrev nameOf : Ty → ℕ
 nameOf int = 0
 nameOf bool = 0
@@ -46,10 +48,21 @@ operandOf (array t) = t
 operandOf (function ts t) = t
 operandOf (nullable t) = t
 
+abbrev countOf : Ty → ℕ
+countOf int = 0
+countOf bool = 0
+countOf string = 0
+countOf void = 0
+countOf (struct x) = 0
+countOf (array t) = 0
+countOf (function ts t) = howMany ts
+countOf (nullable t) = 0
+
 -- a type that refers to another by its operand a
 record Referring (T : Tables) (i : ℕ) : Type 0 where
   pub lower : typeAt T i .a < i
   pub type : operandOf (typeOf T i) ≡ typeOf T (typeAt T i .a)
+  pub count : countOf (typeOf T i) ≡ typeAt T i .c
 
 operand-of : (s : List ℕ) (S : Sections) (i : ℕ) → GoodTables s S → i < S .types → 4 ≤ kindAt (tablesOf s S) i → (kindAt (tablesOf s S) i ≡ 4 → ⊥) → Referring (tablesOf s S) i
 operand-of s S i R h l n = go (eqb (kindAt (tablesOf s S) i) 5) (eqb (kindAt (tablesOf s S) i) 6) refl refl
@@ -58,18 +71,21 @@ operand-of s S i R h l n = go (eqb (kindAt (tablesOf s S) i) 5) (eqb (kindAt (ta
     go true d e f =
         let k = eqb-true (kindAt (tablesOf s S) i) 5 e in
         let low = array-kept s S R i h k .lower in
-        record { lower = low; type = ap operandOf (type-array (tablesOf s S) i k low) }
+        let is = type-array (tablesOf s S) i k low in
+        record { lower = low; type = ap operandOf is; count = ap countOf is ∙ sym (unused-kept s S R i h (inl k)) }
     go false true e f =
         let k = eqb-true (kindAt (tablesOf s S) i) 6 f in
         let F = function-kept s S R i h k in
-        record { lower = F .returns; type = ap operandOf (type-function (tablesOf s S) i k (F .returns) (λ j m. F .parameter j m .lower)) }
+        let is = type-function (tablesOf s S) i k (F .returns) (λ j m. F .parameter j m .lower) in
+        record { lower = F .returns; type = ap operandOf is; count = ap countOf is ∙ params-many _ _ _ _ }
     go false false e f =
         let not-five = eqb-false (kindAt (tablesOf s S) i) 5 e in
         let not-six = eqb-false (kindAt (tablesOf s S) i) 6 f in
         let most = kind-most s S R i h in
         let k : kindAt (tablesOf s S) i ≡ 7 = omega arith in
         let low = nullable-kept s S R i h k .lower in
-        record { lower = low; type = ap operandOf (type-nullable (tablesOf s S) i k low) }
+        let is = type-nullable (tablesOf s S) i k low in
+        record { lower = low; type = ap operandOf is; count = ap countOf is ∙ sym (unused-kept s S R i h (inr k)) }
 
 -- the bucket of a type by its kind
 module _ (T : Tables) (i : ℕ) where
@@ -81,9 +97,12 @@ module _ (T : Tables) (i : ℕ) where
   unfolding bucketOf
   bucket-name e = rw (le-ltb (kindAt T i) 4 (omega arith), eq-eqb _ _ e)
 
-  bucket-other : 4 ≤ kindAt T i → (kindAt T i ≡ 4 → ⊥) → bucketOf T i ≡ (firstOf (typeOf T) (typeAt T i .a) + kindAt T i) % 64
+  bucket-other : 4 ≤ kindAt T i → (kindAt T i ≡ 4 → ⊥) → bucketOf T i ≡ (firstOf (typeOf T) (typeAt T i .a) + kindAt T i + typeAt T i .c * 8) % 64
   unfolding bucketOf
   bucket-other h n = rw (le-ltb _ _ h, ne-eqb _ _ n)
+
+bucket-sum : {x y j k c d : ℕ} → x ≡ y → j ≡ k → c ≡ d → (x + j + c * 8) % 64 ≡ (y + k + d * 8) % 64
+bucket-sum e f g = rw (e, f, g)
 
 pub bucket-most : (n : ℕ) → n % 64 < 64
 bucket-most n = mod-lt n (omega arith)
@@ -100,10 +119,10 @@ module _ (s : List ℕ) (S : Sections) (i k : ℕ) (ek : k ≡ kindAt (tablesOf 
       pub operand-lower : a < i
       operand-lower = omega (arith, operand-of s S i R h (omega arith) (λ e. n (ek ∙ e)) .lower)
 
-      pub bucket-referred : (index : List ℕ) (e : ℕ) → Indexed index (tablesOf s S) i → e ≡ getD index a 0 → (e + k) % 64 ≡ bucketOf (tablesOf s S) i
+      pub bucket-referred : (index : List ℕ) (e c : ℕ) → Indexed index (tablesOf s S) i → e ≡ getD index a 0 → c ≡ typeAt (tablesOf s S) i .c → (e + k + c * 8) % 64 ≡ bucketOf (tablesOf s S) i
       unfolding lowestEntry
-      bucket-referred index e I ee =
-          ap₂ (λ x y. (x + y) % 64) (ee ∙ I .lowest a operand-lower ∙ ap (firstOf (typeOf (tablesOf s S))) ea) ek
+      bucket-referred index e c I ee ec =
+          bucket-sum (ee ∙ I .lowest a operand-lower ∙ ap (firstOf (typeOf (tablesOf s S))) ea) ek ec
           ∙ sym (bucket-other (tablesOf s S) i (omega arith) (λ x. n (ek ∙ x)))
 
       pub operand-in : (index : List ℕ) → Indexed index (tablesOf s S) i → a < length index
@@ -130,7 +149,7 @@ module _ (T : Tables) (a b : ℕ) (e : typeOf T a ≡ typeOf T b) (kinds : kindA
           let l′ : 4 ≤ kindAt T b = omega arith in
           let n′ : kindAt T b ≡ 4 → ⊥ = λ x. n (kinds ∙ x) in
           bucket-other T a l n
-          ∙ ap₂ (λ x y. (x + y) % 64) (first-equal (typeOf T) (typeAt T a .a) (typeAt T b .a) (sym (A l n .type) ∙ ap operandOf e ∙ B l′ n′ .type)) kinds
+          ∙ bucket-sum (first-equal (typeOf T) (typeAt T a .a) (typeAt T b .a) (sym (A l n .type) ∙ ap operandOf e ∙ B l′ n′ .type)) kinds (sym (A l n .count) ∙ ap countOf e ∙ B l′ n′ .count)
           ∙ sym (bucket-other T b l′ n′)
 
 module _ (s : List ℕ) (S : Sections) (R : GoodTables s S) (a b : ℕ) (ha : a < S .types) (hb : b < S .types) where

@@ -8,14 +8,14 @@ use Prim.Native.Nat.{ℕ, zero, suc, _+_, _≤_, _<_}
 use native.Mathlib.Nat.{add-zero}
 use native.Mathlib.Omega.{arith}
 use lib.ListN.{length}
-use lib.Dec.{eqb, ltb}
-use borrow.Author.Tests.{ltb-true, ltb-false, ne-eqb, not-true, not-false}
+use lib.Dec.{eqb, ltb, leb}
+use borrow.Author.Tests.{ltb-true, ltb-false, eqb-true, ne-eqb, not-true, not-false}
 use Rattle.oat.specs.Basics.{pick, allBelow}
-use Rattle.oat.specs.Tables.{Tables, typeAt, entryAt}
-use Rattle.oat.specs.TypeRules.{kindAt}
+use Rattle.oat.specs.Tables.{Tables, TypeRecord, typeAt, entryAt}
+use Rattle.oat.specs.TypeRules.{kindAt, isReferenceKind, isLowerValue, unusedBC, baseRule, arrayRule, nullableRule, typeRule, eachTypeRight, typesRight}
 use Rattle.oat.specs.Types.{Ty, int, bool, string, void, struct, array, function, nullable, Tys, writtenParams, written, typeOf}
 use Rattle.oat.specs.Decide.{kindOf, sameTy, sameTys}
-use Rattle.oat.proofs.LawsBasics.{and-left, and-right}
+use Rattle.oat.proofs.LawsBasics.{and-parts, and-left, and-right, all-at}
 use Rattle.oat.proofs.LawsSame.{same-sound, same-refl}
 use Rattle.oat.proofs.LawsTypes.{LowerValue, FunctionType, NullableType, TypesFormed, types-formed}
 use Rattle.oat.proofs.LawsWritten.{type-struct, type-array, type-function, type-nullable}
@@ -76,6 +76,20 @@ kind-picked (suc (suc (suc (suc (suc (suc zero)))))) x t ts h = refl
 kind-picked (suc (suc (suc (suc (suc (suc (suc zero))))))) x t ts h = refl
 kind-picked (suc (suc (suc (suc (suc (suc (suc (suc k)))))))) x t ts h = absurd (omega arith)
 
+-- an array or nullable type has no operand c
+rule-unused : (T : Tables) (i : ℕ) (r : TypeRecord) → (r .kind ≡ 5) ⊎ (r .kind ≡ 7) → typeRule T i r ≡ true → r .c ≡ 0
+unfolding typeRule baseRule arrayRule nullableRule unusedBC
+rule-unused T i r d e =
+    let unused = go (ltb i 4) _ e (λ z. ⊎-elim
+    (λ k. and-parts (isLowerValue T i (r .a)) (unusedBC r) (rw k at z) .1)
+    (λ k. and-parts (ltb (r .a) i && isReferenceKind (kindAt T (r .a))) (unusedBC r) (rw k at z) .1)
+    d) in
+    eqb-true (r .c) 0 (and-parts (eqb (r .b) 0) (eqb (r .c) 0) unused .1)
+  where
+    go : (b x : Bool) → pick b (baseRule i r) x ≡ true → (x ≡ true → unusedBC r ≡ true) → unusedBC r ≡ true
+    go true x f later = and-parts (eqb (r .kind) i && eqb (r .a) 0) (unusedBC r) f .1
+    go false x f later = later f
+
 -- what the rules say of the type i
 module _ (s : List ℕ) (S : Sections) (R : GoodTables s S) where
   kept : TypesFormed 200 (tablesOf s S)
@@ -93,6 +107,13 @@ module _ (s : List ℕ) (S : Sections) (R : GoodTables s S) where
 
     pub nullable-kept : kindAt (tablesOf s S) i ≡ 7 → NullableType (tablesOf s S) i
     nullable-kept = kept .nullable i there
+
+    pub unused-kept : (kindAt (tablesOf s S) i ≡ 5) ⊎ (kindAt (tablesOf s S) i ≡ 7) → typeAt (tablesOf s S) i .c ≡ 0
+    unfolding typesRight eachTypeRight
+    unused-kept d =
+        let each = and-parts (leb 4 (length (tablesOf s S .types))) (eachTypeRight 200 (tablesOf s S)) (R .types) .1 in
+        let rule = all-at _ _ (and-parts _ _ each .0) i there in
+        rule-unused (tablesOf s S) i (typeAt (tablesOf s S) i) d (and-parts _ _ rule .0)
 
     pub kind-most : kindAt (tablesOf s S) i ≤ 7
     kind-most = go (ltb i 4) refl

@@ -5,7 +5,7 @@
 use mathlib.Core.Path.{_≡_}
 use mathlib.Core.Bool.{Bool}
 use mathlib.Core.List.{List}
-use Prim.Native.Nat.{ℕ, zero, suc, _+_, _%_, _≤_, _<_}
+use Prim.Native.Nat.{ℕ, zero, suc, _+_, _*_, _%_, _≤_, _<_}
 use lib.ListN.{length, getD}
 use lib.Dec.{eqb, ltb}
 use Rattle.oat.specs.Basics.{pick, allBelow}
@@ -57,13 +57,13 @@ pub record Indexed (index : List ℕ) (T : Tables) (n : ℕ) : Type 0 where
   pub named : (i : ℕ) → i < n → structEntry index i ≡ structNamed T i
   pub formed : (i : ℕ) → i < n → formedEntry index i ≡ isFormed (declared T) (typeOf T i)
 
--- the chain of the type i, below 64: a base type's by its kind, a struct's by its name, any other type's by its kind and the first type
--- equal to its operand a
+-- the chain of the type i, below 64: a base type's by its kind, a struct's by its name, any other type's by its kind, its operand c,
+-- which is a function type's number of parameters, and the first type equal to its operand a
 unfoldable pub bucketOf : Tables → ℕ → ℕ
 bucketOf T i =
     pick (ltb (kindAt T i) 4) (kindAt T i)
     (pick (eqb (kindAt T i) 4) (typeAt T i .a % 64)
-    ((firstBelow (typeAt T i .a) (λ k. sameTy (typeOf T k) (typeOf T (typeAt T i .a))) + kindAt T i) % 64))
+    ((firstBelow (typeAt T i .a) (λ k. sameTy (typeOf T k) (typeOf T (typeAt T i .a))) + kindAt T i + typeAt T i .c * 8) % 64))
 
 -- the chains lead through the first n types
 pub record Chained (index : List ℕ) (T : Tables) (n : ℕ) : Type 0 where

@@ -110,7 +110,8 @@ fn same_lower(file: &[u8], sections: Sections, index: &[u16], a: usize, b: usize
     }
 }
 
-// The bucket of the type i, where lower types are indexed: equal types have equal buckets.
+// The bucket of the type i, where lower types are indexed: equal types have equal buckets. The operand c is a function type's number
+// of parameters, and 0 in an array or nullable type.
 pub fn bucket(file: &[u8], sections: Sections, index: &[u16], i: usize) -> usize
     requires { ⌜ GoodTables (now file) sections × (i < sections .types) × Indexed (now index) (tablesOf (now file) sections) i ⌝ }
     ensures { λ r. ⌜ (r ≡ bucketOf (tablesOf (now (file .entry)) sections) i) × (r < 64) ⌝ }
@@ -124,7 +125,7 @@ pub fn bucket(file: &[u8], sections: Sections, index: &[u16], i: usize) -> usize
         return a % 64;
     }
     let first = entry(index, a);
-    (first + kind) % 64
+    (first + kind + type_c(file, sections, i) * 8) % 64
 }
 
 // The lowest number of a type equal to the type i, where lower types are indexed and chained, and i belongs to the bucket.

@@ -14,4 +14,7 @@ bucket-spec =
     (λ c. (search (bucket-struct, needs), search (bucket-most, needs)))
     (λ c κs. search (operand-in, needs))
     (λ c. search needs)
+    (λ c κs. search needs)
+    (λ c. search needs)
+    (λ c. search needs)
     (λ c. (search (bucket-referred, needs), search (bucket-most, needs))))
