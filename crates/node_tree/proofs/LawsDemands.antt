@@ -14,12 +14,12 @@ use Rattle.oat.specs.Tables.{Tables}
 use Rattle.oat.specs.TableRules.{hasKind}
 use Rattle.oat.specs.Nodes.{hasReferenceKind}
 use Rattle.oat.proofs.LawsBasics.{and-parts}
-use Rattle.node_tree.specs.Shape.{within, admits, xFits, tFits, countFits}
-use Rattle.node_tree.specs.Demands.{typed, bitOf, standsIn, plainFor, kindOr, Keeps}
+use Rattle.node_tree.specs.Shape.{within, admits, xFits, tFits, countFits, forRole, childRole}
+use Rattle.node_tree.specs.Demands.{typed, bitOf, standsAs, plainFor, kindOr, Keeps}
 use Rattle.node_tree.specs.declared.demands.Demand.{Demand}
 use Rattle.node_tree.specs.declared.shape.Role.{Role}
 use Rattle.node_tree.specs.declared.shape.Role.the-variants.{Declaration, Parameter, Expression, Initializer, Target, Var, Statement, Block, Condition, Step}
-use Rattle.node_tree.proofs.LawsShape.{kind-asked}
+use Rattle.node_tree.proofs.LawsShape.{kind-asked, for-block, for-step, for-condition, for-var, role-2, role-21, role-30, role-35, role-37, role-38, role-39, role-other}
 
 -- a test at every role
 abbrev values : (Role → Bool) → List Bool
@@ -150,7 +150,7 @@ count-fits k p n =
 
 -- in each role that the demand names the kind may stand
 abbrev standsRight : ℕ → Demand → Bool → Role → Bool
-standsRight k d c r = not (standsIn d c r) || admits c r k
+standsRight k d c r = not (standsAs d (bitOf c r)) || admits c r k
 
 -- the demand asks at least what the rules ask of the kind
 pub record Tested (k : ℕ) (d : Demand) : Type 0 where
@@ -191,21 +191,21 @@ tested-keeps k d g = record {
       );
 }
   where
-    stood : (c : Bool) (role : Role) → standsIn d c role ≡ true → admits c role k ≡ true
-    stood true role = implied (standsIn d true role) (admits true role k) (at-role (standsRight k d true) (λ r. true) (g .constant) role)
-    stood false role = implied (standsIn d false role) (admits false role k) (at-role (standsRight k d false) (λ r. true) (g .roles) role)
+    stood : (c : Bool) (role : Role) → standsAs d (bitOf c role) ≡ true → admits c role k ≡ true
+    stood true role = implied (standsAs d (bitOf true role)) (admits true role k) (at-role (standsRight k d true) (λ r. true) (g .constant) role)
+    stood false role = implied (standsAs d (bitOf false role)) (admits false role k) (at-role (standsRight k d false) (λ r. true) (g .roles) role)
 
 -- the demand of an arm keeps to the rules on its kind
 pub arm-keeps : (n k : ℕ) (d r : Demand) → k ≡ n → r ≡ d → Tested n d → Keeps k r
 arm-keeps n k d r e h g = rw (e, h) (tested-keeps n d g)
 
 -- the demand that nothing meets names no role
-nowhere : (c : Bool) (role : Role) → standsIn (typed 65537 0 1 0 0 0) c role ≡ false
-unfolding standsIn
-nowhere true role = at-role (standsIn (typed 65537 0 1 0 0 0) true) (λ r. false) refl role
-nowhere false role = at-role (standsIn (typed 65537 0 1 0 0 0) false) (λ r. false) refl role
+nowhere : (c : Bool) (role : Role) → standsAs (typed 65537 0 1 0 0) (bitOf c role) ≡ false
+unfolding standsAs
+nowhere true role = at-role (λ r. standsAs (typed 65537 0 1 0 0) (bitOf true r)) (λ r. false) refl role
+nowhere false role = at-role (λ r. standsAs (typed 65537 0 1 0 0) (bitOf false r)) (λ r. false) refl role
 
-pub no-demand : (k : ℕ) (r : Demand) → r ≡ typed 65537 0 1 0 0 0 → Keeps k r
+pub no-demand : (k : ℕ) (r : Demand) → r ≡ typed 65537 0 1 0 0 → Keeps k r
 no-demand k r h = record {
   right =
       λ T c role x t q n er lr st pl.
@@ -215,14 +215,64 @@ no-demand k r h = record {
 }
 
 -- stands, by its code
-module _ (d : Demand) (c : Bool) (role : Role) (a b : ℕ) (ea : a ≡ pick c (d .constant) (d .roles)) (eb : b ≡ bitOf role) where
-  pub stands-no : bitAnd a b ≡ 0 → false ≡ standsIn d c role
-  unfolding standsIn
-  stands-no h = rw (← ea, ← eb, h)
+module _ (d : Demand) (bit : ℕ) where
+  pub stands-no : bitAnd (d .roles) bit ≡ 0 → false ≡ standsAs d bit
+  unfolding standsAs
+  stands-no h = rw h
 
-  pub stands-yes : (bitAnd a b ≡ 0 → ⊥) → true ≡ standsIn d c role
-  unfolding standsIn
-  stands-yes h = rw (← ea, ← eb, ne-eqb (bitAnd a b) 0 h)
+  pub stands-yes : (bitAnd (d .roles) bit ≡ 0 → ⊥) → true ≡ standsAs d bit
+  unfolding standsAs
+  stands-yes h = rw (ne-eqb (bitAnd (d .roles) bit) 0 h)
+
+-- the bits of children, by the arms of a `match`
+first-of : (t : Bool) (c : Bool) (x y : Role) (a b : ℕ) → a ≡ bitOf c x → b ≡ bitOf c y → pick t a b ≡ bitOf c (pick t x y)
+first-of true c x y a b ea eb = ea
+first-of false c x y a b ea eb = eb
+
+module _ (c : Bool) (k count i r : ℕ) where
+  by-role : (x : Role) → r ≡ bitOf c x → x ≡ childRole k count i → r ≡ bitOf c (childRole k count i)
+  by-role x e h = e ∙ ap (bitOf c) h
+
+  pub bit-2 : k ≡ 2 → r ≡ pick (eqb (i + 1) count) 128 2 → r ≡ bitOf c (childRole k count i)
+  bit-2 e h = by-role (pick (eqb (i + 1) count) Block Parameter) (h ∙ first-of (eqb (i + 1) count) c Block Parameter 128 2 refl refl) (role-2 k count i _ e refl)
+
+  pub bit-21 : k ≡ 21 → r ≡ 8 → r ≡ bitOf c (childRole k count i)
+  bit-21 e h = by-role Initializer h (role-21 k count i e)
+
+  pub bit-30 : (v : ℕ) → k ≡ 30 → v ≡ pick c 1024 4 → r ≡ pick (eqb i 0) 16 v → r ≡ bitOf c (childRole k count i)
+  bit-30 v e ev h = by-role (pick (eqb i 0) Target Expression) (h ∙ first-of (eqb i 0) c Target Expression 16 v refl ev) (role-30 k count i _ e refl)
+
+  pub bit-35 : (v : ℕ) → 35 ≤ k → k < 37 → v ≡ pick c 1024 4 → r ≡ pick (eqb i 0) v 128 → r ≡ bitOf c (childRole k count i)
+  bit-35 v a b ev h = by-role (pick (eqb i 0) Expression Block) (h ∙ first-of (eqb i 0) c Expression Block v 128 ev refl) (role-35 k count i _ a b refl)
+
+  pub bit-38 : (v : ℕ) → k ≡ 38 → v ≡ pick c 1024 4 → r ≡ pick (eqb i 0) v 128 → r ≡ bitOf c (childRole k count i)
+  bit-38 v e ev h = by-role (pick (eqb i 0) Expression Block) (h ∙ first-of (eqb i 0) c Expression Block v 128 ev refl) (role-38 k count i _ e refl)
+
+  pub bit-37 : k ≡ 37 → r ≡ bitOf c (forRole count i) → r ≡ bitOf c (childRole k count i)
+  bit-37 e h = by-role (forRole count i) h (role-37 k count i _ e refl)
+
+  pub bit-39 : k ≡ 39 → r ≡ 64 → r ≡ bitOf c (childRole k count i)
+  bit-39 e h = by-role Statement h (role-39 k count i e)
+
+  pub bit-other : (k ≡ 2 → ⊥) → (k ≡ 21 → ⊥) → (k ≡ 30 → ⊥) → (k ≡ 38 → ⊥) → (k ≡ 37 → ⊥) → (k ≡ 39 → ⊥) → (k ≡ 35 → ⊥) → (k ≡ 36 → ⊥) → r ≡ pick c 1024 4 → r ≡ bitOf c (childRole k count i)
+  bit-other a b d e f g l m h = by-role Expression h (role-other k count i a b d e f g l m)
+
+-- the bits of a for's children
+module _ (c : Bool) (count i r : ℕ) where
+  for-role : (x : Role) → r ≡ bitOf c x → x ≡ forRole count i → r ≡ bitOf c (forRole count i)
+  for-role x e h = e ∙ ap (bitOf c) h
+
+  pub bit-block : i + 1 ≡ count → r ≡ 128 → r ≡ bitOf c (forRole count i)
+  bit-block e h = for-role Block h (for-block count i e)
+
+  pub bit-step : (i + 1 ≡ count → ⊥) → i + 2 ≡ count → r ≡ 512 → r ≡ bitOf c (forRole count i)
+  bit-step a e h = for-role Step h (for-step count i a e)
+
+  pub bit-condition : (i + 1 ≡ count → ⊥) → (i + 2 ≡ count → ⊥) → i + 3 ≡ count → r ≡ pick c 65536 256 → r ≡ bitOf c (forRole count i)
+  bit-condition a b e h = for-role Condition h (for-condition count i a b e)
+
+  pub bit-var : (i + 1 ≡ count → ⊥) → (i + 2 ≡ count → ⊥) → (i + 3 ≡ count → ⊥) → r ≡ 32 → r ≡ bitOf c (forRole count i)
+  bit-var a b d h = for-role Var h (for-var count i a b d)
 
 -- plain, by its code
 pub typed-below : (t free kind typed : ℕ) → t < free → true ≡ (ltb t free || eqb kind typed)

@@ -18,7 +18,7 @@ use Rattle.file_sections.specs.Layout.{Laid, Has, tablesOf}
 use Rattle.file_sections.proofs.LawsRecords.{types-long, nodes-long, type-kind-is, type-c-is, node-kind-is, node-x-is, node-t-is, node-children-is}
 use Rattle.node_tree.specs.Shape.{admits, xFits, tFits, paramsOf, countFits, childRole}
 use Rattle.node_tree.specs.Tree.{Ending, Broken, At, nodeFits, nodeRight, childrenOf, treeOf, treesRight}
-use Rattle.node_tree.specs.Demands.{standsIn, plainFor, kindOr, TypeFits, Keeps}
+use Rattle.node_tree.specs.Demands.{bitOf, standsAs, plainFor, kindOr, TypeFits, Keeps}
 use Rattle.node_tree.specs.Places.{Spot, Standing, Whole, kindFor, RightAt, PlainAt, placeOf, Ends}
 use Rattle.node_tree.specs.declared.demands.Demand.{Demand}
 use Rattle.node_tree.specs.declared.shape.Role.{Role}
@@ -152,26 +152,30 @@ module _ (s : List ℕ) (types at : ℕ) (c : Bool) (role : Role) (w : Whole s t
             (λ S n p. count-is (tablesOf s S) n k x b (kind-is s types at (w .four) S n p k ek) (x-is s types at (w .four) S n p x ex) eb hb t d (t-is s types at (w .four) S n p t et) (t-told S n p) h q m r (children-are s types at (w .four) S n p m em) (params-told s types at S n p k t q (sym (t-told S n p) ∙ not-false d h) eq) er)
 
 -- a plain node is right
-pub plain-not : (s : List ℕ) (types at : ℕ) (c : Bool) (role : Role) → PlainAt s types at c role false
-plain-not s types at c role = record { right = λ e. let z : _≡_ {A = ℕ} 0 1 = cc in absurd (omega arith) }
+pub plain-not : (s : List ℕ) (types at bit : ℕ) → PlainAt s types at bit false
+plain-not s types at bit = record { right = λ e. let z : _≡_ {A = ℕ} 0 1 = cc in absurd (omega arith) }
 
 all-true : (a b d : Bool) → a ≡ true → b ≡ true → d ≡ true → (a && b && d) ≡ true
 all-true a b d ea eb ed = rw (ea, eb, ed)
 
-module _ (s : List ℕ) (types at : ℕ) (c : Bool) (role : Role) (w : Whole s types at) (k x t m kind : ℕ) (ek : k ≡ numberAt s at) (ex : x ≡ numberAt s (at + 1)) (et : t ≡ numberAt s (at + 2)) (em : m ≡ numberAt s (at + 3)) (er : kind ≡ kindFor s types t) (most : kind < 65537) where
-  pub plain-right : (d : Demand) (a r : Bool) → Keeps k d → a ≡ standsIn d c role → not a ≡ false → r ≡ plainFor d x t kind m → PlainAt s types at c role r
+module _ (s : List ℕ) (types at bit : ℕ) (w : Whole s types at) (k x t m kind : ℕ) (ek : k ≡ numberAt s at) (ex : x ≡ numberAt s (at + 1)) (et : t ≡ numberAt s (at + 2)) (em : m ≡ numberAt s (at + 3)) (er : kind ≡ kindFor s types t) (most : kind < 65537) where
+  pub plain-right : (d : Demand) (a r : Bool) → Keeps k d → a ≡ standsAs d bit → not a ≡ false → r ≡ plainFor d x t kind m → PlainAt s types at bit r
   unfolding nodeFits
   plain-right d a r g ea ha e = record {
     right =
-        λ h S n p.
-        let (z, fx, ft, fc) = g .right (tablesOf s S) c role x t kind m (kind-told s types at S n p t kind er) most (sym ea ∙ not-false a ha) (sym e ∙ h) in
+        λ h c role eb S n p.
+        let (z, fx, ft, fc) = g .right (tablesOf s S) c role x t kind m (kind-told s types at S n p t kind er) most (ap (standsAs d) (sym eb) ∙ sym ea ∙ not-false a ha) (sym e ∙ h) in
         sym (right-is s types at (w .four) S n p c role k ek (admits c role k) (nodeFits (tablesOf s S) n) refl refl)
         ∙ rw (z, ← kind-is s types at (w .four) S n p k ek, ← x-is s types at (w .four) S n p x ex, ← t-is s types at (w .four) S n p t et, ← children-are s types at (w .four) S n p m em)
         (all-true (xFits k x) (tFits (tablesOf s S) k t) (countFits k (paramsOf (tablesOf s S) k t) m) fx ft (fc (paramsOf (tablesOf s S) k t)));
   }
 
-pub right-plain : (s : List ℕ) (types at : ℕ) (c : Bool) (role : Role) (b : Bool) → PlainAt s types at c role b → b ≡ true → RightAt s types at c role true
-right-plain s types at c role b g h = record { is = λ S n p. sym (g .right h S n p) }
+module _ (s : List ℕ) (types at : ℕ) (c : Bool) (role : Role) where
+  pub right-plain : (bit : ℕ) (b : Bool) → PlainAt s types at bit b → b ≡ true → bit ≡ bitOf c role → RightAt s types at c role true
+  right-plain bit b g h e = record { is = λ S n p. sym (g .right h c role e S n p) }
+
+  pub right-role : (other : Role) (b : Bool) → other ≡ role → RightAt s types at c other b → RightAt s types at c role b
+  right-role other b e g = rw (← e) g
 
 -- where the children of a node end
 pub no-levels : (s : List ℕ) (types kind : ℕ) (c : Bool) (count first levels : ℕ) → levels ≡ 0 → 0 < count → Ends s types kind c count first levels 0
@@ -276,29 +280,29 @@ module _ (s : List ℕ) (types kind : ℕ) (c : Bool) (count first levels i at :
   child-past h =
       child-broken (λ S m p. sym (tree-past levels s S c (childRole kind count i) m (omega (arith, p .place, p .laid .end))))
 
-  module _ (role : Role) (er : role ≡ childRole kind count i) (b : Bool) (right : RightAt s types at c role b) where
+  module _ (b : Bool) (right : RightAt s types at c (childRole kind count i) b) where
     pub child-wrong : not b ≡ true → Ends s types kind c count first levels 0
     child-wrong h =
         child-broken
-        (λ S m p. sym (tree-wrong levels (tablesOf s S) c (childRole kind count i) m (rw er at (sym (right .is S m p) ∙ not-true b h))))
+        (λ S m p. sym (tree-wrong levels (tablesOf s S) c (childRole kind count i) m (sym (right .is S m p) ∙ not-true b h)))
 
     module _ (hb : not b ≡ false) (w : Whole s types at) (some : levels ≡ 0 → ⊥) (m : ℕ) (em : m ≡ numberAt s (at + 3)) where
       pub child-leaf : m ≡ 0 → (r : ℕ) → r ≡ at + 4 → SoFar s types kind c count first levels (i + 1) r
       child-leaf z r e =
           rw e
           (child-next (at + 4)
-          λ S n p. (n + 1, after s types at w S n p, rw er at (leaf-tree s types at c role levels w some b right hb m em z S n p)))
+          λ S n p. (n + 1, after s types at w S n p, leaf-tree s types at c (childRole kind count i) levels w some b right hb m em z S n p))
 
       module _ (k : ℕ) (ek : k ≡ numberAt s at) (d : Bool) (ed : d ≡ (c || eqb k 1)) (next : ℕ) (ends : Ends s types k d m (at + 4) (levels - 1) next) where
         pub child-inner-broken : next ≡ 0 → Ends s types kind c count first levels 0
         child-inner-broken z =
-            child-broken (λ S n p. rw er at (inner-broken s types at c role levels w some b right hb m em k ek d ed next ends z S n p))
+            child-broken (λ S n p. inner-broken s types at c (childRole kind count i) levels w some b right hb m em k ek d ed next ends z S n p)
 
         pub child-inner : (next ≡ 0 → ⊥) → (r : ℕ) → r ≡ next → SoFar s types kind c count first levels (i + 1) r
         child-inner z r e =
             rw e
             (child-next next
-            λ S n p. rw er at (inner-ends s types at c role levels w some b right hb m em k ek d ed next ends z S n p))
+            λ S n p. inner-ends s types at c (childRole kind count i) levels w some b right hb m em k ek d ed next ends z S n p)
 
 pub children-done : (s : List ℕ) (types kind : ℕ) (c : Bool) (count first levels i at : ℕ) → SoFar s types kind c count first levels i at → i ≤ count → count ≤ i → Ends s types kind c count first levels at
 children-done s types kind c count first levels i at so a b = record {

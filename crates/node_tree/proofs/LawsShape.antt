@@ -310,10 +310,10 @@ module _ (k params count : ℕ) where
       )
 
 -- a choice by an equation
-pub picked : (a b : ℕ) (x y : Role) → a ≡ b → x ≡ pick (eqb a b) x y
+pub picked : {A : Type 0} (a b : ℕ) (x y : A) → a ≡ b → x ≡ pick (eqb a b) x y
 picked a b x y e = rw (eq-eqb a b e)
 
-pub not-picked : (a b : ℕ) (x y : Role) → (a ≡ b → ⊥) → y ≡ pick (eqb a b) x y
+pub not-picked : {A : Type 0} (a b : ℕ) (x y : A) → (a ≡ b → ⊥) → y ≡ pick (eqb a b) x y
 not-picked a b x y h = rw (ne-eqb a b h)
 
 -- the roles in a for

@@ -15,44 +15,29 @@ use Rattle.node_tree.specs.declared.shape.Role.{Role}
 use Rattle.node_tree.specs.declared.shape.Role.the-variants.{Declaration, Parameter, Expression, Initializer, Target, Var, Statement, Block, Condition, Step}
 
 -- a demand whose t is 0: no type has the kind 65,537
-abbrev pub bare : ℕ → ℕ → ℕ → ℕ → ℕ → Demand
-bare limit least most roles constant = record {
-  limit = limit;
-  free = 1;
-  typed = 65537;
-  least = least;
-  most = most;
-  roles = roles;
-  constant = constant;
-}
+abbrev pub bare : ℕ → ℕ → ℕ → ℕ → Demand
+bare limit least most roles = record { limit = limit; free = 1; typed = 65537; least = least; most = most; roles = roles }
 
 -- a demand whose t is a type of this kind
-abbrev pub typed : ℕ → ℕ → ℕ → ℕ → ℕ → ℕ → Demand
-typed kind limit least most roles constant = record {
-  limit = limit;
-  free = 0;
-  typed = kind;
-  least = least;
-  most = most;
-  roles = roles;
-  constant = constant;
-}
+abbrev pub typed : ℕ → ℕ → ℕ → ℕ → ℕ → Demand
+typed kind limit least most roles = record { limit = limit; free = 0; typed = kind; least = least; most = most; roles = roles }
 
-abbrev pub bitOf : Role → ℕ
-bitOf Declaration = 1
-bitOf Parameter = 2
-bitOf Expression = 4
-bitOf Initializer = 8
-bitOf Target = 16
-bitOf Var = 32
-bitOf Statement = 64
-bitOf Block = 128
-bitOf Condition = 256
-bitOf Step = 512
+-- the bit of a role; where expressions must be constant, that of an expression and of a condition is another
+abbrev pub bitOf : Bool → Role → ℕ
+bitOf constant Declaration = 1
+bitOf constant Parameter = 2
+bitOf constant Expression = pick constant 1024 4
+bitOf constant Initializer = 8
+bitOf constant Target = 16
+bitOf constant Var = 32
+bitOf constant Statement = 64
+bitOf constant Block = 128
+bitOf constant Condition = pick constant 65536 256
+bitOf constant Step = 512
 
--- a node of this demand may stand in this role
-unfoldable pub standsIn : Demand → Bool → Role → Bool
-standsIn d constant role = not (eqb (bitAnd (pick constant (d .constant) (d .roles)) (bitOf role)) 0)
+-- a node of this demand may stand in the role of this bit
+unfoldable pub standsAs : Demand → ℕ → Bool
+standsAs d bit = not (eqb (bitAnd (d .roles) bit) 0)
 
 -- the operands and the child count are what the demand asks, where t is a type of the kind `kind`
 unfoldable pub plainFor : Demand → ℕ → ℕ → ℕ → ℕ → Bool
@@ -69,4 +54,4 @@ pub record TypeFits (k t kind : ℕ) (r : Bool) : Type 0 where
 
 -- a node of the kind k that meets the demand may stand in the role, and its operands and its child count fit
 pub record Keeps (k : ℕ) (d : Demand) : Type 0 where
-  pub right : (T : Tables) (constant : Bool) (role : Role) (x t kind count : ℕ) → kind ≡ kindOr T t → kind < 65537 → standsIn d constant role ≡ true → plainFor d x t kind count ≡ true → (admits constant role k ≡ true) × (xFits k x ≡ true) × (tFits T k t ≡ true) × ((params : ℕ) → countFits k params count ≡ true)
+  pub right : (T : Tables) (constant : Bool) (role : Role) (x t kind count : ℕ) → kind ≡ kindOr T t → kind < 65537 → standsAs d (bitOf constant role) ≡ true → plainFor d x t kind count ≡ true → (admits constant role k ≡ true) × (xFits k x ≡ true) × (tFits T k t ≡ true) × ((params : ℕ) → countFits k params count ≡ true)

@@ -10,6 +10,7 @@ use Rattle.file_sections.specs.declared.Sections.{Sections}
 use Rattle.file_sections.specs.Numbers.{numberAt}
 use Rattle.file_sections.specs.Layout.{Laid, tablesOf}
 use Rattle.node_tree.specs.Shape.{childRole}
+use Rattle.node_tree.specs.Demands.{bitOf}
 use Rattle.node_tree.specs.Tree.{Ending, Broken, At, nodeRight, childrenOf, treeOf}
 use Rattle.node_tree.specs.declared.shape.Role.{Role}
 
@@ -40,9 +41,9 @@ kindFor s types t = pick (ltb t types) (numberAt s (1 + t * 4)) 65536
 pub record RightAt (s : List ℕ) (types at : ℕ) (constant : Bool) (role : Role) (r : Bool) : Type 0 where
   pub is : (S : Sections) (n : ℕ) → Spot s types at S n → r ≡ nodeRight (tablesOf s S) constant role n
 
--- r says that the node at the place is right, or nothing
-pub record PlainAt (s : List ℕ) (types at : ℕ) (constant : Bool) (role : Role) (r : Bool) : Type 0 where
-  pub right : r ≡ true → (S : Sections) (n : ℕ) → Spot s types at S n → nodeRight (tablesOf s S) constant role n ≡ true
+-- r says that the node at the place is right in each role of this bit, or nothing
+pub record PlainAt (s : List ℕ) (types at bit : ℕ) (r : Bool) : Type 0 where
+  pub right : r ≡ true → (constant : Bool) (role : Role) → bit ≡ bitOf constant role → (S : Sections) (n : ℕ) → Spot s types at S n → nodeRight (tablesOf s S) constant role n ≡ true
 
 -- an ending as a place: 0 where the tree is broken
 abbrev pub placeOf : Sections → Ending → ℕ

@@ -1,5 +1,6 @@
 // The rules on the node tree (number 5). Nodes are read by their place, counted in numbers; the first number of a file is no node's place, so that 0 says
 // that a tree is broken.
+use crate::demands::child_bit;
 use crate::demands::demand_of;
 use crate::demands::plain;
 use crate::demands::stands;
@@ -19,6 +20,7 @@ ghost use lib.Dec.{eqb};
 ghost use Rattle.oat.specs.Basics.{pick};
 ghost use Rattle.file_sections.specs.Numbers.{numberAt};
 ghost use Rattle.file_sections.specs.Layout.{Laid, tablesOf};
+ghost use Rattle.node_tree.specs.Shape.{childRole};
 ghost use Rattle.node_tree.specs.Places.{Standing, Whole, RightAt, PlainAt, Ends, kindFor};
 ghost use Rattle.node_tree.specs.Tree.{treesRight};
 
@@ -64,30 +66,38 @@ fn node_right(file: &[u8], types: usize, constant: bool, role: Role, at: usize) 
 }
 
 // The node meets the demand of its kind, so that nothing more is to be asked.
-fn is_plain(file: &[u8], types: usize, constant: bool, role: Role, at: usize) -> bool
+fn is_plain(file: &[u8], types: usize, bit: usize, at: usize) -> bool
     requires { ⌜ Whole (now file) types at ⌝ }
-    ensures { λ r. ⌜ PlainAt (now (file .entry)) types at constant role r ⌝ }
+    ensures { λ r. ⌜ PlainAt (now (file .entry)) types at bit r ⌝ }
 {
     let kind = number(file, at);
     let x = number(file, at + 1);
     let t = number(file, at + 2);
     let count = number(file, at + 3);
     let demand = demand_of(kind);
-    if !stands(demand, constant, role) {
+    if !stands(demand, bit) {
         return false;
     }
     plain(demand, x, t, kind_of(file, types, t), count)
 }
 
-// As `node_right`; most nodes are plain.
-fn child_right(file: &[u8], types: usize, constant: bool, role: Role, at: usize) -> bool
-    requires { ⌜ Whole (now file) types at ⌝ }
-    ensures { λ r. ⌜ RightAt (now (file .entry)) types at constant role r ⌝ }
+// The child i of `count` below a node of this kind, at the place `at`, is right; most nodes are plain.
+fn child_right(
+    file: &[u8],
+    types: usize,
+    kind: usize,
+    constant: bool,
+    count: usize,
+    i: usize,
+    at: usize,
+) -> bool
+    requires { ⌜ Whole (now file) types at × (i < 65536) ⌝ }
+    ensures { λ r. ⌜ RightAt (now (file .entry)) types at constant (childRole kind count i) r ⌝ }
 {
-    if is_plain(file, types, constant, role, at) {
+    if is_plain(file, types, child_bit(kind, count, i, constant), at) {
         return true;
     }
-    node_right(file, types, constant, role, at)
+    node_right(file, types, constant, child_role(kind, count, i), at)
 }
 
 // Below a global everything is constant.
@@ -120,7 +130,7 @@ fn children(
         if file.len() <= at * 2 {
             return 0;
         }
-        if !child_right(file, types, constant, child_role(kind, count, i), at) {
+        if !child_right(file, types, kind, constant, count, i, at) {
             return 0;
         }
         let inner = number(file, at + 3);

@@ -5,10 +5,4 @@ use Rattle.node_tree.proofs.demands.stands.Statement.{statement}
 use Rattle.node_tree.proofs.demands.stands.Tie as tie
 
 pub stands-spec : {M : Type 1} → statement M
-stands-spec =
-    tie.close
-    (tie.spec
-    (λ c κs. search needs)
-    (λ c κs. search needs)
-    (λ c. search (stands-no, needs))
-    (λ c. search (stands-yes, needs)))
+stands-spec = tie.close (tie.spec (λ c. search (stands-no, needs)) (λ c. search (stands-yes, needs)))

@@ -11,7 +11,6 @@ use Rattle.node_tree.proofs.tree.children.Reads as children
 use Rattle.node_tree.proofs.tree.children.Kinds as children-kinds
 use Rattle.node_tree.proofs.tree.+children.Lts-children as children-lts
 use Rattle.file_sections.proofs.numbers.number.Reads as number-reads
-use Rattle.node_tree.proofs.shape.child_role.Reads as child-role-reads
 use Rattle.node_tree.proofs.tree.child_right.Reads as child-right-reads
 use Rattle.node_tree.proofs.tree.constant_below.Reads as constant-below-reads
 use Rattle.node_tree.proofs.tree.+children.{statement}
@@ -35,8 +34,6 @@ children-μ-loop file types kind constant count first levels at₀ i₀ at i = c
 
 pub +children-spec : {M : Type 1} → statement M
 +children-spec = close μ-children λ t. children-lts.spec (
-  child-role-reads.Asked,
-  child-role-reads.Learnt,
   child-right-reads.Asked,
   child-right-reads.Learnt,
   number-reads.Asked,
@@ -54,25 +51,24 @@ pub +children-spec : {M : Type 1} → statement M
     (λ c. (search needs, search (none-so-far, needs)))
     (λ c. omega (arith, place-small (c .before .loop .inv .1 .standing)))
     (λ c. search (child-past, needs))
-    (λ c κs. search needs)
-    (λ c κs. search (whole, needs))
+    (λ c κs. (search (whole, needs), omega arith))
     (λ c. search (child-wrong, needs))
-    (λ c. omega (arith, place-small (c .before .before .before .before .before .loop .inv .1 .standing)))
-    (λ c κs. whole _ _ _ (c .before .before .before .before .before .loop .inv .1 .standing) (c .before .before .before .if2 .left) .four)
-    (λ c. omega (arith, place-small (c .before .before .before .before .before .before .before .loop .inv .1 .standing)))
-    (λ c κs. omega (arith, (whole _ _ _ (c .before .before .before .before .before .before .before .loop .inv .1 .standing) (c .before .before .before .before .before .if2 .left)) .four))
+    (λ c. omega (arith, place-small (c .before .before .before .before .loop .inv .1 .standing)))
+    (λ c κs. whole _ _ _ (c .before .before .before .before .loop .inv .1 .standing) (c .before .before .if2 .left) .four)
+    (λ c. omega (arith, place-small (c .before .before .before .before .before .before .loop .inv .1 .standing)))
+    (λ c κs. omega (arith, (whole _ _ _ (c .before .before .before .before .before .before .loop .inv .1 .standing) (c .before .before .before .before .if2 .left)) .four))
     (λ c κs. search needs)
-    (λ c. omega (arith, place-small (c .before .before .before .before .before .before .before .before .before .loop .inv .1 .standing)))
+    (λ c. omega (arith, place-small (c .before .before .before .before .before .before .before .before .loop .inv .1 .standing)))
     (λ c. search needs)
-    (λ c κs. (omega arith, (standing-after _ _ _ (whole _ _ _ (c .before .before .before .before .before .before .before .before .before .loop .inv .1 .standing) (c .before .before .before .before .before .before .before .if2 .left)), omega arith, search needs)))
+    (λ c κs. (omega arith, (standing-after _ _ _ (whole _ _ _ (c .before .before .before .before .before .before .before .before .loop .inv .1 .standing) (c .before .before .before .before .before .before .if2 .left)), omega arith, search needs)))
     (λ c. search (child-inner-broken, whole, needs))
     (λ c. search needs)
     (λ c. search needs)
     (λ c. (
       search needs,
       ⊎-elim
-          (λ w. child-leaf _ _ _ _ _ _ _ _ _ (c .before .before .before .before .before .before .before .loop .inv .1) (c .before .before .before .before .before .before .loop-test .taken) _ (c .before .before .before .before .child-role .ensures) _ (c .before .before .before .child-right .ensures) (c .before .before .if3 .left) (whole _ _ _ (c .before .before .before .before .before .before .before .loop .inv .1 .standing) (c .before .before .before .before .before .if2 .left)) (c .before .before .before .before .before .before .before .before .if1 .left) _ (c .before .number .ensures .0) (w .0 .taken) _ (w .1))
-          (λ w. child-inner _ _ _ _ _ _ _ _ _ (c .before .before .before .before .before .before .before .loop .inv .1) (c .before .before .before .before .before .before .loop-test .taken) _ (c .before .before .before .before .child-role .ensures) _ (c .before .before .before .child-right .ensures) (c .before .before .if3 .left) (whole _ _ _ (c .before .before .before .before .before .before .before .loop .inv .1 .standing) (c .before .before .before .before .before .if2 .left)) (c .before .before .before .before .before .before .before .before .if1 .left) _ (c .before .number .ensures .0) _ (w .1 .ensures .0) _ (w .2 .ensures) _ (w .3 .ensures) (w .4 .left) _ (w .5))
+          (λ w. child-leaf _ _ _ _ _ _ _ _ _ (c .before .before .before .before .before .before .loop .inv .1) (c .before .before .before .before .before .loop-test .taken) _ (c .before .before .before .child-right .ensures) (c .before .before .if3 .left) (whole _ _ _ (c .before .before .before .before .before .before .loop .inv .1 .standing) (c .before .before .before .before .if2 .left)) (c .before .before .before .before .before .before .before .if1 .left) _ (c .before .number .ensures .0) (w .0 .taken) _ (w .1))
+          (λ w. child-inner _ _ _ _ _ _ _ _ _ (c .before .before .before .before .before .before .loop .inv .1) (c .before .before .before .before .before .loop-test .taken) _ (c .before .before .before .child-right .ensures) (c .before .before .if3 .left) (whole _ _ _ (c .before .before .before .before .before .before .loop .inv .1 .standing) (c .before .before .before .before .if2 .left)) (c .before .before .before .before .before .before .before .if1 .left) _ (c .before .number .ensures .0) _ (w .1 .ensures .0) _ (w .2 .ensures) _ (w .3 .ensures) (w .4 .left) _ (w .5))
           (c .if4 .came),
     ))
     (λ c. search (children-done, needs))
