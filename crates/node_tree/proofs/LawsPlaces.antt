@@ -23,7 +23,7 @@ use Rattle.node_tree.specs.Places.{Spot, Standing, Whole, kindFor, Right
 use Rattle.node_tree.specs.declared.demands.Demand.{Demand}
 use Rattle.node_tree.specs.declared.shape.Role.{Role}
 use Rattle.node_tree.specs.declared.shape.Role.the-variants.{Declaration}
-use Rattle.node_tree.proofs.LawsTree.{x-wrong, t-wrong, count-is, belowOf, tree-none, tree-wrong, tree-right, tree-past, tree-ends, no-child-yet, children-end, children-broken, children-next, Left, none-left-out, trees-end, trees-broken, trees-next, fewer-left}
+use Rattle.node_tree.proofs.LawsTree.{x-wrong, t-wrong, count-is, belowOf, tree-none, tree-wrong, tree-right, tree-past, tree-ends, no-child-yet, children-end, children-broken, children-next, children-last, Left, none-left-out, trees-end, trees-broken, trees-next, fewer-left}
 
 -- a place among the nodes has a node
 pub whole : (s : List ℕ) (types at : ℕ) → Standing s types at → at * 2 < length s → Whole s types at
@@ -177,21 +177,13 @@ module _ (s : List ℕ) (types at : ℕ) (c : Bool) (role : Role) where
   pub right-role : (other : Role) (b : Bool) → other ≡ role → RightAt s types at c other b → RightAt s types at c role b
   right-role other b e g = rw (← e) g
 
--- where the children of a node end
-pub no-levels : (s : List ℕ) (types kind : ℕ) (c : Bool) (count first levels : ℕ) → levels ≡ 0 → 0 < count → Ends s types kind c count first levels 0
-no-levels s types kind c count first levels z h = record {
-  is =
-      λ S n p.
-      ap (placeOf S)
-      (children-broken (treeOf levels (tablesOf s S) c) (childRole kind count) count n 0 n (no-child-yet (treeOf levels (tablesOf s S) c) (childRole kind count) count n) h (childRole kind count 0) Broken refl (tree-none levels (tablesOf s S) c (childRole kind count 0) n z) refl);
-}
-
--- the children before the child i are right, and the next one stands at the place `at`: those from there on end where all of them do
-pub record SoFar (s : List ℕ) (types kind : ℕ) (c : Bool) (count first levels i at : ℕ) : Type 0 where
+-- where the children of a node end: c, kind and count are those of the node, from whose children the loop has come to the child i of a node of the kind k;
+-- the children of that one, m in all, at most l deep, from there on end where all of the first node do
+pub record SoFar (s : List ℕ) (types kind : ℕ) (c : Bool) (count first levels k : ℕ) (d : Bool) (m l i at : ℕ) : Type 0 where
   pub standing : Standing s types at
-  pub same : (S : Sections) (n : ℕ) → Spot s types first S n → (m : ℕ) × Spot s types at S m × (childrenOf (treeOf levels (tablesOf s S) c) (childRole kind count) (count - i) i m ≡ childrenOf (treeOf levels (tablesOf s S) c) (childRole kind count) count 0 n)
+  pub same : (S : Sections) (n : ℕ) → Spot s types first S n → (j : ℕ) × Spot s types at S j × (childrenOf (treeOf l (tablesOf s S) d) (childRole k m) (m - i) i j ≡ childrenOf (treeOf levels (tablesOf s S) c) (childRole kind count) count 0 n)
 
-pub none-so-far : (s : List ℕ) (types kind : ℕ) (c : Bool) (count first levels : ℕ) → Standing s types first → SoFar s types kind c count first levels 0 first
+pub none-so-far : (s : List ℕ) (types kind : ℕ) (c : Bool) (count first levels : ℕ) → Standing s types first → SoFar s types kind c count first levels kind c count levels 0 first
 none-so-far s types kind c count first levels w = record {
   standing = w;
   same = λ S n p. (n, p, no-child-yet (treeOf levels (tablesOf s S) c) (childRole kind count) count n);
@@ -254,62 +246,91 @@ module _ (s : List ℕ) (types at : ℕ) (c : Bool) (role : Role) (levels : ℕ)
         (j, record { laid = p .laid; counted = p .counted; place = f; within = omega (arith, nodes-long s S) }, e)
 
 -- the next child decides
-module _ (s : List ℕ) (types kind : ℕ) (c : Bool) (count first levels i at : ℕ) (so : SoFar s types kind c count first levels i at) (l : i < count) where
-  child-broken : ((S : Sections) (m : ℕ) → Spot s types at S m → treeOf levels (tablesOf s S) c (childRole kind count i) m ≡ Broken) → Ends s types kind c count first levels 0
+module _ (s : List ℕ) (types kind : ℕ) (c : Bool) (count first levels k : ℕ) (d : Bool) (m l i at : ℕ) (so : SoFar s types kind c count first levels k d m l i at) (h : i < m) where
+  child-broken : ((S : Sections) (j : ℕ) → Spot s types at S j → treeOf l (tablesOf s S) d (childRole k m i) j ≡ Broken) → Ends s types kind c count first levels 0
   child-broken f = record {
     is =
         λ S n p.
-        let (m, q, e) = so .same S n p in
-        ap (placeOf S) (children-broken (treeOf levels (tablesOf s S) c) (childRole kind count) count n i m e l (childRole kind count i) (treeOf levels (tablesOf s S) c (childRole kind count i) m) refl refl (f S m q));
+        let (j, q, e) = so .same S n p in
+        ap (placeOf S) (children-broken (treeOf l (tablesOf s S) d) (childRole k m) m _ i j e h (treeOf l (tablesOf s S) d (childRole k m i) j) refl (f S j q));
   }
 
-  child-next : (next : ℕ) → ((S : Sections) (m : ℕ) → Spot s types at S m → (j : ℕ) × Spot s types next S j × (treeOf levels (tablesOf s S) c (childRole kind count i) m ≡ At j)) → SoFar s types kind c count first levels (i + 1) next
+  child-next : (next : ℕ) → ((S : Sections) (j : ℕ) → Spot s types at S j → (x : ℕ) × Spot s types next S x × (treeOf l (tablesOf s S) d (childRole k m i) j ≡ At x)) → SoFar s types kind c count first levels k d m l (i + 1) next
   child-next next f = record {
     standing =
         let q = so .standing in
-        let (j, r, e) = f (q .sections) (q .node) (q .spot) in
-        record { sections = q .sections; node = j; spot = r };
+        let (x, r, e) = f (q .sections) (q .node) (q .spot) in
+        record { sections = q .sections; node = x; spot = r };
     same =
         λ S n p.
-        let (m, q, e) = so .same S n p in
-        let (j, r, g) = f S m q in
-        (j, r, children-next (treeOf levels (tablesOf s S) c) (childRole kind count) count n i m e l (childRole kind count i) (treeOf levels (tablesOf s S) c (childRole kind count i) m) refl refl j g);
+        let (j, q, e) = so .same S n p in
+        let (x, r, g) = f S j q in
+        (x, r, children-next (treeOf l (tablesOf s S) d) (childRole k m) m _ i j e h (treeOf l (tablesOf s S) d (childRole k m i) j) refl x g);
   }
 
+  pub child-no-level : l ≡ 0 → Ends s types kind c count first levels 0
+  child-no-level z = child-broken (λ S j p. sym (tree-none l (tablesOf s S) d (childRole k m i) j z))
+
   pub child-past : length s ≤ at * 2 → Ends s types kind c count first levels 0
-  child-past h =
-      child-broken (λ S m p. sym (tree-past levels s S c (childRole kind count i) m (omega (arith, p .place, p .laid .end))))
+  child-past e =
+      child-broken (λ S j p. sym (tree-past l s S d (childRole k m i) j (omega (arith, p .place, p .laid .end))))
 
-  module _ (b : Bool) (right : RightAt s types at c (childRole kind count i) b) where
+  module _ (b : Bool) (right : RightAt s types at d (childRole k m i) b) where
     pub child-wrong : not b ≡ true → Ends s types kind c count first levels 0
-    child-wrong h =
+    child-wrong e =
         child-broken
-        (λ S m p. sym (tree-wrong levels (tablesOf s S) c (childRole kind count i) m (sym (right .is S m p) ∙ not-true b h)))
+        (λ S j p. sym (tree-wrong l (tablesOf s S) d (childRole k m i) j (sym (right .is S j p) ∙ not-true b e)))
 
-    module _ (hb : not b ≡ false) (w : Whole s types at) (some : levels ≡ 0 → ⊥) (m : ℕ) (em : m ≡ numberAt s (at + 3)) where
-      pub child-leaf : m ≡ 0 → (r : ℕ) → r ≡ at + 4 → SoFar s types kind c count first levels (i + 1) r
-      child-leaf z r e =
-          rw e
+    module _ (hb : not b ≡ false) (w : Whole s types at) (some : l ≡ 0 → ⊥) (inner : ℕ) (ei : inner ≡ numberAt s (at + 3)) where
+      pub child-leaf : inner ≡ 0 → (r x : ℕ) → r ≡ at + 4 → x ≡ i + 1 → SoFar s types kind c count first levels k d m l x r
+      child-leaf z r x e ex =
+          rw (e, ex)
           (child-next (at + 4)
-          λ S n p. (n + 1, after s types at w S n p, leaf-tree s types at c (childRole kind count i) levels w some b right hb m em z S n p))
+          λ S j p. (j + 1, after s types at w S j p, leaf-tree s types at d (childRole k m i) l w some b right hb inner ei z S j p))
 
-      module _ (k : ℕ) (ek : k ≡ numberAt s at) (d : Bool) (ed : d ≡ (c || eqb k 1)) (next : ℕ) (ends : Ends s types k d m (at + 4) (levels - 1) next) where
-        pub child-inner-broken : next ≡ 0 → Ends s types kind c count first levels 0
-        child-inner-broken z =
-            child-broken (λ S n p. inner-broken s types at c (childRole kind count i) levels w some b right hb m em k ek d ed next ends z S n p)
+      module _ (below : ℕ) (ek : below ≡ numberAt s at) (f : Bool) (ef : f ≡ (d || eqb below 1)) where
+        -- the last child: where its children end, all do
+        pub child-last : i + 1 ≡ m → (deep r : ℕ) → deep ≡ l - 1 → r ≡ at + 4 → SoFar s types kind c count first levels below f inner deep 0 r
+        child-last e deep r ed er = record {
+          standing = rw er (standing-after s types at w);
+          same =
+              λ S n p.
+              let (j, q, g) = so .same S n p in
+              let last = children-last (treeOf l (tablesOf s S) d) (childRole k m) m _ i j g h (treeOf l (tablesOf s S) d (childRole k m i) j) refl e in
+              (j + 1, rw er (after s types at w S j q), goes-on S j q ∙ last);
+        }
+          where
+            goes-on : (S : Sections) (j : ℕ) → Spot s types at S j → childrenOf (treeOf deep (tablesOf s S) f) (childRole below inner) (inner - 0) 0 (j + 1) ≡ treeOf l (tablesOf s S) d (childRole k m i) j
+            goes-on S j q =
+                no-child-yet (treeOf deep (tablesOf s S) f) (childRole below inner) inner (j + 1)
+                ∙ rw (ed, ef, kind-is s types at (w .four) S j q below ek, children-are s types at (w .four) S j q inner ei)
+                (below-is s types at d (childRole k m i) l w some b right hb inner ei S j q)
 
-        pub child-inner : (next ≡ 0 → ⊥) → (r : ℕ) → r ≡ next → SoFar s types kind c count first levels (i + 1) r
-        child-inner z r e =
-            rw e
-            (child-next next
-            λ S n p. inner-ends s types at c (childRole kind count i) levels w some b right hb m em k ek d ed next ends z S n p)
+        module _ (next : ℕ) (ends : Ends s types below f inner (at + 4) (l - 1) next) where
+          pub child-inner-broken : next ≡ 0 → Ends s types kind c count first levels 0
+          child-inner-broken z =
+              child-broken (λ S j p. inner-broken s types at d (childRole k m i) l w some b right hb inner ei below ek f ef next ends z S j p)
 
-pub children-done : (s : List ℕ) (types kind : ℕ) (c : Bool) (count first levels i at : ℕ) → SoFar s types kind c count first levels i at → i ≤ count → count ≤ i → Ends s types kind c count first levels at
-children-done s types kind c count first levels i at so a b = record {
+          pub child-inner : (next ≡ 0 → ⊥) → (r x : ℕ) → r ≡ next → x ≡ i + 1 → SoFar s types kind c count first levels k d m l x r
+          child-inner z r x e ex =
+              rw (e, ex)
+              (child-next next
+              λ S j p. inner-ends s types at d (childRole k m i) l w some b right hb inner ei below ek f ef next ends z S j p)
+
+          -- less of the file is left
+          pub child-fewer : (next ≡ 0 → ⊥) → at < next
+          child-fewer z =
+              let q = so .standing in
+              let (x, p, e) = inner-ends s types at d (childRole k m i) l w some b right hb inner ei below ek f ef next ends z (q .sections) (q .node) (q .spot) in
+              let (past, among) = tree-ends l (tablesOf s (q .sections)) d (childRole k m i) (q .node) x e in
+              omega (arith, p .place, q .spot .place)
+
+pub children-done : (s : List ℕ) (types kind : ℕ) (c : Bool) (count first levels k : ℕ) (d : Bool) (m l i at : ℕ) → SoFar s types kind c count first levels k d m l i at → i ≤ m → m ≤ i → Ends s types kind c count first levels at
+children-done s types kind c count first levels k d m l i at so a b = record {
   is =
       λ S n p.
-      let (m, q, e) = so .same S n p in
-      q .place ∙ ap (placeOf S) (children-end (treeOf levels (tablesOf s S) c) (childRole kind count) count n i m e a b);
+      let (j, q, e) = so .same S n p in
+      q .place ∙ ap (placeOf S) (children-end (treeOf l (tablesOf s S) d) (childRole k m) m _ i j e a b);
 }
 
 -- a declaration has children

@@ -71,28 +71,39 @@ pub tree-past : (d : ℕ) (s : List ℕ) (S : Sections) (c : Bool) (role : Role)
 unfolding nodeRight
 tree-past d s S c role n h = tree-wrong d (tablesOf s S) c role n (rw (nodes-long, le-ltb n (S .nodes) h))
 
--- one child after another
-module _ (f : Role → ℕ → Ending) (role : ℕ → Role) (count first : ℕ) where
-  pub no-child-yet : childrenOf f role (count - 0) 0 first ≡ childrenOf f role count 0 first
-  no-child-yet = let e : count - 0 ≡ count = omega arith in rw e
+-- one child after another: those from the child i on end where all do, at `all`
+then-there : (o : Ending) → thenAt o (λ next. At next) ≡ o
+then-there Broken = refl
+then-there (At n) = refl
 
-  module _ (i at : ℕ) (so-far : childrenOf f role (count - i) i at ≡ childrenOf f role count 0 first) where
-    pub children-end : i ≤ count → count ≤ i → At at ≡ childrenOf f role count 0 first
+module _ (f : Role → ℕ → Ending) (role : ℕ → Role) (count : ℕ) where
+  pub no-child-yet : (first : ℕ) → childrenOf f role (count - 0) 0 first ≡ childrenOf f role count 0 first
+  no-child-yet first = let e : count - 0 ≡ count = omega arith in rw e
+
+  module _ (all : Ending) (i at : ℕ) (so-far : childrenOf f role (count - i) i at ≡ all) where
+    pub children-end : i ≤ count → count ≤ i → At at ≡ all
     unfolding childrenOf
     children-end a b = let e : count - i ≡ 0 = omega arith in rw e at so-far
 
-    module _ (l : i < count) (r : Role) (child : Ending) (er : r ≡ role i) (ec : child ≡ f r at) where
-      child-decides : thenAt child (λ next. childrenOf f role (count - (i + 1)) (i + 1) next) ≡ childrenOf f role count 0 first
+    module _ (l : i < count) (child : Ending) (ec : child ≡ f (role i) at) where
+      child-decides : thenAt child (λ next. childrenOf f role (count - (i + 1)) (i + 1) next) ≡ all
       unfolding childrenOf
       child-decides =
           let m : count - i ≡ suc (count - (i + 1)) = omega arith in
-          rw (ec, er) (rw m at so-far)
+          rw ec (rw m at so-far)
 
-      pub children-broken : child ≡ Broken → Broken ≡ childrenOf f role count 0 first
+      pub children-broken : child ≡ Broken → Broken ≡ all
       children-broken e = rw e at child-decides
 
-      pub children-next : (next : ℕ) → child ≡ At next → childrenOf f role (count - (i + 1)) (i + 1) next ≡ childrenOf f role count 0 first
+      pub children-next : (next : ℕ) → child ≡ At next → childrenOf f role (count - (i + 1)) (i + 1) next ≡ all
       children-next next e = rw e at child-decides
+
+      -- the last child ends where all do
+      pub children-last : i + 1 ≡ count → child ≡ all
+      unfolding childrenOf
+      children-last e =
+          let z : count - (i + 1) ≡ 0 = omega arith in
+          sym (then-there child) ∙ rw z at child-decides
 
 -- a tree ends past its node, and among the nodes
 children-ends : (f : Role → ℕ → Ending) (role : ℕ → Role) (most : ℕ) → ((r : Role) (n j : ℕ) → f r n ≡ At j → (n < j) × (j ≤ most)) → (m i n j : ℕ) → n ≤ most → childrenOf f role m i n ≡ At j → (n ≤ j) × (j ≤ most)

@@ -108,7 +108,7 @@ fn constant_below(constant: bool, kind: usize) -> bool
 }
 
 // Where the children of a node of this kind end, the first of which stands at the place `first`, at most `levels` deep; 0 where one of them is broken. It
-// calls itself for children that have children alone.
+// calls itself for children that have children, but for the last one: where that one's children end, the others end too, so that the loop goes on with them.
 fn children(
     file: &[u8],
     types: usize,
@@ -121,38 +121,50 @@ fn children(
     requires { ⌜ Standing (now file) types first × (0 < count) × (count < 65536) ⌝ }
     ensures { λ r. ⌜ Ends (now (file .entry)) types kind constant count first levels r ⌝ }
 {
-    if levels == 0 {
-        return 0;
-    }
+    let mut above = kind;
+    let mut fixed = constant;
+    let mut many = count;
+    let mut deep = levels;
     let mut at = first;
     let mut i = 0;
-    while i < count {
+    while i < many {
+        if deep == 0 {
+            return 0;
+        }
         if file.len() <= at * 2 {
             return 0;
         }
-        if !child_right(file, types, kind, constant, count, i, at) {
+        if !child_right(file, types, above, fixed, many, i, at) {
             return 0;
         }
+        let below = number(file, at);
         let inner = number(file, at + 3);
         if inner == 0 {
             at = at + 4;
+            i += 1;
+        } else if i + 1 == many {
+            fixed = constant_below(fixed, below);
+            above = below;
+            many = inner;
+            deep = deep - 1;
+            at = at + 4;
+            i = 0;
         } else {
-            let below = number(file, at);
             let next = children(
                 file,
                 types,
                 below,
-                constant_below(constant, below),
+                constant_below(fixed, below),
                 inner,
                 at + 4,
-                levels - 1,
+                deep - 1,
             );
             if next == 0 {
                 return 0;
             }
             at = next;
+            i += 1;
         }
-        i += 1;
     }
     at
 }

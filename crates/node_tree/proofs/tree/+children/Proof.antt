@@ -1,12 +1,13 @@
--- `tree::children` meets its contract. Each call of itself has a level less. The invariant of the loop: the children left, from the child `i` on, end where
--- all of them do. Assumes nothing.
-use mathlib.Core.Logic.{⊎-elim}
-use Prim.Native.Nat.{ℕ, _<_, _≤_, _-_}
+-- `tree::children` meets its contract. Each call of itself has a level less. The invariant of the loop: the children left, from the child `i` of the node
+-- that the loop has come to, end where those of the first node do; less of the file is left each time. Assumes nothing.
+use mathlib.Core.Path.{refl}
+use Prim.Native.Nat.{ℕ, _<_, _≤_, _-_, _*_}
 use native.Mathlib.Omega.{arith}
+use lib.ListN.{length}
 use borrow.Author.Needs.{needs}
 use borrow.Fn.Kinds.{In}
 use borrow.Fn.PlainCycle.{Measures, is, falls, and}
-use Rattle.node_tree.proofs.LawsPlaces.{SoFar, whole, place-small, no-levels, none-so-far, child-past, child-wrong, child-leaf, child-inner-broken, child-inner, children-done, standing-after}
+use Rattle.node_tree.proofs.LawsPlaces.{SoFar, whole, place-small, none-so-far, child-no-level, child-past, child-wrong, child-leaf, child-last, child-inner-broken, child-inner, child-fewer, children-done, standing-after}
 use Rattle.node_tree.proofs.tree.children.Reads as children
 use Rattle.node_tree.proofs.tree.children.Kinds as children-kinds
 use Rattle.node_tree.proofs.tree.+children.Lts-children as children-lts
@@ -27,10 +28,11 @@ children-below t =
     and 1 children-kinds.ps (falls 1 children-kinds.ps _<_ μ-children t) children.Pre
 
 abbrev children-Inv-loop : children-lts.InvT-loop
-children-Inv-loop file types kind constant count first levels at₀ i₀ at i = (i ≤ count) × SoFar file types kind constant count first levels i at
+children-Inv-loop file types kind constant count first levels above₀ fixed₀ many₀ deep₀ at₀ i₀ above fixed many deep at i =
+    (i ≤ many) × (many < 65536) × (deep ≤ levels) × SoFar file types kind constant count first levels above fixed many deep i at
 
 abbrev children-μ-loop : children-lts.MeasureT-loop
-children-μ-loop file types kind constant count first levels at₀ i₀ at i = count - i
+children-μ-loop file types kind constant count first levels above₀ fixed₀ many₀ deep₀ at₀ i₀ above fixed many deep at i = length file - at * 2
 
 pub +children-spec : {M : Type 1} → statement M
 +children-spec = close μ-children λ t. children-lts.spec (
@@ -47,28 +49,83 @@ pub +children-spec : {M : Type 1} → statement M
     children.Post
     children-Inv-loop
     children-μ-loop
-    (λ c. search (no-levels, needs))
-    (λ c. (search needs, search (none-so-far, needs)))
-    (λ c. omega (arith, place-small (c .before .loop .inv .1 .standing)))
+    (λ c. (omega arith, search needs, omega arith, search (none-so-far, needs)))
+    (λ c. search (child-no-level, needs))
+    (λ c. omega (arith, place-small (c .before .before .loop .inv .3 .standing)))
     (λ c. search (child-past, needs))
     (λ c κs. (search (whole, needs), omega arith))
     (λ c. search (child-wrong, needs))
-    (λ c. omega (arith, place-small (c .before .before .before .before .loop .inv .1 .standing)))
-    (λ c κs. whole _ _ _ (c .before .before .before .before .loop .inv .1 .standing) (c .before .before .if2 .left) .four)
-    (λ c. omega (arith, place-small (c .before .before .before .before .before .before .loop .inv .1 .standing)))
-    (λ c κs. omega (arith, (whole _ _ _ (c .before .before .before .before .before .before .loop .inv .1 .standing) (c .before .before .before .before .if2 .left)) .four))
-    (λ c κs. search needs)
-    (λ c. omega (arith, place-small (c .before .before .before .before .before .before .before .before .loop .inv .1 .standing)))
+    (λ c κs. omega (arith, (whole _ _ _ (c .before .before .before .before .before .loop .inv .3 .standing) (c .before .before .if2 .left)) .four))
+    (λ c. omega (arith, place-small (c .before .before .before .before .before .before .loop .inv .3 .standing)))
+    (λ c κs. whole _ _ _ (c .before .before .before .before .before .before .loop .inv .3 .standing) (c .before .before .before .if2 .left) .four)
+    (λ c. omega (arith, place-small (c .before .before .before .before .before .before .before .before .loop .inv .3 .standing)))
     (λ c. search needs)
-    (λ c κs. (omega arith, (standing-after _ _ _ (whole _ _ _ (c .before .before .before .before .before .before .before .before .loop .inv .1 .standing) (c .before .before .before .before .before .before .if2 .left)), omega arith, search needs)))
-    (λ c. search (child-inner-broken, whole, needs))
-    (λ c. search needs)
-    (λ c. search needs)
-    (λ c. (
+    (λ c. omega (arith, c .before .before .before .before .before .if2 .left))
+    (λ c.
+    let at-loop = c .before .before .before .before .before .before .before .before in
+    let at-test = c .before .before .before .before .before .before .before in
+    let at-if1 = c .before .before .before .before .before .before in
+    let at-if2 = c .before .before .before .before .before in
+    let at-right = c .before .before .before .before in
+    let at-if3 = c .before .before .before in
+    let w = whole _ _ _ (at-loop .loop .inv .3 .standing) (at-if2 .if2 .left) in (
+      omega arith,
       search needs,
-      ⊎-elim
-          (λ w. child-leaf _ _ _ _ _ _ _ _ _ (c .before .before .before .before .before .before .loop .inv .1) (c .before .before .before .before .before .loop-test .taken) _ (c .before .before .before .child-right .ensures) (c .before .before .if3 .left) (whole _ _ _ (c .before .before .before .before .before .before .loop .inv .1 .standing) (c .before .before .before .before .if2 .left)) (c .before .before .before .before .before .before .before .if1 .left) _ (c .before .number .ensures .0) (w .0 .taken) _ (w .1))
-          (λ w. child-inner _ _ _ _ _ _ _ _ _ (c .before .before .before .before .before .before .loop .inv .1) (c .before .before .before .before .before .loop-test .taken) _ (c .before .before .before .child-right .ensures) (c .before .before .if3 .left) (whole _ _ _ (c .before .before .before .before .before .before .loop .inv .1 .standing) (c .before .before .before .before .if2 .left)) (c .before .before .before .before .before .before .before .if1 .left) _ (c .before .number .ensures .0) _ (w .1 .ensures .0) _ (w .2 .ensures) _ (w .3 .ensures) (w .4 .left) _ (w .5))
-          (c .if4 .came),
+      search needs,
+      child-leaf _ _ _ _ _ _ _ _ _ _ _ _ _ (at-loop .loop .inv .3) (at-test .loop-test .taken) _ (at-right .child-right .ensures) (at-if3 .if3 .left) w (at-if1 .if1 .left) _ (c .before .number2 .ensures .0) (c .if4 .taken) _ _ refl refl,
+    ))
+    (λ c. search needs)
+    (λ c κs. search needs)
+    (λ c. omega arith)
+    (λ c. omega (arith, place-small (c .before .before .before .before .before .before .before .before .before .before .loop .inv .3 .standing)))
+    (λ c. omega (arith, c .before .before .before .before .before .before .before .if2 .left))
+    (λ c.
+    let at-loop = c .before .before .before .before .before .before .before .before .before .before in
+    let at-test = c .before .before .before .before .before .before .before .before .before in
+    let at-if1 = c .before .before .before .before .before .before .before .before in
+    let at-if2 = c .before .before .before .before .before .before .before in
+    let at-right = c .before .before .before .before .before .before in
+    let at-if3 = c .before .before .before .before .before in
+    let w = whole _ _ _ (at-loop .loop .inv .3 .standing) (at-if2 .if2 .left) in (
+      omega arith,
+      omega (arith, c .before .before .before .number2 .ensures .1),
+      omega arith,
+      child-last _ _ _ _ _ _ _ _ _ _ _ _ _ (at-loop .loop .inv .3) (at-test .loop-test .taken) _ (at-right .child-right .ensures) (at-if3 .if3 .left) w (at-if1 .if1 .left) _ (c .before .before .before .number2 .ensures .0) _ (c .before .before .before .before .number .ensures .0) _ (c .constant-below .ensures) (c .before .if5 .taken) _ _ refl refl,
+    ))
+    (λ c κs. search needs)
+    (λ c. omega (arith, place-small (c .before .before .before .before .before .before .before .before .before .before .loop .inv .3 .standing)))
+    (λ c. omega arith)
+    (λ c κs. (omega arith, (standing-after _ _ _ (whole _ _ _ (c .before .before .before .before .before .before .before .before .before .before .loop .inv .3 .standing) (c .before .before .before .before .before .before .before .if2 .left)), omega arith, search needs)))
+    (λ c.
+    let at-loop = c .before .before .before .before .before .before .before .before .before .before .before .before in
+    let at-test = c .before .before .before .before .before .before .before .before .before .before .before in
+    let at-if1 = c .before .before .before .before .before .before .before .before .before .before in
+    let at-if2 = c .before .before .before .before .before .before .before .before .before in
+    let at-right = c .before .before .before .before .before .before .before .before in
+    let at-if3 = c .before .before .before .before .before .before .before in
+    let w = whole _ _ _ (at-loop .loop .inv .3 .standing) (at-if2 .if2 .left) in
+    child-inner-broken _ _ _ _ _ _ _ _ _ _ _ _ _ (at-loop .loop .inv .3) (at-test .loop-test .taken) _ (at-right .child-right .ensures) (at-if3 .if3 .left) w (at-if1 .if1 .left) _ (c .before .before .before .before .before .number2 .ensures .0) _ (c .before .before .before .before .before .before .number .ensures .0) _ (c .before .before .constant-below2 .ensures) _ (c .before .children .ensures) (c .if6 .taken))
+    (λ c. search needs)
+    (λ c.
+    let at-loop = c .before .before .before .before .before .before .before .before .before .before .before .before in
+    let at-test = c .before .before .before .before .before .before .before .before .before .before .before in
+    let at-if1 = c .before .before .before .before .before .before .before .before .before .before in
+    let at-if2 = c .before .before .before .before .before .before .before .before .before in
+    let at-right = c .before .before .before .before .before .before .before .before in
+    let at-if3 = c .before .before .before .before .before .before .before in
+    let w = whole _ _ _ (at-loop .loop .inv .3 .standing) (at-if2 .if2 .left) in
+    omega (arith, at-if2 .if2 .left, child-fewer _ _ _ _ _ _ _ _ _ _ _ _ _ (at-loop .loop .inv .3) (at-test .loop-test .taken) _ (at-right .child-right .ensures) (at-if3 .if3 .left) w (at-if1 .if1 .left) _ (c .before .before .before .before .before .number2 .ensures .0) _ (c .before .before .before .before .before .before .number .ensures .0) _ (c .before .before .constant-below2 .ensures) _ (c .before .children .ensures) (c .if6 .left)))
+    (λ c.
+    let at-loop = c .before .before .before .before .before .before .before .before .before .before .before .before in
+    let at-test = c .before .before .before .before .before .before .before .before .before .before .before in
+    let at-if1 = c .before .before .before .before .before .before .before .before .before .before in
+    let at-if2 = c .before .before .before .before .before .before .before .before .before in
+    let at-right = c .before .before .before .before .before .before .before .before in
+    let at-if3 = c .before .before .before .before .before .before .before in
+    let w = whole _ _ _ (at-loop .loop .inv .3 .standing) (at-if2 .if2 .left) in (
+      omega arith,
+      search needs,
+      search needs,
+      child-inner _ _ _ _ _ _ _ _ _ _ _ _ _ (at-loop .loop .inv .3) (at-test .loop-test .taken) _ (at-right .child-right .ensures) (at-if3 .if3 .left) w (at-if1 .if1 .left) _ (c .before .before .before .before .before .number2 .ensures .0) _ (c .before .before .before .before .before .before .number .ensures .0) _ (c .before .before .constant-below2 .ensures) _ (c .before .children .ensures) (c .if6 .left) _ _ refl refl,
     ))
     (λ c. search (children-done, needs))
