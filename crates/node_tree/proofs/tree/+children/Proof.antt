@@ -62,12 +62,12 @@ pub +children-spec : {M : Type 1} → statement M
     (λ c. search needs)
     (λ c. omega (arith, c .before .before .before .before .before .if2 .left))
     (λ c.
-    let at-loop = c .before .before .before .before .before .before .before .before in
-    let at-test = c .before .before .before .before .before .before .before in
-    let at-if1 = c .before .before .before .before .before .before in
-    let at-if2 = c .before .before .before .before .before in
-    let at-right = c .before .before .before .before in
     let at-if3 = c .before .before .before in
+    let at-right = at-if3 .before in
+    let at-if2 = at-right .before in
+    let at-if1 = at-if2 .before in
+    let at-test = at-if1 .before in
+    let at-loop = at-test .before in
     let w = whole _ _ _ (at-loop .loop .inv .3 .standing) (at-if2 .if2 .left) in (
       omega arith,
       search needs,
@@ -80,12 +80,12 @@ pub +children-spec : {M : Type 1} → statement M
     (λ c. omega (arith, place-small (c .before .before .before .before .before .before .before .before .before .before .loop .inv .3 .standing)))
     (λ c. omega (arith, c .before .before .before .before .before .before .before .if2 .left))
     (λ c.
-    let at-loop = c .before .before .before .before .before .before .before .before .before .before in
-    let at-test = c .before .before .before .before .before .before .before .before .before in
-    let at-if1 = c .before .before .before .before .before .before .before .before in
-    let at-if2 = c .before .before .before .before .before .before .before in
-    let at-right = c .before .before .before .before .before .before in
     let at-if3 = c .before .before .before .before .before in
+    let at-right = at-if3 .before in
+    let at-if2 = at-right .before in
+    let at-if1 = at-if2 .before in
+    let at-test = at-if1 .before in
+    let at-loop = at-test .before in
     let w = whole _ _ _ (at-loop .loop .inv .3 .standing) (at-if2 .if2 .left) in (
       omega arith,
       omega (arith, c .before .before .before .number2 .ensures .1),
@@ -97,31 +97,31 @@ pub +children-spec : {M : Type 1} → statement M
     (λ c. omega arith)
     (λ c κs. (omega arith, (standing-after _ _ _ (whole _ _ _ (c .before .before .before .before .before .before .before .before .before .before .loop .inv .3 .standing) (c .before .before .before .before .before .before .before .if2 .left)), omega arith, search needs)))
     (λ c.
-    let at-loop = c .before .before .before .before .before .before .before .before .before .before .before .before in
-    let at-test = c .before .before .before .before .before .before .before .before .before .before .before in
-    let at-if1 = c .before .before .before .before .before .before .before .before .before .before in
-    let at-if2 = c .before .before .before .before .before .before .before .before .before in
-    let at-right = c .before .before .before .before .before .before .before .before in
     let at-if3 = c .before .before .before .before .before .before .before in
+    let at-right = at-if3 .before in
+    let at-if2 = at-right .before in
+    let at-if1 = at-if2 .before in
+    let at-test = at-if1 .before in
+    let at-loop = at-test .before in
     let w = whole _ _ _ (at-loop .loop .inv .3 .standing) (at-if2 .if2 .left) in
     child-inner-broken _ _ _ _ _ _ _ _ _ _ _ _ _ (at-loop .loop .inv .3) (at-test .loop-test .taken) _ (at-right .child-right .ensures) (at-if3 .if3 .left) w (at-if1 .if1 .left) _ (c .before .before .before .before .before .number2 .ensures .0) _ (c .before .before .before .before .before .before .number .ensures .0) _ (c .before .before .constant-below2 .ensures) _ (c .before .children .ensures) (c .if6 .taken))
     (λ c. search needs)
     (λ c.
-    let at-loop = c .before .before .before .before .before .before .before .before .before .before .before .before in
-    let at-test = c .before .before .before .before .before .before .before .before .before .before .before in
-    let at-if1 = c .before .before .before .before .before .before .before .before .before .before in
-    let at-if2 = c .before .before .before .before .before .before .before .before .before in
-    let at-right = c .before .before .before .before .before .before .before .before in
     let at-if3 = c .before .before .before .before .before .before .before in
+    let at-right = at-if3 .before in
+    let at-if2 = at-right .before in
+    let at-if1 = at-if2 .before in
+    let at-test = at-if1 .before in
+    let at-loop = at-test .before in
     let w = whole _ _ _ (at-loop .loop .inv .3 .standing) (at-if2 .if2 .left) in
     omega (arith, at-if2 .if2 .left, child-fewer _ _ _ _ _ _ _ _ _ _ _ _ _ (at-loop .loop .inv .3) (at-test .loop-test .taken) _ (at-right .child-right .ensures) (at-if3 .if3 .left) w (at-if1 .if1 .left) _ (c .before .before .before .before .before .number2 .ensures .0) _ (c .before .before .before .before .before .before .number .ensures .0) _ (c .before .before .constant-below2 .ensures) _ (c .before .children .ensures) (c .if6 .left)))
     (λ c.
-    let at-loop = c .before .before .before .before .before .before .before .before .before .before .before .before in
-    let at-test = c .before .before .before .before .before .before .before .before .before .before .before in
-    let at-if1 = c .before .before .before .before .before .before .before .before .before .before in
-    let at-if2 = c .before .before .before .before .before .before .before .before .before in
-    let at-right = c .before .before .before .before .before .before .before .before in
     let at-if3 = c .before .before .before .before .before .before .before in
+    let at-right = at-if3 .before in
+    let at-if2 = at-right .before in
+    let at-if1 = at-if2 .before in
+    let at-test = at-if1 .before in
+    let at-loop = at-test .before in
     let w = whole _ _ _ (at-loop .loop .inv .3 .standing) (at-if2 .if2 .left) in (
       omega arith,
       search needs,
