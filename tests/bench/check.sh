@@ -1,6 +1,6 @@
 #!/usr/bin/env bash
 # Times the proved check and the peer's side by side: on the stored corpus by size, reading alone too, on the files that are slowest against the peer, and on
-# files that grow; and measures the stack. First it tells how many tables the compiler made of the matches of `node_tree`: 8, or reading is slower.
+# files that grow; and measures the stack. First it tells how many tables the compiler made of the matches of `node_tree`: 6, or reading is slower.
 set -eu
 cd "$(dirname "$0")/../.."
 (cd tests/peer && cargo build --release --offline 2> /dev/null)
