@@ -6,7 +6,7 @@ use mathlib.Core.Logic.{_⊎_, ⊎-elim}
 use Prim.Native.Nat.{ℕ, zero, suc, _+_, _≤_, _<_}
 use native.Mathlib.Nat.{add-zero}
 use native.Mathlib.Omega.{arith}
-use lib.Dec.{eqb, ltb}
+use lib.Dec.{ltb}
 use borrow.Author.Tests.{not-true, not-false}
 use Rattle.oat.specs.Basics.{pick, allBelow}
 use Rattle.oat.specs.Tables.{Tables, typeAt, entryAt}
@@ -19,9 +19,9 @@ use Rattle.oat.proofs.LawsWritten.{type-struct, type-array, type-function, type
 use Rattle.file_sections.specs.declared.Sections.{Sections}
 use Rattle.file_sections.specs.Layout.{tablesOf, GoodTables}
 use Rattle.file_sections.proofs.LawsRecords.{structs-long}
-use Rattle.type_index.specs.Index.{declared, recordOf, structNamed, formedEntry, paramsFormed, Indexed}
-use Rattle.type_index.proofs.LawsIndex.{loop-fails, loop-goes, loop-done, none-tested, lookup-is, names-struct}
-use Rattle.type_index.proofs.LawsSameTypes.{all-front, all-same, plain, kind-is, array-kept, function-kept, nullable-kept}
+use Rattle.type_index.specs.Index.{declared, recordOf, formedEntry, paramsFormed, Indexed}
+use Rattle.type_index.proofs.LawsIndex.{loop-fails, loop-goes, loop-done, none-tested, lookup-is}
+use Rattle.type_index.proofs.LawsSameTypes.{all-front, all-same, on-base, kind-is, array-kept, function-kept, nullable-kept}
 
 -- a loop over parameters
 module _ (index : List ℕ) (T : Tables) (first : ℕ) where
@@ -88,21 +88,15 @@ found-by true fs h = h
 found-by false fs h = refl
 
 module _ (s : List ℕ) (S : Sections) (i : ℕ) where
-  pub formed-plain : (k : ℕ) → k ≡ kindAt (tablesOf s S) i → (k ≡ 4 → ⊥) → ((k ≡ 5) ⊎ (k ≡ 7) → ⊥) → (k ≡ 6 → ⊥) → true ≡ isFormed (declared (tablesOf s S)) (typeOf (tablesOf s S) i)
+  pub formed-base : GoodTables s S → i < S .types → kindAt (tablesOf s S) i < 4 → true ≡ isFormed (declared (tablesOf s S)) (typeOf (tablesOf s S) i)
   unfolding forms isFormed
-  formed-plain k ek n o m = rw (plain (tablesOf s S) i k ek n o m) (go (eqb k 0) (eqb k 1) (eqb k 2))
-    where
-      go : (a b c : Bool) → true ≡ isFormed (declared (tablesOf s S)) (pick a int (pick b bool (pick c string void)))
-      go true b c = refl
-      go false true c = refl
-      go false false true = refl
-      go false false false = refl
+  formed-base R h l = on-base (λ t. true ≡ isFormed (declared (tablesOf s S)) t) refl refl refl refl (typeOf (tablesOf s S) i) (rw (kind-is s S R i h) l)
 
-  pub formed-struct : (k r : ℕ) → k ≡ kindAt (tablesOf s S) i → k ≡ 4 → r ≡ structNamed (tablesOf s S) i → ltb r (S .structs) ≡ isFormed (declared (tablesOf s S)) (typeOf (tablesOf s S) i)
+  pub formed-struct : (x r : ℕ) → kindAt (tablesOf s S) i ≡ 4 → x ≡ typeAt (tablesOf s S) i .a → r ≡ recordOf (tablesOf s S) x → ltb r (S .structs) ≡ isFormed (declared (tablesOf s S)) (typeOf (tablesOf s S) i)
   unfolding forms isFormed
-  formed-struct k r ek h er =
-      let is : r ≡ recordOf (tablesOf s S) (typeAt (tablesOf s S) i .a) = er ∙ sym (names-struct s S i k ek _ _ h refl refl) in
-      rw (type-struct (tablesOf s S) i (omega arith), lookup-is (tablesOf s S) (typeAt (tablesOf s S) i .a), structs-long s S, ← is) (sym (found-by _ _ refl))
+  formed-struct x r k ex er =
+      let is : r ≡ recordOf (tablesOf s S) (typeAt (tablesOf s S) i .a) = er ∙ ap (recordOf (tablesOf s S)) ex in
+      rw (type-struct (tablesOf s S) i k, lookup-is (tablesOf s S) (typeAt (tablesOf s S) i .a), structs-long s S, ← is) (sym (found-by _ _ refl))
 
   module _ (index : List ℕ) (R : GoodTables s S) (h : i < S .types) (I : Indexed index (tablesOf s S) i) where
     formed-at : (x : ℕ) (r : Bool) → x < i → r ≡ formedEntry index x → r ≡ isFormed (declared (tablesOf s S)) (typeOf (tablesOf s S) x)
@@ -114,9 +108,9 @@ module _ (s : List ℕ) (S : Sections) (i : ℕ) where
         formed-at x r (v .lower) e
         ∙ sym (value-same (declared (tablesOf s S)) (typeOf (tablesOf s S) x) (λ z. v .value (sym (kind-is s S R x (omega (arith, v .lower))) ∙ z)))
 
-    pub formed-referred : (k x : ℕ) (r : Bool) → k ≡ kindAt (tablesOf s S) i → (k ≡ 5) ⊎ (k ≡ 7) → x ≡ typeAt (tablesOf s S) i .a → r ≡ formedEntry index x → r ≡ isFormed (declared (tablesOf s S)) (typeOf (tablesOf s S) i)
+    pub formed-holder : (k x : ℕ) (r : Bool) → kindAt (tablesOf s S) i ≡ k → (k ≡ 5) ⊎ (k ≡ 7) → x ≡ typeAt (tablesOf s S) i .a → r ≡ formedEntry index x → r ≡ isFormed (declared (tablesOf s S)) (typeOf (tablesOf s S) i)
     unfolding forms isFormed
-    formed-referred k x r ek d ex er = ⊎-elim of-array of-nullable d
+    formed-holder k x r ek d ex er = ⊎-elim of-array of-nullable d
       where
         stands : r ≡ formedEntry index (typeAt (tablesOf s S) i .a)
         stands = er ∙ ap (formedEntry index) ex

@@ -3,7 +3,7 @@
 use mathlib.Core.Path.{_≡_, refl, ap, ap₂, sym, _∙_}
 use mathlib.Core.Bool.{Bool, true, false, not, false≢true}
 use mathlib.Core.List.{List}
-use mathlib.Core.Logic.{⊎-elim}
+use mathlib.Core.Logic.{_⊎_, ⊎-elim}
 use Prim.Native.Nat.{ℕ, zero, suc, _+_, _≤_, _<_}
 use native.Mathlib.Nat.{not-suc-le-zero, le-of-suc-le-suc, eq-or-lt-of-le}
 use native.Mathlib.Omega.{arith}
@@ -43,24 +43,17 @@ none-tested p = refl
 
 -- the first number that passes
 module _ (p : ℕ → Bool) where
-  first-last : (n : ℕ) → firstBelow n p ≡ n → p n ≡ true → firstBelow (suc n) p ≡ n
-  unfolding firstBelow
-  first-last n e t = rw (e, eq-eqb n n refl, t)
-
   first-before : (n i : ℕ) → firstBelow n p ≡ i → i < n → firstBelow (suc n) p ≡ i
   unfolding firstBelow
   first-before n i e h = rw (e, ne-eqb i n (λ x. omega arith))
 
-  pub first-at : (n i : ℕ) → i < n → firstBelow i p ≡ i → p i ≡ true → firstBelow n p ≡ i
-  first-at zero i h = absurd (not-suc-le-zero h)
-  first-at (suc n) i h =
-      below-or-last
-      (λ j. firstBelow j p ≡ j → p j ≡ true → firstBelow (suc n) p ≡ j)
-      n
-      i
-      h
-      (λ l e t. first-before n i (first-at n i l e t) l)
-      (first-last n)
+  first-last : (n : ℕ) → p n ≡ true → firstBelow (suc n) p ≡ firstBelow n p
+  unfolding firstBelow
+  first-last n t = go (eqb (firstBelow n p) n) refl
+    where
+      go : (b : Bool) → eqb (firstBelow n p) n ≡ b → pick b (pick (p n) n (suc n)) (firstBelow n p) ≡ firstBelow n p
+      go true e = rw t (sym (eqb-true (firstBelow n p) n e))
+      go false e = refl
 
   pub first-most : (n : ℕ) → firstBelow n p ≤ n
   unfolding firstBelow
@@ -71,6 +64,18 @@ module _ (p : ℕ → Bool) where
       go true true h = omega arith
       go true false h = omega arith
       go false b h = omega arith
+
+  -- the same below a number that passes and below any higher one
+  pub first-longer : (n i : ℕ) → i < n → p i ≡ true → firstBelow n p ≡ firstBelow i p
+  first-longer zero i h = absurd (not-suc-le-zero h)
+  first-longer (suc n) i h =
+      below-or-last
+      (λ j. p j ≡ true → firstBelow (suc n) p ≡ firstBelow j p)
+      n
+      i
+      h
+      (λ l t. first-before n (firstBelow i p) (first-longer n i l t) (omega (arith, first-most i)))
+      (first-last n)
 
   pub first-passes : (n : ℕ) → firstBelow n p < n → p (firstBelow n p) ≡ true
   unfolding firstBelow
@@ -178,14 +183,20 @@ pub entries-same : {index : List ℕ} {T : Tables} {n : ℕ} → Indexed index T
 entries-same {T = T} I i j l m = ap₂ eqb (I .lowest i l) (I .lowest j m) ∙ firsts-same (typeOf T) i j
 
 -- the struct that a type names
-module _ (s : List ℕ) (S : Sections) (i k : ℕ) (ek : k ≡ kindAt (tablesOf s S) i) where
-  pub names-struct : (a r : ℕ) → k ≡ 4 → a ≡ typeAt (tablesOf s S) i .a → r ≡ recordOf (tablesOf s S) a → r ≡ structNamed (tablesOf s S) i
+module _ (s : List ℕ) (S : Sections) (i : ℕ) where
+  pub names-struct : (a r : ℕ) → kindAt (tablesOf s S) i ≡ 4 → a ≡ typeAt (tablesOf s S) i .a → r ≡ recordOf (tablesOf s S) a → r ≡ structNamed (tablesOf s S) i
   unfolding structNamed
-  names-struct a r h ea e = rw (eq-eqb (kindAt (tablesOf s S) i) 4 (omega arith)) (e ∙ ap (recordOf (tablesOf s S)) ea)
+  names-struct a r k ea e = rw (eq-eqb _ _ k) (e ∙ ap (recordOf (tablesOf s S)) ea)
 
-  pub names-none : (k ≡ 4 → ⊥) → S .structs ≡ structNamed (tablesOf s S) i
+  pub names-none : (kindAt (tablesOf s S) i ≡ 4 → ⊥) → S .structs ≡ structNamed (tablesOf s S) i
   unfolding structNamed
-  names-none h = rw (ne-eqb (kindAt (tablesOf s S) i) 4 (λ e. h (omega arith))) (sym (structs-long s S))
+  names-none n = rw (ne-eqb _ _ n) (sym (structs-long s S))
+
+  pub holder-names-none : (k : ℕ) → kindAt (tablesOf s S) i ≡ k → (k ≡ 5) ⊎ (k ≡ 7) → S .structs ≡ structNamed (tablesOf s S) i
+  holder-names-none k ek d = names-none (λ e. ⊎-elim (λ f. omega arith) (λ f. omega arith) d)
+
+  pub function-names-none : kindAt (tablesOf s S) i ≡ 6 → S .structs ≡ structNamed (tablesOf s S) i
+  function-names-none k = names-none (λ e. omega arith)
 
 -- the entries of the type i, stored
 module _ (index : List ℕ) (i e r m : ℕ) (long : 1536 ≤ length index) (low : i < 512) where
@@ -269,17 +280,6 @@ indexed-all index T i n h k I =
 pub first-fits : (s : List ℕ) (S : Sections) (i e : ℕ) → GoodTables s S → i < S .types → e ≡ firstBelow i (λ j. sameTy (typeOf (tablesOf s S) j) (typeOf (tablesOf s S) i)) → e < 65536
 first-fits s S i e R h ee = omega (arith, first-most (λ j. sameTy (typeOf (tablesOf s S) j) (typeOf (tablesOf s S) i)) i, R .laid .types-most)
 
-record-most : (T : Tables) (x : ℕ) → recordOf T x ≤ length (T .structs)
+pub record-fits : (s : List ℕ) (S : Sections) (x r : ℕ) → GoodTables s S → r ≡ recordOf (tablesOf s S) x → r < 65536
 unfolding recordOf
-record-most T x = first-most _ _
-
-named-most : (T : Tables) (i : ℕ) → structNamed T i ≤ length (T .structs)
-unfolding structNamed
-named-most T i = go (eqb (kindAt T i) 4)
-  where
-    go : (b : Bool) → pick b (recordOf T (typeAt T i .a)) (length (T .structs)) ≤ length (T .structs)
-    go true = record-most T (typeAt T i .a)
-    go false = omega arith
-
-pub named-fits : (s : List ℕ) (S : Sections) (i r : ℕ) → GoodTables s S → r ≡ structNamed (tablesOf s S) i → r < 65536
-named-fits s S i r R er = omega (arith, named-most (tablesOf s S) i, structs-long s S, R .laid .structs-most)
+record-fits s S x r R er = omega (arith, er, first-most (λ i. eqb (structAt (tablesOf s S) i .name) x) (length (tablesOf s S .structs)), structs-long s S, R .laid .structs-most)

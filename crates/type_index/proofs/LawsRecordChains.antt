@@ -15,7 +15,7 @@ use Rattle.file_sections.specs.Layout.{Laid, tablesOf}
 use Rattle.file_sections.proofs.LawsRecords.{structs-long}
 use Rattle.type_index.specs.Index.{firstBelow, recordOf}
 use Rattle.type_index.specs.Records.{nameFromLast, Recorded, RecordsFresh}
-use Rattle.type_index.proofs.LawsIndex.{first-at, first-nowhere}
+use Rattle.type_index.proofs.LawsIndex.{first-longer, first-nowhere}
 
 pub head-there : {records : List ℕ} {T : Tables} {k : ℕ} (x : ℕ) → Recorded records T k → x % 64 < length records
 head-there x r = let low : x % 64 < 64 = mod-lt x (omega arith) in omega (arith, r .long)
@@ -75,10 +75,11 @@ module _ (s : List ℕ) (S : Sections) (x : ℕ) {records : List ℕ} (r : Laid 
       unfolding recordOf
       seek-found e f =
           let p : ℕ → Bool = λ i. eqb (structAt (tablesOf s S) i .name) x in
-          sym (first-at p (length (tablesOf s S .structs)) (S .structs - after)
+          sym
+          (first-longer p (length (tablesOf s S .structs)) (S .structs - after)
           (subst (λ n. S .structs - after < n) (sym (structs-long s S)) (omega (arith, w .most)))
-          (first-nowhere p (S .structs - after) (λ i l t. none-before i l (eqb-true _ _ t)))
-          (eq-eqb (structAt (tablesOf s S) (S .structs - after) .name) x (sym e ∙ f)))
+          (eq-eqb (structAt (tablesOf s S) (S .structs - after) .name) x (sym e ∙ f))
+          ∙ first-nowhere p (S .structs - after) (λ i l t. none-before i l (eqb-true _ _ t)))
 
       module _ {n y : ℕ} (en : n ≡ getD records (63 + after) 0) (ey : y ≡ structAt (tablesOf s S) (S .structs - after) .name) where
         here : nameFromLast (tablesOf s S) (after - 1) ≡ y

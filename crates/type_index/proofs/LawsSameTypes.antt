@@ -8,15 +8,15 @@ use Prim.Native.Nat.{ℕ, zero, suc, _+_, _≤_, _<_}
 use native.Mathlib.Nat.{add-zero}
 use native.Mathlib.Omega.{arith}
 use lib.ListN.{length}
-use lib.Dec.{eqb, ltb, leb}
-use borrow.Author.Tests.{ltb-true, ltb-false, eqb-true, ne-eqb, not-true, not-false}
+use lib.Dec.{eqb, ltb}
+use borrow.Author.Tests.{ltb-true, ltb-false, not-true, not-false}
 use Rattle.oat.specs.Basics.{pick, allBelow}
-use Rattle.oat.specs.Tables.{Tables, TypeRecord, typeAt, entryAt}
-use Rattle.oat.specs.TypeRules.{kindAt, isReferenceKind, isLowerValue, unusedBC, baseRule, arrayRule, nullableRule, typeRule, eachTypeRight, typesRight}
+use Rattle.oat.specs.Tables.{Tables, typeAt, entryAt}
+use Rattle.oat.specs.TypeRules.{kindAt}
 use Rattle.oat.specs.Types.{Ty, int, bool, string, void, struct, array, function, nullable, Tys, writtenParams, written, typeOf}
 use Rattle.oat.specs.Decide.{kindOf, sameTy, sameTys}
-use Rattle.oat.proofs.LawsBasics.{and-parts, and-left, and-right, all-at}
-use Rattle.oat.proofs.LawsSame.{same-sound, same-refl}
+use Rattle.oat.proofs.LawsBasics.{and-left, and-right}
+use Rattle.oat.proofs.LawsSame.{same-sound}
 use Rattle.oat.proofs.LawsTypes.{LowerValue, FunctionType, NullableType, TypesFormed, types-formed}
 use Rattle.oat.proofs.LawsWritten.{type-struct, type-array, type-function, type-nullable}
 use Rattle.file_sections.specs.declared.Sections.{Sections}
@@ -76,24 +76,25 @@ kind-picked (suc (suc (suc (suc (suc (suc zero)))))) x t ts h = refl
 kind-picked (suc (suc (suc (suc (suc (suc (suc zero))))))) x t ts h = refl
 kind-picked (suc (suc (suc (suc (suc (suc (suc (suc k)))))))) x t ts h = absurd (omega arith)
 
--- an array or nullable type has no operand c
-rule-unused : (T : Tables) (i : ℕ) (r : TypeRecord) → (r .kind ≡ 5) ⊎ (r .kind ≡ 7) → typeRule T i r ≡ true → r .c ≡ 0
-unfolding typeRule baseRule arrayRule nullableRule unusedBC
-rule-unused T i r d e =
-    let unused = go (ltb i 4) _ e (λ z. ⊎-elim
-    (λ k. and-parts (isLowerValue T i (r .a)) (unusedBC r) (rw k at z) .1)
-    (λ k. and-parts (ltb (r .a) i && isReferenceKind (kindAt T (r .a))) (unusedBC r) (rw k at z) .1)
-    d) in
-    eqb-true (r .c) 0 (and-parts (eqb (r .b) 0) (eqb (r .c) 0) unused .1)
-  where
-    go : (b x : Bool) → pick b (baseRule i r) x ≡ true → (x ≡ true → unusedBC r ≡ true) → unusedBC r ≡ true
-    go true x f later = and-parts (eqb (r .kind) i && eqb (r .a) 0) (unusedBC r) f .1
-    go false x f later = later f
+-- a type of a kind below 4
+pub on-base : (P : Ty → Type 0) → P int → P bool → P string → P void → (t : Ty) → kindOf t < 4 → P t
+on-base P i b s v int h = i
+on-base P i b s v bool h = b
+on-base P i b s v string h = s
+on-base P i b s v void h = v
+on-base P i b s v (struct x) h = absurd (omega arith)
+on-base P i b s v (array t) h = absurd (omega arith)
+on-base P i b s v (function ts t) h = absurd (omega arith)
+on-base P i b s v (nullable t) h = absurd (omega arith)
 
 -- what the rules say of the type i
 module _ (s : List ℕ) (S : Sections) (R : GoodTables s S) where
   kept : TypesFormed 200 (tablesOf s S)
   kept = types-formed 200 (tablesOf s S) (R .types)
+
+  -- a base type's number is its kind
+  pub base-own : (i : ℕ) → i < 4 → kindAt (tablesOf s S) i ≡ i
+  base-own = kept .base
 
   module _ (i : ℕ) (h : i < S .types) where
     there : i < length (tablesOf s S .types)
@@ -108,14 +109,7 @@ module _ (s : List ℕ) (S : Sections) (R : GoodTables s S) where
     pub nullable-kept : kindAt (tablesOf s S) i ≡ 7 → NullableType (tablesOf s S) i
     nullable-kept = kept .nullable i there
 
-    pub unused-kept : (kindAt (tablesOf s S) i ≡ 5) ⊎ (kindAt (tablesOf s S) i ≡ 7) → typeAt (tablesOf s S) i .c ≡ 0
-    unfolding typesRight eachTypeRight
-    unused-kept d =
-        let each = and-parts (leb 4 (length (tablesOf s S .types))) (eachTypeRight 200 (tablesOf s S)) (R .types) .1 in
-        let rule = all-at _ _ (and-parts _ _ each .0) i there in
-        rule-unused (tablesOf s S) i (typeAt (tablesOf s S) i) d (and-parts _ _ rule .0)
-
-    pub kind-most : kindAt (tablesOf s S) i ≤ 7
+    kind-most : kindAt (tablesOf s S) i ≤ 7
     kind-most = go (ltb i 4) refl
       where
         go : (b : Bool) → ltb i 4 ≡ b → kindAt (tablesOf s S) i ≤ 7
@@ -126,10 +120,25 @@ module _ (s : List ℕ) (S : Sections) (R : GoodTables s S) where
     unfolding typeOf written
     kind-is = kind-picked (kindAt (tablesOf s S) i) _ _ _ kind-most
 
--- a type that refers to nothing
-pub plain : (T : Tables) (i k : ℕ) → k ≡ kindAt T i → (k ≡ 4 → ⊥) → ((k ≡ 5) ⊎ (k ≡ 7) → ⊥) → (k ≡ 6 → ⊥) → typeOf T i ≡ pick (eqb k 0) int (pick (eqb k 1) bool (pick (eqb k 2) string void))
-unfolding typeOf written
-plain T i k e n o m = rw (← e, ne-eqb k 4 n, ne-eqb k 5 (λ x. o (inl x)), ne-eqb k 6 m, ne-eqb k 7 (λ x. o (inr x)))
+    -- a type of no other kind is a base type
+    pub base-kept : (k : ℕ) → k ≡ kindAt (tablesOf s S) i → (k ≡ 4 → ⊥) → ((k ≡ 5) ⊎ (k ≡ 7) → ⊥) → (k ≡ 6 → ⊥) → i < 4
+    base-kept k ek n o m = go (ltb i 4) refl
+      where
+        go : (b : Bool) → ltb i 4 ≡ b → i < 4
+        go true e = ltb-true i 4 e
+        go false e =
+            let (least, most) = kept .later i (ltb-false i 4 e) there in
+            let not-five : k ≡ 5 → ⊥ = λ x. o (inl x) in
+            let not-seven : k ≡ 7 → ⊥ = λ x. o (inr x) in
+            absurd (omega arith)
+
+-- the kind of a type, as read
+pub kind-read : (s : List ℕ) (S : Sections) (i j k : ℕ) → j ≡ kindAt (tablesOf s S) i → j ≡ k → kindAt (tablesOf s S) i ≡ k
+kind-read s S i j k ej e = sym ej ∙ e
+
+-- the kind of an array or nullable type
+pub holder-most : {k : ℕ} → (k ≡ 5) ⊎ (k ≡ 7) → k ≤ 7
+holder-most d = ⊎-elim (λ e. omega arith) (λ e. omega arith) d
 
 -- two types by their kinds
 different : (t u : Ty) → (kindOf t ≡ kindOf u → ⊥) → sameTy t u ≡ false
@@ -139,37 +148,31 @@ different t u h = go (sameTy t u) refl
     go true e = absurd (h (ap kindOf (same-sound t u e)))
     go false e = refl
 
-module _ (s : List ℕ) (S : Sections) (a b : ℕ) where
-  pub kinds-differ : (j k : ℕ) → GoodTables s S → a < b → b < S .types → j ≡ kindAt (tablesOf s S) a → k ≡ kindAt (tablesOf s S) b → (j ≡ k → ⊥) → false ≡ sameTy (typeOf (tablesOf s S) a) (typeOf (tablesOf s S) b)
-  kinds-differ j k R l h ej ek n =
+module _ (s : List ℕ) (S : Sections) (a b j k : ℕ) (R : GoodTables s S) (l : a < b) (h : b < S .types) (ej : j ≡ kindAt (tablesOf s S) a) (ek : kindAt (tablesOf s S) b ≡ k) where
+  pub kinds-differ : (j ≡ k → ⊥) → false ≡ sameTy (typeOf (tablesOf s S) a) (typeOf (tablesOf s S) b)
+  kinds-differ n =
       sym (different _ _ (λ e. n (omega (arith, e, kind-is s S R a (omega arith), kind-is s S R b h))))
 
-  module _ (j k : ℕ) (ej : j ≡ kindAt (tablesOf s S) a) (ek : k ≡ kindAt (tablesOf s S) b) (e : j ≡ k) where
-    pub same-plain : (j ≡ 4 → ⊥) → ((j ≡ 5) ⊎ (j ≡ 7) → ⊥) → (j ≡ 6 → ⊥) → true ≡ sameTy (typeOf (tablesOf s S) a) (typeOf (tablesOf s S) b)
-    same-plain n o m =
-        rw (plain (tablesOf s S) a j ej n o m, plain (tablesOf s S) b j (e ∙ ek) n o m) (sym (same-refl _))
+  pub same-struct : (x y : ℕ) → j ≡ k → k ≡ 4 → x ≡ typeAt (tablesOf s S) a .a → y ≡ typeAt (tablesOf s S) b .a → eqb x y ≡ sameTy (typeOf (tablesOf s S) a) (typeOf (tablesOf s S) b)
+  unfolding sameTy
+  same-struct x y e f ex ey =
+      rw (type-struct (tablesOf s S) a (omega arith), type-struct (tablesOf s S) b (omega arith)) (ap₂ eqb ex ey)
 
-    pub same-struct : (x y : ℕ) → j ≡ 4 → x ≡ typeAt (tablesOf s S) a .a → y ≡ typeAt (tablesOf s S) b .a → eqb x y ≡ sameTy (typeOf (tablesOf s S) a) (typeOf (tablesOf s S) b)
-    unfolding sameTy
-    same-struct x y h ex ey =
-        rw (type-struct (tablesOf s S) a (omega arith), type-struct (tablesOf s S) b (omega arith)) (ap₂ eqb ex ey)
+  pub same-holder : (index : List ℕ) (r : Bool) → Indexed index (tablesOf s S) b → j ≡ k → (k ≡ 5) ⊎ (k ≡ 7) → r ≡ eqb (lowestEntry index (typeAt (tablesOf s S) a .a)) (lowestEntry index (typeAt (tablesOf s S) b .a)) → r ≡ sameTy (typeOf (tablesOf s S) a) (typeOf (tablesOf s S) b)
+  unfolding sameTy
+  same-holder index r I e d er = ⊎-elim of-array of-nullable d
+    where
+      of-array : k ≡ 5 → r ≡ sameTy (typeOf (tablesOf s S) a) (typeOf (tablesOf s S) b)
+      of-array f =
+          let p = array-kept s S R a (omega arith) (omega arith) .lower in
+          let q = array-kept s S R b h (omega arith) .lower in
+          rw (type-array (tablesOf s S) a (omega arith) p, type-array (tablesOf s S) b (omega arith) q) (er ∙ entries-same I _ _ (omega arith) q)
 
-    module _ (index : List ℕ) (R : GoodTables s S) (l : a < b) (h : b < S .types) (I : Indexed index (tablesOf s S) b) where
-      pub same-referred : (r : Bool) → (j ≡ 5) ⊎ (j ≡ 7) → r ≡ eqb (lowestEntry index (typeAt (tablesOf s S) a .a)) (lowestEntry index (typeAt (tablesOf s S) b .a)) → r ≡ sameTy (typeOf (tablesOf s S) a) (typeOf (tablesOf s S) b)
-      unfolding sameTy
-      same-referred r d er = ⊎-elim of-array of-nullable d
-        where
-          of-array : j ≡ 5 → r ≡ sameTy (typeOf (tablesOf s S) a) (typeOf (tablesOf s S) b)
-          of-array f =
-              let p = array-kept s S R a (omega arith) (omega arith) .lower in
-              let q = array-kept s S R b h (omega arith) .lower in
-              rw (type-array (tablesOf s S) a (omega arith) p, type-array (tablesOf s S) b (omega arith) q) (er ∙ entries-same I _ _ (omega arith) q)
-
-          of-nullable : j ≡ 7 → r ≡ sameTy (typeOf (tablesOf s S) a) (typeOf (tablesOf s S) b)
-          of-nullable f =
-              let p = nullable-kept s S R a (omega arith) (omega arith) .lower in
-              let q = nullable-kept s S R b h (omega arith) .lower in
-              rw (type-nullable (tablesOf s S) a (omega arith) p, type-nullable (tablesOf s S) b (omega arith) q) (er ∙ entries-same I _ _ (omega arith) q)
+      of-nullable : k ≡ 7 → r ≡ sameTy (typeOf (tablesOf s S) a) (typeOf (tablesOf s S) b)
+      of-nullable f =
+          let p = nullable-kept s S R a (omega arith) (omega arith) .lower in
+          let q = nullable-kept s S R b h (omega arith) .lower in
+          rw (type-nullable (tablesOf s S) a (omega arith) p, type-nullable (tablesOf s S) b (omega arith) q) (er ∙ entries-same I _ _ (omega arith) q)
 
 -- a loop over parameters
 module _ (index : List ℕ) (T : Tables) (p q : ℕ) where
@@ -203,13 +206,13 @@ unfolding sameParams
 params-same index T i p q count I f g = all-same count _ _ (λ j h. entries-same I _ _ (f j h) (g j h)) ∙ sym (sames-written T count p q)
 
 -- what a type refers to is lower
-module _ (s : List ℕ) (S : Sections) (i : ℕ) (R : GoodTables s S) (h : i < S .types) where
-  referred-lower : (k a : ℕ) → k ≡ kindAt (tablesOf s S) i → (k ≡ 5) ⊎ (k ≡ 7) → a ≡ typeAt (tablesOf s S) i .a → a < i
-  referred-lower k a ek d ea =
+module _ (s : List ℕ) (S : Sections) (i a : ℕ) (R : GoodTables s S) (h : i < S .types) (ea : a ≡ typeAt (tablesOf s S) i .a) where
+  pub holder-lower : (k : ℕ) → kindAt (tablesOf s S) i ≡ k → (k ≡ 5) ⊎ (k ≡ 7) → a < i
+  holder-lower k ek d =
       ⊎-elim (λ e. omega (arith, array-kept s S R i h (omega arith) .lower)) (λ e. omega (arith, nullable-kept s S R i h (omega arith) .lower)) d
 
-  returns-lower : (a : ℕ) → kindAt (tablesOf s S) i ≡ 6 → a ≡ typeAt (tablesOf s S) i .a → a < i
-  returns-lower a k ea = omega (arith, function-kept s S R i h k .returns)
+  pub returns-lower : kindAt (tablesOf s S) i ≡ 6 → a < i
+  returns-lower k = omega (arith, function-kept s S R i h k .returns)
 
 -- a lower type than one of the file is of the file
 pub lower-there : (a b n : ℕ) → b < n → a < b → a < n
@@ -243,24 +246,17 @@ module _ (s : List ℕ) (S : Sections) (i first count : ℕ) where
 -- the index has places for the entries of what a type refers to
 module _ (s : List ℕ) (S : Sections) (index : List ℕ) (i : ℕ) (R : GoodTables s S) (h : i < S .types) (long : 1536 ≤ length index) where
   module _ (x : ℕ) (ex : x ≡ typeAt (tablesOf s S) i .a) where
-    pub referred-entered : (k : ℕ) → k ≡ kindAt (tablesOf s S) i → (k ≡ 5) ⊎ (k ≡ 7) → Entered index x
-    referred-entered k ek d = record { low = omega (arith, referred-lower s S i R h k x ek d ex, R .laid .types-most); long = long }
+    pub held-entered : (k : ℕ) → kindAt (tablesOf s S) i ≡ k → (k ≡ 5) ⊎ (k ≡ 7) → Entered index x
+    held-entered k ek d = record { low = omega (arith, holder-lower s S i x R h ex k ek d, R .laid .types-most); long = long }
 
     pub returns-entered : kindAt (tablesOf s S) i ≡ 6 → Entered index x
-    returns-entered k = record { low = omega (arith, returns-lower s S i R h x k ex, R .laid .types-most); long = long }
+    returns-entered k = record { low = omega (arith, returns-lower s S i x R h ex k, R .laid .types-most); long = long }
 
-  referred-in : (k : ℕ) → k ≡ kindAt (tablesOf s S) i → (k ≡ 5) ⊎ (k ≡ 7) → Operand s S index i
-  referred-in k ek d = record { there = h; entered = referred-entered _ refl k ek d }
-
-  pub referred-as : (j k : ℕ) → k ≡ kindAt (tablesOf s S) i → j ≡ k → (j ≡ 5) ⊎ (j ≡ 7) → Operand s S index i
-  referred-as j k ek e = referred-in j (e ∙ ek)
+  pub held-in : (k : ℕ) → kindAt (tablesOf s S) i ≡ k → (k ≡ 5) ⊎ (k ≡ 7) → Operand s S index i
+  held-in k ek d = record { there = h; entered = held-entered _ refl k ek d }
 
   pub returns-in : kindAt (tablesOf s S) i ≡ 6 → Operand s S index i
   returns-in k = record { there = h; entered = returns-entered _ refl k }
-
--- a lower one of two types
-pub low-referred-in : (s : List ℕ) (S : Sections) (index : List ℕ) (a b k : ℕ) → GoodTables s S → b < S .types → 1536 ≤ length index → k ≡ kindAt (tablesOf s S) a → (k ≡ 5) ⊎ (k ≡ 7) → a < b → Operand s S index a
-low-referred-in s S index a b k R h long ek d l = referred-in s S index a R (omega arith) long k ek d
 
 -- equal operands, as the index has it
 pub operands-from : (index : List ℕ) (p q m n : ℕ) (u : Bool) → m ≡ p → n ≡ q → u ≡ eqb (lowestEntry index m) (lowestEntry index n) → u ≡ eqb (lowestEntry index p) (lowestEntry index q)

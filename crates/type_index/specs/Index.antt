@@ -6,12 +6,12 @@ use mathlib.Core.Path.{_≡_}
 use mathlib.Core.Bool.{Bool}
 use mathlib.Core.List.{List}
 use Prim.Native.Nat.{ℕ, zero, suc, _+_, _*_, _%_, _≤_, _<_}
-use lib.ListN.{length, getD}
-use lib.Dec.{eqb, ltb}
+use lib.ListN.{length, getD, set}
+use lib.Dec.{eqb}
 use Rattle.oat.specs.Basics.{pick, allBelow}
 use Rattle.oat.specs.Tables.{Tables, typeAt, entryAt, structAt}
 use Rattle.oat.specs.TypeRules.{kindAt}
-use Rattle.oat.specs.Types.{Struct, typeOf, structsOf}
+use Rattle.oat.specs.Types.{Ty, int, bool, string, void, struct, array, function, nullable, Tys, noTy, andTy, Struct, typeOf, structsOf}
 use Rattle.oat.specs.Decide.{sameTy, isFormed}
 use Rattle.chains.specs.Chains.{Chains}
 use Rattle.file_sections.specs.declared.Sections.{Sections}
@@ -57,18 +57,44 @@ pub record Indexed (index : List ℕ) (T : Tables) (n : ℕ) : Type 0 where
   pub named : (i : ℕ) → i < n → structEntry index i ≡ structNamed T i
   pub formed : (i : ℕ) → i < n → formedEntry index i ≡ isFormed (declared T) (typeOf T i)
 
--- the chain of the type i, below 64: a base type's by its kind, a struct's by its name, any other type's by its kind, its operand c,
--- which is a function type's number of parameters, and the first type equal to its operand a
+-- the first type equal to t, or the number of types
+unfoldable pub firstEqual : Tables → Ty → ℕ
+firstEqual T t = firstBelow (length (T .types)) (λ i. sameTy (typeOf T i) t)
+
+-- how many types a list has
+unfoldable pub countOf : Tys → ℕ
+countOf noTy = 0
+countOf (andTy t ts) = suc (countOf ts)
+
+-- the chain of a type, below 64: a base type's by its kind, a struct's by its name, any other type's by its kind and the first type
+-- equal to the element, the reference or the return type, a function type's by its number of parameters too
+unfoldable pub chainOf : Tables → Ty → ℕ
+chainOf T int = 0
+chainOf T bool = 1
+chainOf T string = 2
+chainOf T void = 3
+chainOf T (struct x) = x % 64
+chainOf T (array t) = (firstEqual T t + 5) % 64
+chainOf T (function ts t) = (firstEqual T t + 6 + countOf ts * 8) % 64
+chainOf T (nullable t) = (firstEqual T t + 7) % 64
+
+-- that of the type i
 unfoldable pub bucketOf : Tables → ℕ → ℕ
-bucketOf T i =
-    pick (ltb (kindAt T i) 4) (kindAt T i)
-    (pick (eqb (kindAt T i) 4) (typeAt T i .a % 64)
-    ((firstBelow (typeAt T i .a) (λ k. sameTy (typeOf T k) (typeOf T (typeAt T i .a))) + kindAt T i + typeAt T i .c * 8) % 64))
+bucketOf T i = chainOf T (typeOf T i)
 
 -- the chains lead through the first n types
 pub record Chained (index : List ℕ) (T : Tables) (n : ℕ) : Type 0 where
   pub long : 2112 ≤ length index
   pub chains : Chains 2048 64 1536 (bucketOf T) index n
+
+-- an index, with the type i put first in its chain
+abbrev pub linking : List ℕ → ℕ → ℕ → List ℕ
+linking index i bucket = set (set index (1536 + i) (getD index (2048 + bucket) 0)) (2048 + bucket) (i + 1)
+
+-- the same, with the three entries of the type i too
+unfoldable pub entering : List ℕ → ℕ → ℕ → ℕ → Bool → ℕ → List ℕ
+entering index i lowest named formed bucket =
+    linking (set (set (set index i lowest) (512 + i) named) (1024 + i) (pick formed 1 0)) i bucket
 
 -- the first n chains are empty
 pub record Cleared (index : List ℕ) (n : ℕ) : Type 0 where

@@ -1,33 +1,19 @@
 // Well-formed types. The entry 512 + i of the index is the first record of the struct that the type i names, or the number of
 // structs; the entry 1024 + i is 1 where the type i is well-formed, else 0.
 use crate::entries::entry;
-use crate::records::record_of;
 use file_sections::Sections;
 use file_sections::records::list_entry;
 use file_sections::records::type_a;
 use file_sections::records::type_b;
 use file_sections::records::type_c;
-use file_sections::records::type_kind;
 ghost use mathlib.Core.Path.{_≡_};
 ghost use Prim.Native.Nat.{_<_, _≤_};
 ghost use lib.ListN.{length};
 ghost use Rattle.oat.specs.TypeRules.{kindAt};
 ghost use Rattle.oat.specs.Types.{typeOf};
 ghost use Rattle.oat.specs.Decide.{isFormed};
-ghost use Rattle.file_sections.specs.Layout.{Has, tablesOf, GoodTables};
-ghost use Rattle.type_index.specs.Index.{declared, structNamed, structEntry, formedEntry, paramsFormed, Entered, Indexed, Listed};
-ghost use Rattle.type_index.specs.Records.{Recorded};
-
-// The first record of the struct that the type i names, or the number of structs.
-pub fn struct_of(file: &[u8], sections: Sections, records: &[u16], i: usize) -> usize
-    requires { ⌜ Has (now file) sections i (sections .types) × Recorded (now records) (tablesOf (now file) sections) (sections .structs) ⌝ }
-    ensures { λ r. ⌜ r ≡ structNamed (tablesOf (now (file .entry)) sections) i ⌝ }
-{
-    if type_kind(file, sections, i) == 4 {
-        return record_of(file, sections, records, type_a(file, sections, i));
-    }
-    sections.structs
-}
+ghost use Rattle.file_sections.specs.Layout.{tablesOf, GoodTables};
+ghost use Rattle.type_index.specs.Index.{declared, structEntry, formedEntry, paramsFormed, Entered, Indexed, Listed};
 
 // What the index has for the struct that the type i names: where i is indexed, its first record, or the number of structs.
 pub fn struct_record(index: &[u16], i: usize) -> usize
@@ -61,7 +47,7 @@ fn params_formed(file: &[u8], sections: Sections, index: &[u16], first: usize, c
 }
 
 // The function type i is well-formed, where lower types are indexed.
-fn function_formed(file: &[u8], sections: Sections, index: &[u16], i: usize) -> bool
+pub fn function_formed(file: &[u8], sections: Sections, index: &[u16], i: usize) -> bool
     requires { ⌜ GoodTables (now file) sections × (i < sections .types) × Indexed (now index) (tablesOf (now file) sections) i ⌝ }
     requires { ⌜ kindAt (tablesOf (now file) sections) i ≡ 6 ⌝ }
     ensures { λ r. ⌜ r ≡ isFormed (declared (tablesOf (now (file .entry)) sections)) (typeOf (tablesOf (now (file .entry)) sections) i) ⌝ }
@@ -76,23 +62,4 @@ fn function_formed(file: &[u8], sections: Sections, index: &[u16], i: usize) -> 
         return false;
     }
     is_formed(index, type_a(file, sections, i))
-}
-
-// The type i is well-formed, where lower types are indexed and the struct that it names is declared at `declared_at`.
-pub fn formed_lower(
-    file: &[u8],
-    sections: Sections,
-    index: &[u16],
-    i: usize,
-    declared_at: usize,
-) -> bool
-    requires { ⌜ GoodTables (now file) sections × (i < sections .types) × Indexed (now index) (tablesOf (now file) sections) i × («declared_at» ≡ structNamed (tablesOf (now file) sections) i) ⌝ }
-    ensures { λ r. ⌜ r ≡ isFormed (declared (tablesOf (now (file .entry)) sections)) (typeOf (tablesOf (now (file .entry)) sections) i) ⌝ }
-{
-    match type_kind(file, sections, i) {
-        4 => declared_at < sections.structs,
-        5 | 7 => is_formed(index, type_a(file, sections, i)),
-        6 => function_formed(file, sections, index, i),
-        _ => true,
-    }
 }

@@ -1,18 +1,26 @@
 // The index of a file's types: four numbers for each type i, at i, 512 + i, 1024 + i and 1536 + i, and from 2048 on the heads of 64
 // chains. A chain leads from its head through the types of one bucket, the latest first: the head, and the number 1536 + j of each type
 // j on it, is one higher than the type that it leads to, 0 for none.
-use crate::formed::formed_lower;
-use crate::formed::struct_of;
+use crate::entries::entry;
+use crate::formed::function_formed;
+use crate::formed::is_formed;
 use crate::records::chain_records;
-use crate::same::bucket;
-use crate::same::lowest;
+use crate::records::record_of;
+use crate::same::function_bucket;
+use crate::same::lowest_function;
+use crate::same::lowest_holder;
+use crate::same::lowest_struct;
 use file_sections::Sections;
+use file_sections::records::type_a;
+use file_sections::records::type_kind;
 ghost use mathlib.Core.Path.{_≡_};
+ghost use mathlib.Core.Logic.{_⊎_};
 ghost use Prim.Native.Nat.{_+_, _<_, _≤_};
-ghost use lib.ListN.{length, getD, set};
+ghost use lib.ListN.{length};
 ghost use Rattle.oat.specs.Basics.{pick};
+ghost use Rattle.oat.specs.TypeRules.{kindAt};
 ghost use Rattle.file_sections.specs.Layout.{tablesOf, GoodTables};
-ghost use Rattle.type_index.specs.Index.{Chained, Cleared, Indexed};
+ghost use Rattle.type_index.specs.Index.{linking, entering, Chained, Cleared, Indexed};
 ghost use Rattle.type_index.specs.Records.{Recorded};
 
 // 1 where the test passes, else 0.
@@ -28,12 +36,70 @@ fn mark(test: bool) -> u16
 // Puts the type i first in its chain.
 fn link(index: &mut [u16], i: usize, bucket: usize)
     requires { ⌜ (2112 ≤ length (now index)) × (i < 512) × (bucket < 64) ⌝ }
-    ensures { λ _. ⌜ now (index .exit) ≡ set (set (now (index .entry)) (1536 + i) (getD (now (index .entry)) (2048 + bucket) 0)) (2048 + bucket) (i + 1) ⌝ }
+    ensures { λ _. ⌜ now (index .exit) ≡ linking (now (index .entry)) i bucket ⌝ }
 {
     chains::link(index, 2048 + bucket, 1536 + i, i + 1);
 }
 
-// The entries of the type i and its place in its chain, where lower types are indexed and the struct records are chained.
+// Stores the three entries of the type i and puts it first in its chain.
+fn enter(index: &mut [u16], i: usize, lowest: usize, named: usize, formed: bool, bucket: usize)
+    requires { ⌜ (2112 ≤ length (now index)) × (i < 512) × (lowest < 65536) × (named < 65536) × (bucket < 64) ⌝ }
+    ensures { λ _. ⌜ now (index .exit) ≡ entering (now (index .entry)) i lowest named formed bucket ⌝ }
+{
+    index[i] = lowest as u16;
+    index[512 + i] = named as u16;
+    index[1024 + i] = mark(formed);
+    link(index, i, bucket);
+}
+
+// The entries of the struct type i and its place in its chain, where lower types are indexed and the struct records are chained.
+fn index_struct(file: &[u8], sections: Sections, records: &[u16], index: &mut [u16], i: usize)
+    requires { ⌜ Recorded (now records) (tablesOf (now file) sections) (sections .structs) ⌝ }
+    requires { ⌜ GoodTables (now file) sections × (i < sections .types) × Indexed (now index) (tablesOf (now file) sections) i ⌝ }
+    requires { ⌜ Chained (now index) (tablesOf (now file) sections) i ⌝ }
+    requires { ⌜ kindAt (tablesOf (now file) sections) i ≡ 4 ⌝ }
+    ensures { λ _. ⌜ Indexed (now (index .exit)) (tablesOf (now (file .entry)) sections) (i + 1) ⌝ }
+    ensures { λ _. ⌜ Chained (now (index .exit)) (tablesOf (now (file .entry)) sections) (i + 1) ⌝ }
+{
+    let name = type_a(file, sections, i);
+    let bucket = name % 64;
+    let lowest = lowest_struct(file, sections, &*index, i, bucket);
+    let named = record_of(file, sections, records, name);
+    enter(index, i, lowest, named, named < sections.structs, bucket);
+}
+
+// The entries of the array or nullable type i, of this kind, and its place in its chain, where lower types are indexed.
+fn index_holder(file: &[u8], sections: Sections, index: &mut [u16], i: usize, kind: usize)
+    requires { ⌜ GoodTables (now file) sections × (i < sections .types) × Indexed (now index) (tablesOf (now file) sections) i ⌝ }
+    requires { ⌜ Chained (now index) (tablesOf (now file) sections) i ⌝ }
+    requires { ⌜ (kindAt (tablesOf (now file) sections) i ≡ kind) × ((kind ≡ 5) ⊎ (kind ≡ 7)) ⌝ }
+    ensures { λ _. ⌜ Indexed (now (index .exit)) (tablesOf (now (file .entry)) sections) (i + 1) ⌝ }
+    ensures { λ _. ⌜ Chained (now (index .exit)) (tablesOf (now (file .entry)) sections) (i + 1) ⌝ }
+{
+    let a = type_a(file, sections, i);
+    let first = entry(&*index, a);
+    let bucket = (first + kind) % 64;
+    let lowest = lowest_holder(file, sections, &*index, i, kind, bucket);
+    let formed = is_formed(&*index, a);
+    enter(index, i, lowest, sections.structs, formed, bucket);
+}
+
+// The entries of the function type i and its place in its chain, where lower types are indexed.
+fn index_function(file: &[u8], sections: Sections, index: &mut [u16], i: usize)
+    requires { ⌜ GoodTables (now file) sections × (i < sections .types) × Indexed (now index) (tablesOf (now file) sections) i ⌝ }
+    requires { ⌜ Chained (now index) (tablesOf (now file) sections) i ⌝ }
+    requires { ⌜ kindAt (tablesOf (now file) sections) i ≡ 6 ⌝ }
+    ensures { λ _. ⌜ Indexed (now (index .exit)) (tablesOf (now (file .entry)) sections) (i + 1) ⌝ }
+    ensures { λ _. ⌜ Chained (now (index .exit)) (tablesOf (now (file .entry)) sections) (i + 1) ⌝ }
+{
+    let bucket = function_bucket(file, sections, &*index, i);
+    let lowest = lowest_function(file, sections, &*index, i, bucket);
+    let formed = function_formed(file, sections, &*index, i);
+    enter(index, i, lowest, sections.structs, formed, bucket);
+}
+
+// The entries of the type i and its place in its chain, where lower types are indexed and the struct records are chained. A base type
+// is the first of its kind, and its bucket is its kind.
 fn index_one(file: &[u8], sections: Sections, records: &[u16], index: &mut [u16], i: usize)
     requires { ⌜ Recorded (now records) (tablesOf (now file) sections) (sections .structs) ⌝ }
     requires { ⌜ GoodTables (now file) sections × (i < sections .types) × Indexed (now index) (tablesOf (now file) sections) i ⌝ }
@@ -41,14 +107,13 @@ fn index_one(file: &[u8], sections: Sections, records: &[u16], index: &mut [u16]
     ensures { λ _. ⌜ Indexed (now (index .exit)) (tablesOf (now (file .entry)) sections) (i + 1) ⌝ }
     ensures { λ _. ⌜ Chained (now (index .exit)) (tablesOf (now (file .entry)) sections) (i + 1) ⌝ }
 {
-    let chain = bucket(file, sections, &*index, i);
-    let equal = lowest(file, sections, &*index, i, chain);
-    let record = struct_of(file, sections, records, i);
-    let formed = formed_lower(file, sections, &*index, i, record);
-    index[i] = equal as u16;
-    index[512 + i] = record as u16;
-    index[1024 + i] = mark(formed);
-    link(index, i, chain);
+    let kind = type_kind(file, sections, i);
+    match kind {
+        4 => index_struct(file, sections, records, index, i),
+        5 | 7 => index_holder(file, sections, index, i, kind),
+        6 => index_function(file, sections, index, i),
+        _ => enter(index, i, i, sections.structs, true, kind),
+    }
 }
 
 // Empties the chains.

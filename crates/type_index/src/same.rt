@@ -1,5 +1,6 @@
 // Equal types under their lowest number. The entry i of the index is the lowest number of a type equal to the type i. It is found by a
-// walk along a chain, from the head at 2048 + bucket over the links at 1536 + j, since equal types have equal buckets.
+// walk along a chain, from the head at 2048 + bucket over the links at 1536 + j, since equal types have equal buckets: one walk for
+// struct types, one for holders, which are array and nullable types, and one for function types.
 use crate::entries::entry;
 use file_sections::Sections;
 use file_sections::records::list_entry;
@@ -8,6 +9,7 @@ use file_sections::records::type_b;
 use file_sections::records::type_c;
 use file_sections::records::type_kind;
 ghost use mathlib.Core.Path.{_≡_};
+ghost use mathlib.Core.Logic.{_⊎_};
 ghost use Prim.Native.Nat.{_<_, _≤_};
 ghost use lib.Dec.{eqb};
 ghost use lib.ListN.{length};
@@ -78,7 +80,7 @@ fn same_operands(file: &[u8], sections: Sections, index: &[u16], a: usize, b: us
 }
 
 // Two function types are equal, where lower types are indexed.
-fn same_function(file: &[u8], sections: Sections, index: &[u16], a: usize, b: usize) -> bool
+fn same_signatures(file: &[u8], sections: Sections, index: &[u16], a: usize, b: usize) -> bool
     requires { ⌜ GoodTables (now file) sections × (a < b) × (b < sections .types) × Indexed (now index) (tablesOf (now file) sections) b ⌝ }
     requires { ⌜ (kindAt (tablesOf (now file) sections) a ≡ 6) × (kindAt (tablesOf (now file) sections) b ≡ 6) ⌝ }
     ensures { λ r. ⌜ r ≡ sameTy (typeOf (tablesOf (now (file .entry)) sections) a) (typeOf (tablesOf (now (file .entry)) sections) b) ⌝ }
@@ -93,52 +95,125 @@ fn same_function(file: &[u8], sections: Sections, index: &[u16], a: usize, b: us
     same_operands(file, sections, index, a, b)
 }
 
-// Two types are equal, where lower types are indexed.
-fn same_lower(file: &[u8], sections: Sections, index: &[u16], a: usize, b: usize) -> bool
-    requires { ⌜ GoodTables (now file) sections × (a < b) × (b < sections .types) × Indexed (now index) (tablesOf (now file) sections) b ⌝ }
+// Two types are equal, the second a struct type.
+fn same_struct(file: &[u8], sections: Sections, a: usize, b: usize) -> bool
+    requires { ⌜ GoodTables (now file) sections × (a < b) × (b < sections .types) ⌝ }
+    requires { ⌜ kindAt (tablesOf (now file) sections) b ≡ 4 ⌝ }
     ensures { λ r. ⌜ r ≡ sameTy (typeOf (tablesOf (now (file .entry)) sections) a) (typeOf (tablesOf (now (file .entry)) sections) b) ⌝ }
 {
-    let kind = type_kind(file, sections, a);
-    if kind != type_kind(file, sections, b) {
+    if type_kind(file, sections, a) != 4 {
         return false;
     }
-    match kind {
-        4 => type_a(file, sections, a) == type_a(file, sections, b),
-        5 | 7 => same_operands(file, sections, index, a, b),
-        6 => same_function(file, sections, index, a, b),
-        _ => true,
-    }
+    type_a(file, sections, a) == type_a(file, sections, b)
 }
 
-// The bucket of the type i, where lower types are indexed: equal types have equal buckets. The operand c is a function type's number
-// of parameters, and 0 in an array or nullable type.
-pub fn bucket(file: &[u8], sections: Sections, index: &[u16], i: usize) -> usize
-    requires { ⌜ GoodTables (now file) sections × (i < sections .types) × Indexed (now index) (tablesOf (now file) sections) i ⌝ }
-    ensures { λ r. ⌜ (r ≡ bucketOf (tablesOf (now (file .entry)) sections) i) × (r < 64) ⌝ }
+// Two types are equal, the second a holder of this kind, where lower types are indexed.
+fn same_holder(
+    file: &[u8],
+    sections: Sections,
+    index: &[u16],
+    a: usize,
+    b: usize,
+    kind: usize,
+) -> bool
+    requires { ⌜ GoodTables (now file) sections × (a < b) × (b < sections .types) × Indexed (now index) (tablesOf (now file) sections) b ⌝ }
+    requires { ⌜ (kindAt (tablesOf (now file) sections) b ≡ kind) × ((kind ≡ 5) ⊎ (kind ≡ 7)) ⌝ }
+    ensures { λ r. ⌜ r ≡ sameTy (typeOf (tablesOf (now (file .entry)) sections) a) (typeOf (tablesOf (now (file .entry)) sections) b) ⌝ }
 {
-    let kind = type_kind(file, sections, i);
-    if kind < 4 {
-        return kind;
+    if type_kind(file, sections, a) != kind {
+        return false;
     }
-    let a = type_a(file, sections, i);
-    if kind == 4 {
-        return a % 64;
-    }
-    let first = entry(index, a);
-    (first + kind + type_c(file, sections, i) * 8) % 64
+    same_operands(file, sections, index, a, b)
 }
 
-// The lowest number of a type equal to the type i, where lower types are indexed and chained, and i belongs to the bucket.
-pub fn lowest(file: &[u8], sections: Sections, index: &[u16], i: usize, bucket: usize) -> usize
+// Two types are equal, the second a function type, where lower types are indexed.
+fn same_function(file: &[u8], sections: Sections, index: &[u16], a: usize, b: usize) -> bool
+    requires { ⌜ GoodTables (now file) sections × (a < b) × (b < sections .types) × Indexed (now index) (tablesOf (now file) sections) b ⌝ }
+    requires { ⌜ kindAt (tablesOf (now file) sections) b ≡ 6 ⌝ }
+    ensures { λ r. ⌜ r ≡ sameTy (typeOf (tablesOf (now (file .entry)) sections) a) (typeOf (tablesOf (now (file .entry)) sections) b) ⌝ }
+{
+    if type_kind(file, sections, a) != 6 {
+        return false;
+    }
+    same_signatures(file, sections, index, a, b)
+}
+
+// The lowest number of a type equal to the struct type i, where lower types are indexed and chained, and i belongs to the bucket.
+pub fn lowest_struct(
+    file: &[u8],
+    sections: Sections,
+    index: &[u16],
+    i: usize,
+    bucket: usize,
+) -> usize
     requires { ⌜ GoodTables (now file) sections × (i < sections .types) × Indexed (now index) (tablesOf (now file) sections) i ⌝ }
-    requires { ⌜ Chained (now index) (tablesOf (now file) sections) i ⌝ }
-    requires { ⌜ (bucket ≡ bucketOf (tablesOf (now file) sections) i) × (bucket < 64) ⌝ }
+    requires { ⌜ Chained (now index) (tablesOf (now file) sections) i × (bucket ≡ bucketOf (tablesOf (now file) sections) i) × (bucket < 64) ⌝ }
+    requires { ⌜ kindAt (tablesOf (now file) sections) i ≡ 4 ⌝ }
     ensures { λ r. ⌜ r ≡ firstBelow i (λ j. sameTy (typeOf (tablesOf (now (file .entry)) sections) j) (typeOf (tablesOf (now (file .entry)) sections) i)) ⌝ }
 {
     let mut after = entry(index, 2048 + bucket);
     while 0 < after {
         let j = after - 1;
-        if same_lower(file, sections, index, j, i) {
+        if same_struct(file, sections, j, i) {
+            return entry(index, j);
+        }
+        after = entry(index, 1536 + j);
+    }
+    i
+}
+
+// The lowest number of a type equal to the holder i, of this kind, where lower types are indexed and chained, and i belongs to the bucket.
+pub fn lowest_holder(
+    file: &[u8],
+    sections: Sections,
+    index: &[u16],
+    i: usize,
+    kind: usize,
+    bucket: usize,
+) -> usize
+    requires { ⌜ GoodTables (now file) sections × (i < sections .types) × Indexed (now index) (tablesOf (now file) sections) i ⌝ }
+    requires { ⌜ Chained (now index) (tablesOf (now file) sections) i × (bucket ≡ bucketOf (tablesOf (now file) sections) i) × (bucket < 64) ⌝ }
+    requires { ⌜ (kindAt (tablesOf (now file) sections) i ≡ kind) × ((kind ≡ 5) ⊎ (kind ≡ 7)) ⌝ }
+    ensures { λ r. ⌜ r ≡ firstBelow i (λ j. sameTy (typeOf (tablesOf (now (file .entry)) sections) j) (typeOf (tablesOf (now (file .entry)) sections) i)) ⌝ }
+{
+    let mut after = entry(index, 2048 + bucket);
+    while 0 < after {
+        let j = after - 1;
+        if same_holder(file, sections, index, j, i, kind) {
+            return entry(index, j);
+        }
+        after = entry(index, 1536 + j);
+    }
+    i
+}
+
+// The bucket of the function type i, by its return type and its number of parameters, where lower types are indexed.
+pub fn function_bucket(file: &[u8], sections: Sections, index: &[u16], i: usize) -> usize
+    requires { ⌜ GoodTables (now file) sections × (i < sections .types) × Indexed (now index) (tablesOf (now file) sections) i ⌝ }
+    requires { ⌜ kindAt (tablesOf (now file) sections) i ≡ 6 ⌝ }
+    ensures { λ r. ⌜ (r ≡ bucketOf (tablesOf (now (file .entry)) sections) i) × (r < 64) ⌝ }
+{
+    let first = entry(index, type_a(file, sections, i));
+    (first + 6 + type_c(file, sections, i) * 8) % 64
+}
+
+// The lowest number of a type equal to the function type i, where lower types are indexed and chained, and i belongs to the bucket.
+pub fn lowest_function(
+    file: &[u8],
+    sections: Sections,
+    index: &[u16],
+    i: usize,
+    bucket: usize,
+) -> usize
+    requires { ⌜ GoodTables (now file) sections × (i < sections .types) × Indexed (now index) (tablesOf (now file) sections) i ⌝ }
+    requires { ⌜ Chained (now index) (tablesOf (now file) sections) i × (bucket ≡ bucketOf (tablesOf (now file) sections) i) × (bucket < 64) ⌝ }
+    requires { ⌜ kindAt (tablesOf (now file) sections) i ≡ 6 ⌝ }
+    ensures { λ r. ⌜ r ≡ firstBelow i (λ j. sameTy (typeOf (tablesOf (now (file .entry)) sections) j) (typeOf (tablesOf (now (file .entry)) sections) i)) ⌝ }
+{
+    let mut after = entry(index, 2048 + bucket);
+    while 0 < after {
+        let j = after - 1;
+        if same_function(file, sections, index, j, i) {
             return entry(index, j);
         }
         after = entry(index, 1536 + j);

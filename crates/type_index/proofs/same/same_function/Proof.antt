@@ -1,6 +1,6 @@
 -- `same::same_function` meets its contract. Assumes nothing.
 use borrow.Author.Needs.{needs}
-use Rattle.type_index.proofs.LawsSameTypes.{lower-there, parameters-in, as-many-in, returns-in, counts-apart, params-apart, function-rest}
+use Rattle.type_index.proofs.LawsSameTypes.{kind-read, kinds-differ}
 use Rattle.type_index.proofs.same.same_function.Statement.{statement}
 use Rattle.type_index.proofs.same.same_function.Tie as tie
 
@@ -9,9 +9,6 @@ same-function-spec =
     tie.close
     (tie.spec
     (λ c κs. search needs)
-    (λ c κs. search needs)
-    (λ c. search (counts-apart, needs))
-    (λ c κs. (search (parameters-in, lower-there, needs), search (as-many-in, needs), search needs))
-    (λ c. search (params-apart, needs))
-    (λ c κs. (search needs, search (returns-in, lower-there, needs), search (returns-in, needs)))
-    (λ c. search (function-rest, needs)))
+    (λ c. search (kinds-differ, needs))
+    (λ c κs. (search needs, (search (kind-read, needs), search needs)))
+    (λ c. search needs))
