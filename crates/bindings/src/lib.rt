@@ -13,6 +13,9 @@ ghost use lib.ListN.{length, getD, set};
 ghost use Rattle.file_sections.specs.Layout.{tablesOf};
 ghost use Rattle.bindings.specs.Bindings.{binderOf, typeBound, nameBound, Position, Scoped, Some, SomeFrom, Finds, Freshness, Assignability, Bindable, Bound};
 
+// The chains: 512 heads, and a link for each of 128 built-ins and 4,096 nodes.
+pub type Chains = [u16; 4736];
+
 // The position that binds a name.
 pub enum Found {
     At(usize),

@@ -18,6 +18,7 @@ use answers::leaves::operator_of;
 use answers::leaves::still_below;
 use answers::leaves::still_fits;
 use answers::leaves::unary_type;
+use bindings::Chains;
 use bindings::bind;
 use bindings::is_fresh;
 use bindings::leave;
@@ -50,7 +51,7 @@ pub fn expression(
     index: &[u16],
     rows: &mut [u16],
     work: &mut [u16],
-    chains: &mut [u16],
+    chains: &mut Chains,
     at: At,
 ) -> Judged
     requires { ⌜ Ready (now file) (frame .sections) (now index) (now rows) (now work) (now chains) (frame .base) (at .node) (at .scope) ⌝ }
@@ -80,7 +81,7 @@ pub fn list(
     index: &[u16],
     rows: &mut [u16],
     work: &mut [u16],
-    chains: &mut [u16],
+    chains: &mut Chains,
     at: At,
     count: usize,
     expected: Expected,
@@ -115,7 +116,7 @@ fn inits(
     index: &[u16],
     rows: &mut [u16],
     work: &mut [u16],
-    chains: &mut [u16],
+    chains: &mut Chains,
     at: At,
     count: usize,
     owner: usize,
@@ -170,7 +171,7 @@ fn array_literal(
     index: &[u16],
     rows: &mut [u16],
     work: &mut [u16],
-    chains: &mut [u16],
+    chains: &mut Chains,
     at: At,
 ) -> Judged
     requires { ⌜ Ready (now file) (frame .sections) (now index) (now rows) (now work) (now chains) (frame .base) (at .node) (at .scope) ⌝ }
@@ -211,7 +212,7 @@ fn default_array(
     index: &[u16],
     rows: &mut [u16],
     work: &mut [u16],
-    chains: &mut [u16],
+    chains: &mut Chains,
     at: At,
 ) -> Judged
     requires { ⌜ Ready (now file) (frame .sections) (now index) (now rows) (now work) (now chains) (frame .base) (at .node) (at .scope) ⌝ }
@@ -255,7 +256,7 @@ fn array_with(
     index: &[u16],
     rows: &mut [u16],
     work: &mut [u16],
-    chains: &mut [u16],
+    chains: &mut Chains,
     at: At,
 ) -> Judged
     requires { ⌜ Ready (now file) (frame .sections) (now index) (now rows) (now work) (now chains) (frame .base) (at .node) (at .scope) ⌝ }
@@ -311,7 +312,7 @@ fn array_value(
     index: &[u16],
     rows: &mut [u16],
     work: &mut [u16],
-    chains: &mut [u16],
+    chains: &mut Chains,
     at: At,
     value: At,
 ) -> Judged
@@ -356,7 +357,7 @@ fn index_expression(
     index: &[u16],
     rows: &mut [u16],
     work: &mut [u16],
-    chains: &mut [u16],
+    chains: &mut Chains,
     at: At,
 ) -> Judged
     requires { ⌜ Ready (now file) (frame .sections) (now index) (now rows) (now work) (now chains) (frame .base) (at .node) (at .scope) ⌝ }
@@ -400,7 +401,7 @@ fn length_of(
     index: &[u16],
     rows: &mut [u16],
     work: &mut [u16],
-    chains: &mut [u16],
+    chains: &mut Chains,
     at: At,
 ) -> Judged
     requires { ⌜ Ready (now file) (frame .sections) (now index) (now rows) (now work) (now chains) (frame .base) (at .node) (at .scope) ⌝ }
@@ -436,7 +437,7 @@ fn struct_literal(
     index: &[u16],
     rows: &mut [u16],
     work: &mut [u16],
-    chains: &mut [u16],
+    chains: &mut Chains,
     at: At,
 ) -> Judged
     requires { ⌜ Ready (now file) (frame .sections) (now index) (now rows) (now work) (now chains) (frame .base) (at .node) (at .scope) ⌝ }
@@ -487,7 +488,7 @@ fn field(
     index: &[u16],
     rows: &mut [u16],
     work: &mut [u16],
-    chains: &mut [u16],
+    chains: &mut Chains,
     at: At,
 ) -> Judged
     requires { ⌜ Ready (now file) (frame .sections) (now index) (now rows) (now work) (now chains) (frame .base) (at .node) (at .scope) ⌝ }
@@ -532,7 +533,7 @@ fn call(
     index: &[u16],
     rows: &mut [u16],
     work: &mut [u16],
-    chains: &mut [u16],
+    chains: &mut Chains,
     at: At,
 ) -> Judged
     requires { ⌜ Ready (now file) (frame .sections) (now index) (now rows) (now work) (now chains) (frame .base) (at .node) (at .scope) ⌝ }
@@ -592,7 +593,7 @@ fn unary(
     index: &[u16],
     rows: &mut [u16],
     work: &mut [u16],
-    chains: &mut [u16],
+    chains: &mut Chains,
     at: At,
 ) -> Judged
     requires { ⌜ Ready (now file) (frame .sections) (now index) (now rows) (now work) (now chains) (frame .base) (at .node) (at .scope) ⌝ }
@@ -629,7 +630,7 @@ fn binary(
     index: &[u16],
     rows: &mut [u16],
     work: &mut [u16],
-    chains: &mut [u16],
+    chains: &mut Chains,
     at: At,
 ) -> Judged
     requires { ⌜ Ready (now file) (frame .sections) (now index) (now rows) (now work) (now chains) (frame .base) (at .node) (at .scope) ⌝ }
@@ -652,7 +653,7 @@ fn operator(
     index: &[u16],
     rows: &mut [u16],
     work: &mut [u16],
-    chains: &mut [u16],
+    chains: &mut Chains,
     at: At,
     taken: usize,
     given: usize,
@@ -699,7 +700,7 @@ fn equality(
     index: &[u16],
     rows: &mut [u16],
     work: &mut [u16],
-    chains: &mut [u16],
+    chains: &mut Chains,
     at: At,
 ) -> Judged
     requires { ⌜ Ready (now file) (frame .sections) (now index) (now rows) (now work) (now chains) (frame .base) (at .node) (at .scope) ⌝ }

@@ -22,49 +22,49 @@ claims t = (expression-below t, expression.Post, type-kind-reads.Asked, type-kin
 
 add-if1 : (t : ℕ) → field-lts.Need-add-if1 (claims t) (field-at t) field.Post
 add-if1 t c =
-    let at-start = c .before .before .before .before .before .before .before .before .before in
+    let at-start = c .before .before .before .before .before .before .before .before in
     omega (arith, (at-start .pre .1 .0) .within, (at-start .pre .1 .0) .fine .good-tables .laid .nodes-most)
 
 expression-requires : (t : ℕ) → field-lts.Need-expression-requires (claims t) (field-at t) field.Post
 expression-requires t c κs =
-    let at-start = c .before .before .before .before .before .before .before .before .before in
+    let at-start = c .before .before .before .before .before .before .before .before in
     (omega (arith, at-start .pre .0, (at-start .pre .1 .0) .within), field-first (at-start .pre .1 .0) (at-start .pre .1 .1))
 
 returns : (t : ℕ) → field-lts.Need-returns (claims t) (field-at t) field.Post
 returns t c =
-    let at-expression = c .before .before .before .before .before .before .before in
-    let at-start = at-expression .before .before .before .before .before .before .before .before .before .before in
+    let at-expression = c .before .before .before .before .before in
+    let at-start = at-expression .before .before .before .before .before .before .before .before .before in
     field-no (at-start .pre .1 .0) (at-start .pre .1 .1) (at-expression .expression .ensures) (untyped _ (c .match .keys2))
 
 type-kind-requires : (t : ℕ) → field-lts.Need-type-kind-requires (claims t) (field-at t) field.Post
 type-kind-requires t c κs =
-    let at-expression = c .before .before .before .before .before .before .before .before .before in
-    let at-start = at-expression .before .before .before .before .before .before .before .before .before .before in
+    let at-expression = c .before .before .before .before .before .before .before in
+    let at-start = at-expression .before .before .before .before .before .before .before .before .before in
     child-type (field-first (at-start .pre .1 .0) (at-start .pre .1 .1)) (at-expression .expression .ensures) (c .before .judgement .given .1)
 
 returns-2 : (t : ℕ) → field-lts.Need-returns-2 (claims t) (field-at t) field.Post
 returns-2 t c =
     let at-type-kind = c .before .before in
     let at-judgement = at-type-kind .before .before in
-    let at-expression = at-judgement .before .before .before .before .before .before .before .before in
-    let at-start = at-expression .before .before .before .before .before .before .before .before .before .before in
+    let at-expression = at-judgement .before .before .before .before .before .before in
+    let at-start = at-expression .before .before .before .before .before .before .before .before .before in
     field-sort (at-start .pre .1 .0) (at-start .pre .1 .1) (at-expression .expression .ensures) (at-judgement .judgement .given .1) (at-type-kind .type-kind .ensures .0) (c .before .if1 .taken) (c .refused .ensures .0)
 
 struct-record-requires : (t : ℕ) → field-lts.Need-struct-record-requires (claims t) (field-at t) field.Post
 struct-record-requires t c κs =
     let at-judgement = c .before .before .before in
-    let at-expression = at-judgement .before .before .before .before .before .before .before .before in
-    let at-start = at-expression .before .before .before .before .before .before .before .before .before .before in
+    let at-expression = at-judgement .before .before .before .before .before .before in
+    let at-start = at-expression .before .before .before .before .before .before .before .before .before in
     type-entered ((at-start .pre .1 .0) .fine) (child-within (field-first (at-start .pre .1 .0) (at-start .pre .1 .1)) (at-expression .expression .ensures) (at-judgement .judgement .given .1))
 
 node-x-requires : (t : ℕ) → field-lts.Need-node-x-requires (claims t) (field-at t) field.Post
 node-x-requires t c κs =
-    let at-start = c .before .before .before .before .before .before .before .before .before .before .before .before .before .before .before .before .before .before .before .before .before .before in
+    let at-start = c .before .before .before .before .before .before .before .before .before .before .before .before .before .before .before .before .before .before .before in
     has-node ((at-start .pre .1 .0) .fine .good-tables) ((at-start .pre .1 .0) .within)
 
 field-of-requires : (t : ℕ) → field-lts.Need-field-of-requires (claims t) (field-at t) field.Post
 field-of-requires t c κs =
-    let at-start = c .before .before .before .before .before .before .before .before .before .before .before .before .before .before .before .before .before .before .before .before .before .before .before in
+    let at-start = c .before .before .before .before .before .before .before .before .before .before .before .before .before .before .before .before .before .before .before .before in
     (at-start .pre .1 .0) .fine .good-tables
 
 returns-3 : (t : ℕ) → field-lts.Need-returns-3 (claims t) (field-at t) field.Post
@@ -75,8 +75,8 @@ returns-3 t c =
     let at-if1 = at-struct-record .before in
     let at-type-kind = at-if1 .before in
     let at-judgement = at-type-kind .before .before in
-    let at-expression = at-judgement .before .before .before .before .before .before .before .before in
-    let at-start = at-expression .before .before .before .before .before .before .before .before .before .before in
+    let at-expression = at-judgement .before .before .before .before .before .before in
+    let at-start = at-expression .before .before .before .before .before .before .before .before .before in
     field-unknown (at-start .pre .1 .0) (at-start .pre .1 .1) (at-expression .expression .ensures) (at-judgement .judgement .given .1) (at-type-kind .type-kind .ensures .0) (at-if1 .if1 .left) (at-struct-record .struct-record .ensures) (at-node-x .node-x .ensures .0) _ (at-field-of .field-of .ensures) (c .before .enum-told .given .1) (c .refused2 .ensures .0)
 
 typed-requires : (t : ℕ) → field-lts.Need-typed-requires (claims t) (field-at t) field.Post
@@ -88,26 +88,20 @@ typed-requires t c κs =
     let at-if1 = at-struct-record .before in
     let at-type-kind = at-if1 .before in
     let at-judgement = at-type-kind .before .before in
-    let at-expression = at-judgement .before .before .before .before .before .before .before .before in
-    let at-start = at-expression .before .before .before .before .before .before .before .before .before .before in
+    let at-expression = at-judgement .before .before .before .before .before .before in
+    let at-start = at-expression .before .before .before .before .before .before .before .before .before in
     row-fits (child-fine (field-first (at-start .pre .1 .0) (at-start .pre .1 .1)) (at-expression .expression .ensures) (at-judgement .judgement .given .1)) ((at-start .pre .1 .0) .within) (field-within (at-start .pre .1 .0) (at-start .pre .1 .1) (at-expression .expression .ensures) (at-judgement .judgement .given .1) (at-type-kind .type-kind .ensures .0) (at-if1 .if1 .left) (at-struct-record .struct-record .ensures) (at-node-x .node-x .ensures .0) _ (at-field-of .field-of .ensures) (at-found .found .given .1))
 
-same-length-10 : (t : ℕ) → field-lts.Need-same-length-10 (claims t) (field-at t) field.Post
-same-length-10 t c =
+same-length-7 : (t : ℕ) → field-lts.Need-same-length-7 (claims t) (field-at t) field.Post
+same-length-7 t c =
     let at-typed = c .before .before in
-    let at-expression = at-typed .before .before .before .before .before .before .before .before .before .before .before .before .before .before .before .before .before .before .before in
+    let at-expression = at-typed .before .before .before .before .before .before .before .before .before .before .before .before .before .before .before .before .before in
     omega (arith, at-expression .expression, at-typed .typed)
 
-same-length-11 : (t : ℕ) → field-lts.Need-same-length-11 (claims t) (field-at t) field.Post
-same-length-11 t c =
+same-length-8 : (t : ℕ) → field-lts.Need-same-length-8 (claims t) (field-at t) field.Post
+same-length-8 t c =
     let at-typed = c .before .before in
-    let at-expression = at-typed .before .before .before .before .before .before .before .before .before .before .before .before .before .before .before .before .before .before .before in
-    omega (arith, at-expression .expression, at-typed .typed)
-
-same-length-12 : (t : ℕ) → field-lts.Need-same-length-12 (claims t) (field-at t) field.Post
-same-length-12 t c =
-    let at-typed = c .before .before in
-    let at-expression = at-typed .before .before .before .before .before .before .before .before .before .before .before .before .before .before .before .before .before .before .before in
+    let at-expression = at-typed .before .before .before .before .before .before .before .before .before .before .before .before .before .before .before .before .before in
     omega (arith, at-expression .expression, at-typed .typed)
 
 returns-4 : (t : ℕ) → field-lts.Need-returns-4 (claims t) (field-at t) field.Post
@@ -120,9 +114,9 @@ returns-4 t c =
     let at-if1 = at-struct-record .before in
     let at-type-kind = at-if1 .before in
     let at-judgement = at-type-kind .before .before in
-    let at-expression = at-judgement .before .before .before .before .before .before .before .before in
-    let at-start = at-expression .before .before .before .before .before .before .before .before .before .before in
+    let at-expression = at-judgement .before .before .before .before .before .before in
+    let at-start = at-expression .before .before .before .before .before .before .before .before .before in
     field-ok (at-start .pre .1 .0) (at-start .pre .1 .1) (at-expression .expression .ensures) (at-judgement .judgement .given .1) (at-type-kind .type-kind .ensures .0) (at-if1 .if1 .left) (at-struct-record .struct-record .ensures) (at-node-x .node-x .ensures .0) _ (at-field-of .field-of .ensures) (at-found .found .given .1) (at-typed .typed .ensures .0) (at-typed .typed .ensures .1)
 
 pub closed : {M : Type 1} (t : ℕ) → field-lts.Closed (claims t) (field-at t) field.Post M
-closed t = field-lts.spec (claims t) (field-at t) field.Post (add-if1 t) (expression-requires t) (λ c. search needs) (λ c. search needs) (λ c. search needs) (λ c. search needs) (returns t) (type-kind-requires t) (λ c κs. search needs) (λ c. search needs) (λ c. search needs) (λ c. search needs) (returns-2 t) (struct-record-requires t) (node-x-requires t) (field-of-requires t) (λ c. search needs) (λ c. search needs) (λ c κs. search needs) (λ c. search needs) (λ c. search needs) (λ c. search needs) (returns-3 t) (typed-requires t) (same-length-10 t) (same-length-11 t) (same-length-12 t) (returns-4 t)
+closed t = field-lts.spec (claims t) (field-at t) field.Post (add-if1 t) (expression-requires t) (λ c. search needs) (λ c. search needs) (λ c. search needs) (returns t) (type-kind-requires t) (λ c κs. search needs) (λ c. search needs) (λ c. search needs) (returns-2 t) (struct-record-requires t) (node-x-requires t) (field-of-requires t) (λ c. search needs) (λ c. search needs) (λ c κs. search needs) (λ c. search needs) (λ c. search needs) (returns-3 t) (typed-requires t) (same-length-7 t) (same-length-8 t) (returns-4 t)

@@ -19,57 +19,51 @@ claims t = (expression-below t, expression.Post, type-kind-reads.Asked, type-kin
 
 add-if1 : (t : ℕ) → length-of-lts.Need-add-if1 (claims t) (length-of-at t) length-of.Post
 add-if1 t c =
-    let at-start = c .before .before .before .before .before .before .before .before .before in
+    let at-start = c .before .before .before .before .before .before .before .before in
     omega (arith, (at-start .pre .1 .0) .within, (at-start .pre .1 .0) .fine .good-tables .laid .nodes-most)
 
 expression-requires : (t : ℕ) → length-of-lts.Need-expression-requires (claims t) (length-of-at t) length-of.Post
 expression-requires t c κs =
-    let at-start = c .before .before .before .before .before .before .before .before .before in
+    let at-start = c .before .before .before .before .before .before .before .before in
     (omega (arith, at-start .pre .0, (at-start .pre .1 .0) .within), length-first (at-start .pre .1 .0) (at-start .pre .1 .1))
 
 returns : (t : ℕ) → length-of-lts.Need-returns (claims t) (length-of-at t) length-of.Post
 returns t c =
-    let at-expression = c .before .before .before .before .before .before .before in
-    let at-start = at-expression .before .before .before .before .before .before .before .before .before .before in
+    let at-expression = c .before .before .before .before .before in
+    let at-start = at-expression .before .before .before .before .before .before .before .before .before in
     length-no (at-start .pre .1 .0) (at-start .pre .1 .1) (at-expression .expression .ensures) (untyped _ (c .match .keys2))
 
 type-kind-requires : (t : ℕ) → length-of-lts.Need-type-kind-requires (claims t) (length-of-at t) length-of.Post
 type-kind-requires t c κs =
-    let at-expression = c .before .before .before .before .before .before .before .before .before in
-    let at-start = at-expression .before .before .before .before .before .before .before .before .before .before in
+    let at-expression = c .before .before .before .before .before .before .before in
+    let at-start = at-expression .before .before .before .before .before .before .before .before .before in
     child-type (length-first (at-start .pre .1 .0) (at-start .pre .1 .1)) (at-expression .expression .ensures) (c .before .judgement .given .1)
 
 returns-2 : (t : ℕ) → length-of-lts.Need-returns-2 (claims t) (length-of-at t) length-of.Post
 returns-2 t c =
     let at-type-kind = c .before .before in
     let at-judgement = at-type-kind .before .before in
-    let at-expression = at-judgement .before .before .before .before .before .before .before .before in
-    let at-start = at-expression .before .before .before .before .before .before .before .before .before .before in
+    let at-expression = at-judgement .before .before .before .before .before .before in
+    let at-start = at-expression .before .before .before .before .before .before .before .before .before in
     length-sort (at-start .pre .1 .0) (at-start .pre .1 .1) (at-expression .expression .ensures) (at-judgement .judgement .given .1) (at-type-kind .type-kind .ensures .0) (c .before .if1 .taken) (c .refused .ensures .0)
 
 typed-requires : (t : ℕ) → length-of-lts.Need-typed-requires (claims t) (length-of-at t) length-of.Post
 typed-requires t c κs =
     let at-judgement = c .before .before .before .before in
-    let at-expression = at-judgement .before .before .before .before .before .before .before .before in
-    let at-start = at-expression .before .before .before .before .before .before .before .before .before .before in
+    let at-expression = at-judgement .before .before .before .before .before .before in
+    let at-start = at-expression .before .before .before .before .before .before .before .before .before in
     row-fits (child-fine (length-first (at-start .pre .1 .0) (at-start .pre .1 .1)) (at-expression .expression .ensures) (at-judgement .judgement .given .1)) ((at-start .pre .1 .0) .within) (base-within ((at-start .pre .1 .0) .fine .good-tables) (omega arith))
 
-same-length-7 : (t : ℕ) → length-of-lts.Need-same-length-7 (claims t) (length-of-at t) length-of.Post
-same-length-7 t c =
+same-length-5 : (t : ℕ) → length-of-lts.Need-same-length-5 (claims t) (length-of-at t) length-of.Post
+same-length-5 t c =
     let at-typed = c .before .before in
-    let at-expression = at-typed .before .before .before .before .before .before .before .before .before .before .before .before .before in
+    let at-expression = at-typed .before .before .before .before .before .before .before .before .before .before .before in
     omega (arith, at-expression .expression, at-typed .typed)
 
-same-length-8 : (t : ℕ) → length-of-lts.Need-same-length-8 (claims t) (length-of-at t) length-of.Post
-same-length-8 t c =
+same-length-6 : (t : ℕ) → length-of-lts.Need-same-length-6 (claims t) (length-of-at t) length-of.Post
+same-length-6 t c =
     let at-typed = c .before .before in
-    let at-expression = at-typed .before .before .before .before .before .before .before .before .before .before .before .before .before in
-    omega (arith, at-expression .expression, at-typed .typed)
-
-same-length-9 : (t : ℕ) → length-of-lts.Need-same-length-9 (claims t) (length-of-at t) length-of.Post
-same-length-9 t c =
-    let at-typed = c .before .before in
-    let at-expression = at-typed .before .before .before .before .before .before .before .before .before .before .before .before .before in
+    let at-expression = at-typed .before .before .before .before .before .before .before .before .before .before .before in
     omega (arith, at-expression .expression, at-typed .typed)
 
 returns-3 : (t : ℕ) → length-of-lts.Need-returns-3 (claims t) (length-of-at t) length-of.Post
@@ -78,9 +72,9 @@ returns-3 t c =
     let at-if1 = at-typed .before .before in
     let at-type-kind = at-if1 .before in
     let at-judgement = at-type-kind .before .before in
-    let at-expression = at-judgement .before .before .before .before .before .before .before .before in
-    let at-start = at-expression .before .before .before .before .before .before .before .before .before .before in
+    let at-expression = at-judgement .before .before .before .before .before .before in
+    let at-start = at-expression .before .before .before .before .before .before .before .before .before in
     length-ok (at-start .pre .1 .0) (at-start .pre .1 .1) (at-expression .expression .ensures) (at-judgement .judgement .given .1) (at-type-kind .type-kind .ensures .0) (at-if1 .if1 .left) (at-typed .typed .ensures .0) (at-typed .typed .ensures .1)
 
 pub closed : {M : Type 1} (t : ℕ) → length-of-lts.Closed (claims t) (length-of-at t) length-of.Post M
-closed t = length-of-lts.spec (claims t) (length-of-at t) length-of.Post (add-if1 t) (expression-requires t) (λ c. search needs) (λ c. search needs) (λ c. search needs) (λ c. search needs) (returns t) (type-kind-requires t) (λ c κs. search needs) (λ c. search needs) (λ c. search needs) (λ c. search needs) (returns-2 t) (typed-requires t) (same-length-7 t) (same-length-8 t) (same-length-9 t) (returns-3 t)
+closed t = length-of-lts.spec (claims t) (length-of-at t) length-of.Post (add-if1 t) (expression-requires t) (λ c. search needs) (λ c. search needs) (λ c. search needs) (returns t) (type-kind-requires t) (λ c κs. search needs) (λ c. search needs) (λ c. search needs) (returns-2 t) (typed-requires t) (same-length-5 t) (same-length-6 t) (returns-3 t)
