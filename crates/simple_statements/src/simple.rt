@@ -7,6 +7,7 @@ use answers::answer::Judgement;
 use answers::answer::goes_on;
 use answers::answer::refused;
 use answers::leaves::Expected;
+use bindings::Chains;
 use bindings::bind;
 use bindings::is_assignable;
 use bindings::is_fresh;
@@ -33,7 +34,7 @@ fn assigns(
     file: &[u8],
     sections: Sections,
     work: &[u16],
-    chains: &[u16],
+    chains: &Chains,
     base: usize,
     node: usize,
 ) -> bool
@@ -60,7 +61,7 @@ pub fn assignment(
     index: &[u16],
     rows: &mut [u16],
     work: &mut [u16],
-    chains: &mut [u16],
+    chains: &mut Chains,
     at: At,
 ) -> Judged
     requires { ⌜ ReadyStmt (now file) (frame .sections) (now index) (now rows) (now work) (now chains) (frame .base) (at .node) (at .scope) ⌝ }
@@ -130,7 +131,7 @@ pub fn variable(
     index: &[u16],
     rows: &mut [u16],
     work: &mut [u16],
-    chains: &mut [u16],
+    chains: &mut Chains,
     at: At,
 ) -> Judged
     requires { ⌜ ReadyStmt (now file) (frame .sections) (now index) (now rows) (now work) (now chains) (frame .base) (at .node) (at .scope) ⌝ }
@@ -182,7 +183,7 @@ pub fn variables(
     index: &[u16],
     rows: &mut [u16],
     work: &mut [u16],
-    chains: &mut [u16],
+    chains: &mut Chains,
     at: At,
     count: usize,
 ) -> Judged
@@ -210,7 +211,7 @@ pub fn condition(
     index: &[u16],
     rows: &mut [u16],
     work: &mut [u16],
-    chains: &mut [u16],
+    chains: &mut Chains,
     at: At,
     parent: usize,
 ) -> Judged
@@ -246,7 +247,7 @@ pub fn return_value(
     index: &[u16],
     rows: &mut [u16],
     work: &mut [u16],
-    chains: &mut [u16],
+    chains: &mut Chains,
     at: At,
 ) -> Judged
     requires { ⌜ ReadyStmt (now file) (frame .sections) (now index) (now rows) (now work) (now chains) (frame .base) (at .node) (at .scope) × ((frame .result) < (frame .sections) .types) ⌝ }
@@ -293,7 +294,7 @@ pub fn return_void(
     index: &[u16],
     rows: &mut [u16],
     work: &mut [u16],
-    chains: &mut [u16],
+    chains: &mut Chains,
     at: At,
 ) -> Judged
     requires { ⌜ ReadyStmt (now file) (frame .sections) (now index) (now rows) (now work) (now chains) (frame .base) (at .node) (at .scope) × ((frame .result) < (frame .sections) .types) ⌝ }
@@ -321,7 +322,7 @@ pub fn call_statement(
     index: &[u16],
     rows: &mut [u16],
     work: &mut [u16],
-    chains: &mut [u16],
+    chains: &mut Chains,
     at: At,
 ) -> Judged
     requires { ⌜ ReadyStmt (now file) (frame .sections) (now index) (now rows) (now work) (now chains) (frame .base) (at .node) (at .scope) ⌝ }

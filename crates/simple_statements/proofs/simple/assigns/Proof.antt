@@ -9,7 +9,7 @@ returns c = assigns-other (c .before .node-kind .ensures .0) (c .if1 .taken)
 
 returns-2 : tie.Need-returns-2
 returns-2 c =
-    let at-if1 = c .before .before in
+    let at-if1 = c .before .before .before in
     let at-node-kind = at-if1 .before in
     assigns-name (at-node-kind .node-kind .ensures .0) (at-if1 .if1 .left) (c .before .node-x .ensures .0) (c .is-assignable .ensures)
 
