@@ -6,6 +6,7 @@ use answers::answer::Judged;
 use answers::answer::Judgement;
 use answers::answer::goes_on;
 use answers::answer::refused;
+use bindings::Chains;
 use bindings::bind;
 use bindings::leave;
 use expressions::cycle::expression;
@@ -39,7 +40,7 @@ fn statement(
     index: &[u16],
     rows: &mut [u16],
     work: &mut [u16],
-    chains: &mut [u16],
+    chains: &mut Chains,
     at: At,
 ) -> Judged
     requires { ⌜ ReadyStmt (now file) (frame .sections) (now index) (now rows) (now work) (now chains) (frame .base) (at .node) (at .scope) × ((frame .result) < (frame .sections) .types) ⌝ }
@@ -65,7 +66,7 @@ fn statements(
     index: &[u16],
     rows: &mut [u16],
     work: &mut [u16],
-    chains: &mut [u16],
+    chains: &mut Chains,
     at: At,
     count: usize,
     parent: usize,
@@ -101,7 +102,7 @@ pub fn block(
     index: &[u16],
     rows: &mut [u16],
     work: &mut [u16],
-    chains: &mut [u16],
+    chains: &mut Chains,
     at: At,
 ) -> Judged
     requires { ⌜ ReadyBlock (now file) (frame .sections) (now index) (now rows) (now work) (now chains) (frame .base) (frame .result) (at .node) (at .scope) ⌝ }
@@ -144,7 +145,7 @@ fn arms(
     index: &[u16],
     rows: &mut [u16],
     work: &mut [u16],
-    chains: &mut [u16],
+    chains: &mut Chains,
     at: At,
     inner: usize,
 ) -> Judged
@@ -194,7 +195,7 @@ fn if_else(
     index: &[u16],
     rows: &mut [u16],
     work: &mut [u16],
-    chains: &mut [u16],
+    chains: &mut Chains,
     at: At,
 ) -> Judged
     requires { ⌜ ReadyStmt (now file) (frame .sections) (now index) (now rows) (now work) (now chains) (frame .base) (at .node) (at .scope) × ((frame .result) < (frame .sections) .types) ⌝ }
@@ -255,7 +256,7 @@ fn if_null(
     index: &[u16],
     rows: &mut [u16],
     work: &mut [u16],
-    chains: &mut [u16],
+    chains: &mut Chains,
     at: At,
 ) -> Judged
     requires { ⌜ ReadyStmt (now file) (frame .sections) (now index) (now rows) (now work) (now chains) (frame .base) (at .node) (at .scope) × ((frame .result) < (frame .sections) .types) ⌝ }
@@ -327,7 +328,7 @@ fn for_loop(
     index: &[u16],
     rows: &mut [u16],
     work: &mut [u16],
-    chains: &mut [u16],
+    chains: &mut Chains,
     at: At,
 ) -> Judged
     requires { ⌜ ReadyStmt (now file) (frame .sections) (now index) (now rows) (now work) (now chains) (frame .base) (at .node) (at .scope) × ((frame .result) < (frame .sections) .types) ⌝ }
@@ -404,7 +405,7 @@ fn turn(
     index: &[u16],
     rows: &mut [u16],
     work: &mut [u16],
-    chains: &mut [u16],
+    chains: &mut Chains,
     at: At,
 ) -> Judged
     requires { ⌜ ReadyTurn (now file) (frame .sections) (now index) (now rows) (now work) (now chains) (frame .base) (frame .result) (at .node) (at .scope) ⌝ }
@@ -436,7 +437,7 @@ fn step(
     index: &[u16],
     rows: &mut [u16],
     work: &mut [u16],
-    chains: &mut [u16],
+    chains: &mut Chains,
     at: At,
 ) -> Judged
     requires { ⌜ ReadyStep (now file) (frame .sections) (now index) (now rows) (now work) (now chains) (frame .base) (frame .result) (at .node) (at .scope) ⌝ }
@@ -475,7 +476,7 @@ fn while_loop(
     index: &[u16],
     rows: &mut [u16],
     work: &mut [u16],
-    chains: &mut [u16],
+    chains: &mut Chains,
     at: At,
 ) -> Judged
     requires { ⌜ ReadyStmt (now file) (frame .sections) (now index) (now rows) (now work) (now chains) (frame .base) (at .node) (at .scope) × ((frame .result) < (frame .sections) .types) ⌝ }

@@ -19,59 +19,58 @@ abbrev claims : ℕ → statements-lts.Claims
 claims t = (refused-reads.Asked, refused-reads.Learnt, statement-below t, statement′.Post, mark-of-reads.Asked, mark-of-reads.Learnt, with-mark-reads.Asked, with-mark-reads.Learnt)
 
 abbrev Inv-loop : statements-lts.InvT-loop
-Inv-loop = λ file frame index rows₀ work₀ chains₀ count parent here₀ last₀ mark₀ i₀ rows work chains here last mark i. WalkedStmts file (frame .sections) index (frame .base) (frame .result) (here₀ .node) (here₀ .scope) rows₀ work₀ count parent (here .node) (here .scope) last mark i rows work chains × (length rows ≡ length rows₀) × (length work ≡ length work₀) × (length chains ≡ length chains₀)
+Inv-loop = λ file frame index rows₀ work₀ chains₀ count parent here₀ last₀ mark₀ i₀ rows work chains here last mark i. WalkedStmts file (frame .sections) index (frame .base) (frame .result) (here₀ .node) (here₀ .scope) rows₀ work₀ count parent (here .node) (here .scope) last mark i rows work chains × (length rows ≡ length rows₀) × (length work ≡ length work₀)
 
 abbrev μ-loop : statements-lts.MeasureT-loop
 μ-loop = λ file frame index rows₀ work₀ chains₀ count parent here₀ last₀ mark₀ i₀ rows work chains here last mark i. count - i
 
 loop-holds : (t : ℕ) → statements-lts.Need-loop-holds (claims t) (statements-at t) statements.Post Inv-loop μ-loop
-loop-holds t c = (run-start (c .before .before .before .before .before .pre .1), refl, refl, refl)
+loop-holds t c = (run-start (c .before .before .before .before .pre .1), refl, refl)
 
 returns : (t : ℕ) → statements-lts.Need-returns (claims t) (statements-at t) statements.Post Inv-loop μ-loop
 returns t c =
     let at-loop-test = c .before .before in
     let at-loop = at-loop-test .before in
-    let at-start = at-loop .before .before .before .before .before .before in
+    let at-start = at-loop .before .before .before .before .before in
     run-stops (at-start .pre .1) (at-loop .loop .inv .0) (at-loop-test .loop-test .taken) (c .before .if1 .taken) (c .refused .ensures .0)
 
 statement-requires : (t : ℕ) → statements-lts.Need-statement-requires (claims t) (statements-at t) statements.Post Inv-loop μ-loop
 statement-requires t c κs =
     let at-loop-test = c .before .before .before .before in
     let at-loop = at-loop-test .before in
-    let at-start = at-loop .before .before .before .before .before .before in
+    let at-start = at-loop .before .before .before .before .before in
     (omega (arith, at-start .pre .0, run-forward (at-start .pre .1) (at-loop .loop .inv .0), run-ready (at-start .pre .1) (at-loop .loop .inv .0) (at-loop-test .loop-test .taken) .within), run-asked (at-start .pre .1) (at-loop .loop .inv .0) (at-loop-test .loop-test .taken))
 
 returns-2 : (t : ℕ) → statements-lts.Need-returns-2 (claims t) (statements-at t) statements.Post Inv-loop μ-loop
 returns-2 t c =
-    let at-statement = c .before .before .before .before .before .before .before .before in
+    let at-statement = c .before .before .before .before .before .before in
     let at-if1 = at-statement .before .before .before .before in
     let at-loop-test = at-if1 .before in
     let at-loop = at-loop-test .before in
-    let at-start = at-loop .before .before .before .before .before .before in
+    let at-start = at-loop .before .before .before .before .before in
     run-no (at-start .pre .1) (at-loop .loop .inv .0) (at-loop-test .loop-test .taken) (at-if1 .if1 .left) (at-statement .statement .ensures) (c .enum-told .given .1)
 
 add-i : (t : ℕ) → statements-lts.Need-add-i (claims t) (statements-at t) statements.Post Inv-loop μ-loop
 add-i t c =
-    let at-loop-test = c .before .before .before .before .before .before .before .before .before .before .before .before .before .before in
-    let at-start = at-loop-test .before .before .before .before .before .before .before in
+    let at-loop-test = c .before .before .before .before .before .before .before .before .before .before .before .before in
+    let at-start = at-loop-test .before .before .before .before .before .before in
     omega (arith, at-loop-test .loop-test .taken, at-start .fits .count)
 
 loop-less : (t : ℕ) → statements-lts.Need-loop-less (claims t) (statements-at t) statements.Post Inv-loop μ-loop
 loop-less t c =
-    let at-loop-test = c .before .before .before .before .before .before .before .before .before .before .before .before .before .before in
+    let at-loop-test = c .before .before .before .before .before .before .before .before .before .before .before .before in
     omega (arith, at-loop-test .loop-test .taken)
 
 loop-again : (t : ℕ) → statements-lts.Need-loop-again (claims t) (statements-at t) statements.Post Inv-loop μ-loop
 loop-again t c = (
   (
       let at-match = c .before .before in
-      let at-statement = at-match .before .before .before .before .before .before .before in
+      let at-statement = at-match .before .before .before .before .before in
       let at-if1 = at-statement .before .before .before .before in
       let at-loop-test = at-if1 .before in
       let at-loop = at-loop-test .before in
-      let at-start = at-loop .before .before .before .before .before .before in
+      let at-start = at-loop .before .before .before .before .before in
       run-again (at-start .pre .1) (at-loop .loop .inv .0) (at-loop-test .loop-test .taken) (at-if1 .if1 .left) (at-statement .statement .ensures) (unrefused _ (at-match .match .keys2)) (c .before .mark-of .ensures .0)),
-  search needs,
   search needs,
   search needs,
 )
@@ -79,8 +78,8 @@ loop-again t c = (
 returns-3 : (t : ℕ) → statements-lts.Need-returns-3 (claims t) (statements-at t) statements.Post Inv-loop μ-loop
 returns-3 t c =
     let at-loop = c .before .before in
-    let at-start = at-loop .before .before .before .before .before .before in
+    let at-start = at-loop .before .before .before .before .before in
     run-done (at-start .pre .1) (at-loop .loop .inv .0) (c .before .loop-test .left) (answered (c .with-mark .ensures) refl refl)
 
 pub closed : {M : Type 1} (t : ℕ) → statements-lts.Closed (claims t) (statements-at t) statements.Post M
-closed t = statements-lts.spec (claims t) (statements-at t) statements.Post Inv-loop μ-loop (loop-holds t) (λ c κs. search needs) (λ c. search needs) (λ c. search needs) (λ c. search needs) (returns t) (statement-requires t) (λ c. search needs) (λ c. search needs) (λ c. search needs) (λ c. search needs) (returns-2 t) (λ c κs. search needs) (add-i t) (loop-less t) (loop-again t) (λ c κs. search needs) (λ c. search needs) (λ c. search needs) (λ c. search needs) (returns-3 t)
+closed t = statements-lts.spec (claims t) (statements-at t) statements.Post Inv-loop μ-loop (loop-holds t) (λ c κs. search needs) (λ c. search needs) (λ c. search needs) (returns t) (statement-requires t) (λ c. search needs) (λ c. search needs) (λ c. search needs) (returns-2 t) (λ c κs. search needs) (add-i t) (loop-less t) (loop-again t) (λ c κs. search needs) (λ c. search needs) (λ c. search needs) (returns-3 t)

@@ -21,112 +21,99 @@ claims t = (expression-reads.Asked, expression-reads.Learnt, type-kind-reads.Ask
 
 add-if1 : (t : ℕ) → while-loop-lts.Need-add-if1 (claims t) (while-loop-at t) while-loop.Post
 add-if1 t c =
-    let at-start = c .before .before .before .before .before .before .before .before .before in
+    let at-start = c .before .before .before .before .before .before .before .before in
     omega (arith, (at-start .pre .1 .0 .0) .within, (at-start .pre .1 .0 .0) .fine .good-tables .laid .nodes-most)
 
 expression-requires : (t : ℕ) → while-loop-lts.Need-expression-requires (claims t) (while-loop-at t) while-loop.Post
 expression-requires t c κs =
-    let at-start = c .before .before .before .before .before .before .before .before .before in
+    let at-start = c .before .before .before .before .before .before .before .before in
     while-first (at-start .pre .1 .0 .0) (at-start .pre .1 .1)
 
 returns : (t : ℕ) → while-loop-lts.Need-returns (claims t) (while-loop-at t) while-loop.Post
 returns t c =
-    let at-expression = c .before .before .before .before .before .before .before in
-    let at-start = at-expression .before .before .before .before .before .before .before .before .before .before in
+    let at-expression = c .before .before .before .before .before in
+    let at-start = at-expression .before .before .before .before .before .before .before .before .before in
     while-no (at-start .pre .1 .0 .0) (at-start .pre .1 .1) (at-expression .expression .ensures) (untyped _ (c .match .keys2))
 
 type-kind-requires : (t : ℕ) → while-loop-lts.Need-type-kind-requires (claims t) (while-loop-at t) while-loop.Post
 type-kind-requires t c κs =
-    let at-expression = c .before .before .before .before .before .before .before .before .before in
-    let at-start = at-expression .before .before .before .before .before .before .before .before .before .before in
+    let at-expression = c .before .before .before .before .before .before .before in
+    let at-start = at-expression .before .before .before .before .before .before .before .before .before in
     child-type (while-first (at-start .pre .1 .0 .0) (at-start .pre .1 .1)) (at-expression .expression .ensures) (c .before .first .given .1)
 
 returns-2 : (t : ℕ) → while-loop-lts.Need-returns-2 (claims t) (while-loop-at t) while-loop.Post
 returns-2 t c =
     let at-type-kind = c .before .before in
     let at-first = at-type-kind .before .before in
-    let at-expression = at-first .before .before .before .before .before .before .before .before in
-    let at-start = at-expression .before .before .before .before .before .before .before .before .before .before in
+    let at-expression = at-first .before .before .before .before .before .before in
+    let at-start = at-expression .before .before .before .before .before .before .before .before .before in
     while-sort (at-start .pre .1 .0 .0) (at-start .pre .1 .1) (at-expression .expression .ensures) (at-first .first .given .1) (at-type-kind .type-kind .ensures .0) (c .before .if1 .taken) (c .refused .ensures .0)
 
 block-requires : (t : ℕ) → while-loop-lts.Need-block-requires (claims t) (while-loop-at t) while-loop.Post
 block-requires t c κs =
     let at-type-kind = c .before .before .before .before in
     let at-first = at-type-kind .before .before in
-    let at-expression = at-first .before .before .before .before .before .before .before .before in
-    let at-start = at-expression .before .before .before .before .before .before .before .before .before .before in
+    let at-expression = at-first .before .before .before .before .before .before in
+    let at-start = at-expression .before .before .before .before .before .before .before .before .before in
     let g = while-second (at-start .pre .1 .0 .0) (at-start .pre .1 .1) (at-expression .expression .ensures) (at-first .first .given .1) (at-type-kind .type-kind .ensures .0) (at-start .pre .1 .0 .1) in (omega (arith, g .0, at-start .pre .0, (at-start .pre .1 .0 .0) .within), g .1)
 
-same-length-7 : (t : ℕ) → while-loop-lts.Need-same-length-7 (claims t) (while-loop-at t) while-loop.Post
-same-length-7 t c =
-    let at-block = c .before .before .before .before .before .before .before .before in
-    let at-expression = at-block .before .before .before .before .before .before .before .before .before .before .before .before .before .before .before in
+same-length-5 : (t : ℕ) → while-loop-lts.Need-same-length-5 (claims t) (while-loop-at t) while-loop.Post
+same-length-5 t c =
+    let at-block = c .before .before .before .before .before .before in
+    let at-expression = at-block .before .before .before .before .before .before .before .before .before .before .before .before .before in
     omega (arith, at-expression .expression, at-block .block)
 
-same-length-8 : (t : ℕ) → while-loop-lts.Need-same-length-8 (claims t) (while-loop-at t) while-loop.Post
-same-length-8 t c =
-    let at-block = c .before .before .before .before .before .before .before .before in
-    let at-expression = at-block .before .before .before .before .before .before .before .before .before .before .before .before .before .before .before in
-    omega (arith, at-expression .expression, at-block .block)
-
-same-length-9 : (t : ℕ) → while-loop-lts.Need-same-length-9 (claims t) (while-loop-at t) while-loop.Post
-same-length-9 t c =
-    let at-block = c .before .before .before .before .before .before .before .before in
-    let at-expression = at-block .before .before .before .before .before .before .before .before .before .before .before .before .before .before .before in
+same-length-6 : (t : ℕ) → while-loop-lts.Need-same-length-6 (claims t) (while-loop-at t) while-loop.Post
+same-length-6 t c =
+    let at-block = c .before .before .before .before .before .before in
+    let at-expression = at-block .before .before .before .before .before .before .before .before .before .before .before .before .before in
     omega (arith, at-expression .expression, at-block .block)
 
 returns-3 : (t : ℕ) → while-loop-lts.Need-returns-3 (claims t) (while-loop-at t) while-loop.Post
 returns-3 t c =
-    let at-block = c .before .before .before .before .before .before .before .before in
+    let at-block = c .before .before .before .before .before .before in
     let at-if1 = at-block .before .before .before .before in
     let at-type-kind = at-if1 .before in
     let at-first = at-type-kind .before .before in
-    let at-expression = at-first .before .before .before .before .before .before .before .before in
-    let at-start = at-expression .before .before .before .before .before .before .before .before .before .before in
+    let at-expression = at-first .before .before .before .before .before .before in
+    let at-start = at-expression .before .before .before .before .before .before .before .before .before in
     while-no-2 (at-start .pre .1 .0 .0) (at-start .pre .1 .1) (at-expression .expression .ensures) (at-first .first .given .1) (at-type-kind .type-kind .ensures .0) (at-if1 .if1 .left) (at-block .block .ensures) (c .enum-told .given .1)
 
 ends-requires : (t : ℕ) → while-loop-lts.Need-ends-requires (claims t) (while-loop-at t) while-loop.Post
 ends-requires t c κs =
-    let at-block = c .before .before .before .before .before .before .before .before in
+    let at-block = c .before .before .before .before .before .before in
     let at-if1 = at-block .before .before .before .before in
     let at-type-kind = at-if1 .before in
     let at-first = at-type-kind .before .before in
-    let at-expression = at-first .before .before .before .before .before .before .before .before in
-    let at-start = at-expression .before .before .before .before .before .before .before .before .before .before in
+    let at-expression = at-first .before .before .before .before .before .before in
+    let at-start = at-expression .before .before .before .before .before .before .before .before .before in
     while-ends (at-start .pre .1 .0 .0) (at-start .pre .1 .1) (at-expression .expression .ensures) (at-first .first .given .1) (at-type-kind .type-kind .ensures .0) (at-if1 .if1 .left) (at-block .block .ensures) (unrefused _ (c .before .match2 .keys2))
 
-same-length-10 : (t : ℕ) → while-loop-lts.Need-same-length-10 (claims t) (while-loop-at t) while-loop.Post
-same-length-10 t c =
+same-length-7 : (t : ℕ) → while-loop-lts.Need-same-length-7 (claims t) (while-loop-at t) while-loop.Post
+same-length-7 t c =
     let at-ends = c .before .before in
-    let at-block = at-ends .before .before .before .before .before .before .before .before .before in
-    let at-expression = at-block .before .before .before .before .before .before .before .before .before .before .before .before .before .before .before in
+    let at-block = at-ends .before .before .before .before .before .before .before in
+    let at-expression = at-block .before .before .before .before .before .before .before .before .before .before .before .before .before in
     omega (arith, at-expression .expression, at-block .block, at-ends .ends)
 
-same-length-11 : (t : ℕ) → while-loop-lts.Need-same-length-11 (claims t) (while-loop-at t) while-loop.Post
-same-length-11 t c =
+same-length-8 : (t : ℕ) → while-loop-lts.Need-same-length-8 (claims t) (while-loop-at t) while-loop.Post
+same-length-8 t c =
     let at-ends = c .before .before in
-    let at-block = at-ends .before .before .before .before .before .before .before .before .before in
-    let at-expression = at-block .before .before .before .before .before .before .before .before .before .before .before .before .before .before .before in
-    omega (arith, at-expression .expression, at-block .block, at-ends .ends)
-
-same-length-12 : (t : ℕ) → while-loop-lts.Need-same-length-12 (claims t) (while-loop-at t) while-loop.Post
-same-length-12 t c =
-    let at-ends = c .before .before in
-    let at-block = at-ends .before .before .before .before .before .before .before .before .before in
-    let at-expression = at-block .before .before .before .before .before .before .before .before .before .before .before .before .before .before .before in
+    let at-block = at-ends .before .before .before .before .before .before .before in
+    let at-expression = at-block .before .before .before .before .before .before .before .before .before .before .before .before .before in
     omega (arith, at-expression .expression, at-block .block, at-ends .ends)
 
 returns-4 : (t : ℕ) → while-loop-lts.Need-returns-4 (claims t) (while-loop-at t) while-loop.Post
 returns-4 t c =
     let at-ends = c .before .before in
     let at-match2 = at-ends .before .before in
-    let at-block = at-match2 .before .before .before .before .before .before .before in
+    let at-block = at-match2 .before .before .before .before .before in
     let at-if1 = at-block .before .before .before .before in
     let at-type-kind = at-if1 .before in
     let at-first = at-type-kind .before .before in
-    let at-expression = at-first .before .before .before .before .before .before .before .before in
-    let at-start = at-expression .before .before .before .before .before .before .before .before .before .before in
+    let at-expression = at-first .before .before .before .before .before .before in
+    let at-start = at-expression .before .before .before .before .before .before .before .before .before in
     while-ok (at-start .pre .1 .0 .0) (at-start .pre .1 .1) (at-expression .expression .ensures) (at-first .first .given .1) (at-type-kind .type-kind .ensures .0) (at-if1 .if1 .left) (at-block .block .ensures) (unrefused _ (at-match2 .match2 .keys2)) (answered (at-ends .ends .ensures .0) refl refl) (at-ends .ends .ensures .1)
 
 pub closed : {M : Type 1} (t : ℕ) → while-loop-lts.Closed (claims t) (while-loop-at t) while-loop.Post M
-closed t = while-loop-lts.spec (claims t) (while-loop-at t) while-loop.Post (add-if1 t) (expression-requires t) (λ c. search needs) (λ c. search needs) (λ c. search needs) (λ c. search needs) (returns t) (type-kind-requires t) (λ c κs. search needs) (λ c. search needs) (λ c. search needs) (λ c. search needs) (returns-2 t) (block-requires t) (λ c. search needs) (same-length-7 t) (same-length-8 t) (same-length-9 t) (returns-3 t) (ends-requires t) (same-length-10 t) (same-length-11 t) (same-length-12 t) (returns-4 t)
+closed t = while-loop-lts.spec (claims t) (while-loop-at t) while-loop.Post (add-if1 t) (expression-requires t) (λ c. search needs) (λ c. search needs) (λ c. search needs) (returns t) (type-kind-requires t) (λ c κs. search needs) (λ c. search needs) (λ c. search needs) (returns-2 t) (block-requires t) (λ c. search needs) (same-length-5 t) (same-length-6 t) (returns-3 t) (ends-requires t) (same-length-7 t) (same-length-8 t) (returns-4 t)
