@@ -7,6 +7,7 @@ use answers::answer::At;
 use answers::answer::Frame;
 use answers::answer::Judgement;
 use answers::answer::row;
+use bindings::Chains;
 use bindings::bind;
 use bindings::leave;
 use bindings::link;
@@ -127,7 +128,7 @@ impl Context {
         sections: Sections,
         index: &[u16],
         work: &[u16],
-        chains: &mut [u16],
+        chains: &mut Chains,
         i: usize,
     ) -> Stepped
         requires { ⌜ ReadyBuiltIn (now file) sections (now index) (now work) (now chains) self i ⌝ }
@@ -151,7 +152,7 @@ impl Context {
         sections: Sections,
         index: &[u16],
         work: &mut [u16],
-        chains: &mut [u16],
+        chains: &mut Chains,
         node: usize,
     ) -> Stepped
         requires { ⌜ ReadyHeading (now file) sections (now index) (now work) (now chains) self node ⌝ }
@@ -177,7 +178,7 @@ impl Context {
         index: &[u16],
         rows: &mut [u16],
         work: &mut [u16],
-        chains: &mut [u16],
+        chains: &mut Chains,
         node: usize,
     ) -> Stepped
         requires { ⌜ ReadyGlobal (now file) sections (now index) (now rows) (now work) (now chains) self node ⌝ }
@@ -244,7 +245,7 @@ impl Context {
         index: &[u16],
         rows: &mut [u16],
         work: &mut [u16],
-        chains: &mut [u16],
+        chains: &mut Chains,
         node: usize,
     ) -> Stepped
         requires { ⌜ ReadyBody (now file) sections (now index) (now rows) (now work) (now chains) self node ⌝ }

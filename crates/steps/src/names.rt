@@ -1,4 +1,5 @@
 // Names that are new, and names that are distinct.
+use bindings::Chains;
 use bindings::Found;
 use bindings::find;
 use fields::literal::times;
@@ -14,7 +15,7 @@ ghost use Rattle.bindings.specs.Bindings.{Some};
 ghost use Rattle.steps.specs.Contract.{Newness, typesFormed, allNew};
 
 // The name is that of no built-in, function or global.
-pub fn is_new(file: &[u8], sections: Sections, work: &[u16], chains: &[u16], name: usize) -> bool
+pub fn is_new(file: &[u8], sections: Sections, work: &[u16], chains: &Chains, name: usize) -> bool
     requires { ⌜ Some (now file) sections (now work) (now chains) ⌝ }
     ensures { λ r. ⌜ Newness (now (file .entry)) sections (now (work .entry)) (now (chains .entry)) name r ⌝ }
 {

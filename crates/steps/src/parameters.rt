@@ -1,5 +1,6 @@
 // The parameters of a function.
 use answers::answer::row;
+use bindings::Chains;
 use bindings::bind;
 use bindings::is_fresh;
 use file_sections::Sections;
@@ -15,7 +16,7 @@ pub fn parameters(
     index: &[u16],
     rows: &mut [u16],
     work: &mut [u16],
-    chains: &mut [u16],
+    chains: &mut Chains,
     base: usize,
     node: usize,
     first: usize,
