@@ -5,6 +5,7 @@ use crate::groups::globals;
 use crate::groups::headings;
 use crate::groups::struct_fields;
 use crate::groups::struct_names;
+use bindings::Chains;
 use file_sections::Reading;
 use file_sections::Sections;
 use steps::context::Stepped;
@@ -90,7 +91,7 @@ fn run_first(
     index: &[u16],
     names: &mut [u16],
     work: &mut [u16],
-    chains: &mut [u16],
+    chains: &mut Chains,
 ) -> Stepped
     requires { ⌜ ReadyRun (now file) sections (now index) (now names) (now work) (now chains) ⌝ }
     ensures { λ r. ⌜ ToldFirst (now (file .entry)) sections (now (index .entry)) (now (work .entry)) (now (work .exit)) (now (chains .exit)) r ⌝ }
@@ -114,7 +115,7 @@ fn run(
     names: &mut [u16],
     rows: &mut [u16],
     work: &mut [u16],
-    chains: &mut [u16],
+    chains: &mut Chains,
 ) -> Stepped
     requires { ⌜ ReadyRun (now file) sections (now index) (now names) (now work) (now chains) × (sections .nodes * 2 ≤ length (now rows)) ⌝ }
     ensures { λ r. ⌜ ToldRun (now (file .entry)) sections (now (index .entry)) (now (rows .entry)) (now (work .entry)) (now (rows .exit)) (now (work .exit)) (now (chains .exit)) r ⌝ }

@@ -1,4 +1,5 @@
 // The steps in their groups, each step from the context that those before it made.
+use bindings::Chains;
 use file_sections::Sections;
 use file_sections::records::node_kind;
 use file_sections::trees::past;
@@ -36,7 +37,7 @@ pub fn built_ins(
     sections: Sections,
     index: &[u16],
     work: &[u16],
-    chains: &mut [u16],
+    chains: &mut Chains,
 ) -> Stepped
     requires { ⌜ ReadyBuiltIns (now file) sections (now index) (now work) (now chains) context ⌝ }
     ensures { λ r. ⌜ ToldBuiltIns (now (file .entry)) sections (now (index .entry)) (now (work .entry)) context (now (chains .exit)) r ⌝ }
@@ -61,7 +62,7 @@ fn heading(
     sections: Sections,
     index: &[u16],
     work: &mut [u16],
-    chains: &mut [u16],
+    chains: &mut Chains,
     node: usize,
 ) -> Stepped
     requires { ⌜ ReadyDecl (now file) sections (now index) (now work) (now chains) context node ⌝ }
@@ -80,7 +81,7 @@ pub fn headings(
     sections: Sections,
     index: &[u16],
     work: &mut [u16],
-    chains: &mut [u16],
+    chains: &mut Chains,
 ) -> Stepped
     requires { ⌜ ReadyDecls headings (now file) sections (now index) (now work) (now chains) context ⌝ }
     ensures { λ r. ⌜ HeadingsTold (now (file .entry)) sections (now (index .entry)) context (now (work .entry)) (now (work .exit)) (now (chains .exit)) r ⌝ }
@@ -106,7 +107,7 @@ fn global(
     index: &[u16],
     rows: &mut [u16],
     work: &mut [u16],
-    chains: &mut [u16],
+    chains: &mut Chains,
     node: usize,
 ) -> Stepped
     requires { ⌜ ReadyDecl (now file) sections (now index) (now work) (now chains) context node × (sections .nodes * 2 ≤ length (now rows)) ⌝ }
@@ -126,7 +127,7 @@ pub fn globals(
     index: &[u16],
     rows: &mut [u16],
     work: &mut [u16],
-    chains: &mut [u16],
+    chains: &mut Chains,
 ) -> Stepped
     requires { ⌜ ReadyDecls globals (now file) sections (now index) (now work) (now chains) context × (sections .nodes * 2 ≤ length (now rows)) ⌝ }
     ensures { λ r. ⌜ ToldDecls globals (now (file .entry)) sections (now (index .entry)) context (now (rows .entry)) (now (work .entry)) (now (rows .exit)) (now (work .exit)) (now (chains .exit)) r ⌝ }
@@ -176,7 +177,7 @@ fn body(
     index: &[u16],
     rows: &mut [u16],
     work: &mut [u16],
-    chains: &mut [u16],
+    chains: &mut Chains,
     node: usize,
 ) -> Stepped
     requires { ⌜ ReadyDecl (now file) sections (now index) (now work) (now chains) context node × (sections .nodes * 2 ≤ length (now rows)) ⌝ }
@@ -196,7 +197,7 @@ pub fn bodies(
     index: &[u16],
     rows: &mut [u16],
     work: &mut [u16],
-    chains: &mut [u16],
+    chains: &mut Chains,
 ) -> Stepped
     requires { ⌜ ReadyDecls bodies (now file) sections (now index) (now work) (now chains) context × (sections .nodes * 2 ≤ length (now rows)) ⌝ }
     ensures { λ r. ⌜ ToldDecls bodies (now (file .entry)) sections (now (index .entry)) context (now (rows .entry)) (now (work .entry)) (now (rows .exit)) (now (work .exit)) (now (chains .exit)) r ⌝ }

@@ -14,12 +14,12 @@ run-requires c κs = (check-run (c .before .before .before .before .before .befo
 
 finish-requires : tie.Need-finish-requires
 finish-requires c κs =
-    let at-run = c .before .before .before .before .before .before .before in
+    let at-run = c .before .before .before .before .before .before in
     let at-start = at-run .before .before .before .before .before .before .before .before .before .before .before .before in
     check-small (at-start .pre) (at-run .run .ensures)
 
 returns : tie.Need-returns
-returns c = check-told (c .before .before .before .before .before .before .before .before .before .before .before .before .before .before .before .before .before .before .before .before .before .before .pre) (c .before .before .before .before .before .before .before .before .before .before .run .ensures) (search needs) (search needs) (c .before .before .finish .ensures .0) (c .before .before .finish .ensures .1)
+returns c = check-told (c .before .before .before .before .before .before .before .before .before .before .before .before .before .before .before .before .before .before .before .before .before .pre) (c .before .before .before .before .before .before .before .before .before .run .ensures) (search needs) (search needs) (c .before .before .finish .ensures .0) (c .before .before .finish .ensures .1)
 
 pub check-read-spec : {M : Type 1} → statement M
 check-read-spec =
@@ -27,7 +27,6 @@ check-read-spec =
     (tie.spec
     (λ c. search needs)
     index-types-requires
-    (λ c. search needs)
     (λ c. search needs)
     (λ c. search needs)
     run-requires

@@ -12,6 +12,5 @@ body-spec =
     (λ c κs. search (body-ready, needs))
     (λ c. search needs)
     (λ c. search needs)
-    (λ c. search needs)
     (λ c. search (body-told, needs))
     (λ c. search (body-none, needs)))

@@ -12,6 +12,5 @@ global-spec =
     (λ c κs. search (global-ready, needs))
     (λ c. search needs)
     (λ c. search needs)
-    (λ c. search needs)
     (λ c. search (global-told, needs))
     (λ c. search (global-none, needs)))

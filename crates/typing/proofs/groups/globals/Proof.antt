@@ -13,49 +13,48 @@ use Rattle.typing.proofs.groups.globals.Tie as tie
 
 abbrev Inv-loop : tie.InvT-loop
 Inv-loop file sections index rows₀ work₀ chains₀ c₀ node₀ rows work chains c node =
-    Along globals file sections index c₀ rows₀ work₀ node c rows work chains × (length rows ≡ length rows₀) × (length work ≡ length work₀) × (length chains ≡ length chains₀)
+    Along globals file sections index c₀ rows₀ work₀ node c rows work chains × (length rows ≡ length rows₀) × (length work ≡ length work₀)
 
 abbrev μ-loop : tie.MeasureT-loop
 μ-loop file sections index rows₀ work₀ chains₀ c₀ node₀ rows work chains c node = sections .nodes - node
 
 loop-holds : tie.Need-loop-holds Inv-loop μ-loop
-loop-holds c = (along-start globals-group (c .before .before .before .before .before .pre .0 .held), refl, refl, refl)
+loop-holds c = (along-start globals-group (c .before .before .before .before .pre .0 .held), refl, refl)
 
 global-requires : tie.Need-global-requires Inv-loop μ-loop
-global-requires c κs = (along-ready globals-group (c .before .before .before .before .before .loop .inv .0) (c .before .before .before .before .before .before .before .before .before .before .before .pre .0) (c .before .before .before .if1 .taken), search needs)
+global-requires c κs = (along-ready globals-group (c .before .before .before .before .before .loop .inv .0) (c .before .before .before .before .before .before .before .before .before .before .pre .0) (c .before .before .before .if1 .taken), search needs)
 
 returns : tie.Need-returns Inv-loop μ-loop
 returns c =
-    let at-global = c .before .before .before .before .before .before .before .before in
+    let at-global = c .before .before .before .before .before .before in
     let at-if1 = at-global .before .before .before .before in
     let at-loop = at-if1 .before .before in
-    let at-start = at-loop .before .before .before .before .before .before in
+    let at-start = at-loop .before .before .before .before .before in
     along-stop globals-group (at-loop .loop .inv .0) (at-start .pre .0) (at-if1 .if1 .taken) (at-global .global .ensures) (stopped _ (c .before .match .keys2))
 
 past-requires : tie.Need-past-requires Inv-loop μ-loop
 past-requires c κs =
-    let at-if1 = c .before .before .before .before .before .before .before .before .before .before .before .before .before in
+    let at-if1 = c .before .before .before .before .before .before .before .before .before .before .before in
     let at-loop = at-if1 .before .before in
-    let at-start = at-loop .before .before .before .before .before .before in
+    let at-start = at-loop .before .before .before .before .before in
     along-tree globals-group (at-loop .loop .inv .0) (at-start .pre .0) (at-if1 .if1 .taken)
 
 loop-less : tie.Need-loop-less Inv-loop μ-loop
 loop-less c =
-    let at-if1 = c .before .before .before .before .before .before .before .before .before .before .before .before .before .before in
+    let at-if1 = c .before .before .before .before .before .before .before .before .before .before .before .before in
     let at-loop = at-if1 .before .before in
-    let at-start = at-loop .before .before .before .before .before .before in
+    let at-start = at-loop .before .before .before .before .before in
     omega (arith, along-falls globals-group (at-loop .loop .inv .0) (at-start .pre .0) (at-if1 .if1 .taken) (c .past .ensures), at-if1 .if1 .taken)
 
 loop-again : tie.Need-loop-again Inv-loop μ-loop
 loop-again c = (
   (
       let at-stepped = c .before .before in
-      let at-global = at-stepped .before .before .before .before .before .before .before .before in
+      let at-global = at-stepped .before .before .before .before .before .before in
       let at-if1 = at-global .before .before .before .before in
       let at-loop = at-if1 .before .before in
-      let at-start = at-loop .before .before .before .before .before .before in
+      let at-start = at-loop .before .before .before .before .before in
       along-next globals-group (at-loop .loop .inv .0) (at-start .pre .0) (at-if1 .if1 .taken) (c .past .ensures) (at-global .global .ensures) (at-stepped .stepped .given .1)),
-  search needs,
   search needs,
   search needs,
 )
@@ -75,12 +74,10 @@ globals-spec =
     (λ c. search needs)
     (λ c. search needs)
     (λ c. search needs)
-    (λ c. search needs)
     returns
     past-requires
     loop-less
     loop-again
-    (λ c. search needs)
     (λ c. search needs)
     (λ c. search needs)
     returns-2)

@@ -11,6 +11,5 @@ heading-spec =
     (λ c κs. search (decl-node, needs))
     (λ c κs. search (heading-ready, needs))
     (λ c. search needs)
-    (λ c. search needs)
     (λ c. search (heading-told, needs))
     (λ c. search (heading-none, needs)))

@@ -10,7 +10,7 @@ use Rattle.typing.proofs.groups.headings.Tie as tie
 
 abbrev Inv-loop : tie.InvT-loop
 Inv-loop file sections index work₀ chains₀ c₀ node₀ work chains c node =
-    HeadingsAlong file sections index c₀ work₀ node c work chains × (length work ≡ length work₀) × (length chains ≡ length chains₀)
+    HeadingsAlong file sections index c₀ work₀ node c work chains × (length work ≡ length work₀)
 
 abbrev μ-loop : tie.MeasureT-loop
 μ-loop file sections index work₀ chains₀ c₀ node₀ work chains c node = sections .nodes - node
@@ -21,16 +21,14 @@ headings-spec =
     (tie.spec
     Inv-loop
     μ-loop
-    (λ c. (search (headings-start, needs), refl, refl))
+    (λ c. (search (headings-start, needs), refl))
     (λ c κs. search (headings-ready, needs))
-    (λ c. search needs)
     (λ c. search needs)
     (λ c. search needs)
     (λ c. search needs)
     (λ c. search (headings-stop, stopped, needs))
     (λ c κs. search (headings-tree, needs))
     (λ c. search (headings-falls, needs))
-    (λ c. (search (headings-next, needs), search needs, search needs))
-    (λ c. search needs)
+    (λ c. (search (headings-next, needs), search needs))
     (λ c. search needs)
     (λ c. search (headings-done, needs)))
