@@ -18,10 +18,10 @@ echo "slowest of the corpus against the peer"
 head -n 12 "$out/each"
 echo "growth"
 python3 tests/bench/growth.py "$out"
-for file in names_64 names_512 names_4096 scopes_64 scopes_512 scopes_4096 structs_64 structs_512 structs_4096 full_4096 deep_100; do
+for file in names_64 names_512 names_4096 scopes_64 scopes_512 scopes_4096 structs_64 structs_512 structs_4096 full_4096 deep_100 unlike_100; do
     (cd "$out" && ./check -each "$file")
 done
 echo "stack"
 cc -O2 -I include tests/bench/stack.c -L target/staticlib -l:liboat_c.a -lpthread -o "$out/stack"
 "$out/stack" tests/vectors/check.bin
-"$out/stack" "$out/deep_100"
+"$out/stack" "$out/unlike_100"

@@ -66,6 +66,17 @@ def deep():
     return file(types, [], [], [], first + second)
 
 
+def unlike():
+    """As deep, with two functions that give structs of equal fields at last: each type is below the other, and they are not equal."""
+    types = [(k, 0, 0, 0) for k in range(4)] + [(4, 300, 0, 0), (4, 301, 0, 0)]
+    types += [(6, k - 1 if k > 6 else 4, 0, 0) for k in range(6, 205)] + [(6, k - 1 if k > 205 else 5, 0, 0) for k in range(205, 404)] + [(6, 1, 0, 0)]
+    nodes = []
+    for name, t in ((1, 204), (2, 403)):
+        nodes += [(2, name, t, 1), (39, 0, 0, 1), (32, 0, 0, 1), (24, 0, 0, 1), (15, name, 0, 0)]
+    nodes += [(2, 3, 404, 1), (39, 0, 0, 1), (32, 0, 0, 1)] + [(26, 10, 0, 2)] * 96 + [(15, 1, 0, 0), (15, 2, 0, 0)] + [(11, 0, 0, 0)] * 95
+    return file(types, [(4000, 0), (4000, 0)], [(300, 0, 1), (301, 1, 1)], [], nodes)
+
+
 def full():
     packed, at, largest = open("tests/vectors/check.bin", "rb").read(), 0, b""
     while at + 4 <= len(packed):
@@ -80,5 +91,5 @@ if __name__ == "__main__":
         for count in (64, 512, 4096):
             made = make(count)
             open(f"{sys.argv[1]}/{make.__name__}_{count}", "wb").write(len(made).to_bytes(4, "little") + made)
-    for name, made in (("deep_100", deep()), ("full_4096", full())):
+    for name, made in (("deep_100", deep()), ("unlike_100", unlike()), ("full_4096", full())):
         open(f"{sys.argv[1]}/{name}", "wb").write(len(made).to_bytes(4, "little") + made)
