@@ -197,4 +197,11 @@ returns-13 t c =
 
 pub closed : {M : Type 1} (t : ℕ) → expression-lts.Closed (claims t) (expression-at t) expression.Post M
 closed t =
-    expression-lts.spec (claims t) (expression-at t) expression.Post (node-kind-requires t) (null-requires t) (name-requires t) (array-literal-requires t) (default-array-requires t) (array-with-requires t) (index-expression-requires t) (length-of-requires t) (struct-literal-requires t) (field-requires t) (call-requires t) (unary-requires t) (literal-requires t) (binary-requires t) (λ c. search needs) (returns t) (λ c. search needs) (λ c. search needs) (returns-2 t) (λ c. search needs) (λ c. search needs) (returns-3 t) (λ c. search needs) (λ c. search needs) (returns-4 t) (λ c. search needs) (λ c. search needs) (returns-5 t) (λ c. search needs) (λ c. search needs) (returns-6 t) (λ c. search needs) (λ c. search needs) (returns-7 t) (λ c. search needs) (λ c. search needs) (returns-8 t) (λ c. search needs) (λ c. search needs) (returns-9 t) (λ c. search needs) (λ c. search needs) (returns-10 t) (λ c. search needs) (λ c. search needs) (returns-11 t) (λ c. search needs) (returns-12 t) (λ c. search needs) (λ c. search needs) (returns-13 t)
+    expression-lts.spec (claims t) (expression-at t) expression.Post (node-kind-requires t) (null-requires t) (name-requires t)
+    (array-literal-requires t) (default-array-requires t) (array-with-requires t) (index-expression-requires t) (length-of-requires t)
+    (struct-literal-requires t) (field-requires t) (call-requires t) (unary-requires t) (literal-requires t) (binary-requires t) (λ c. search needs)
+    (returns t) (λ c. search needs) (λ c. search needs) (returns-2 t) (λ c. search needs) (λ c. search needs) (returns-3 t) (λ c. search needs)
+    (λ c. search needs) (returns-4 t) (λ c. search needs) (λ c. search needs) (returns-5 t) (λ c. search needs) (λ c. search needs) (returns-6 t)
+    (λ c. search needs) (λ c. search needs) (returns-7 t) (λ c. search needs) (λ c. search needs) (returns-8 t) (λ c. search needs)
+    (λ c. search needs) (returns-9 t) (λ c. search needs) (λ c. search needs) (returns-10 t) (λ c. search needs) (λ c. search needs) (returns-11 t)
+    (λ c. search needs) (returns-12 t) (λ c. search needs) (λ c. search needs) (returns-13 t)
