@@ -108,7 +108,7 @@ fn constant_below(constant: bool, kind: usize) -> bool
 }
 
 // Where the children of a node of this kind end, the first of which stands at the place `first`, at most `levels` deep; 0 where one of them is broken. It
-// calls itself for children that have children, but for the last one: where that one's children end, the others end too, so that the loop goes on with them.
+// calls itself for children that have children, but for the last one: the node's children end where that one's do, so that the loop goes on with them.
 fn children(
     file: &[u8],
     types: usize,
