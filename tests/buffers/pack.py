@@ -1,6 +1,6 @@
 #!/usr/bin/env python3
 """Writes the input and the expected output of crates/buffer_vectors: small files of tests/vectors/check.bin, the first few of each number,
-with the peer's answers from check.txt, and what document 01 says of the buffers under each number."""
+with the peer's answers from check.txt, and what documents 01 and 02, (xi), say of the buffers under each number."""
 import os
 
 ROOT = os.path.join(os.path.dirname(os.path.abspath(__file__)), "..", "..")
@@ -42,6 +42,8 @@ def lines(count, answer):
     out += [name + ": same answer, same rows" for name in ("zeroed buffers", "buffers of ones", "used buffers")]
     if count > 0:
         out += ["short rows: " + short, "short work: " + short]
+    for limits in ("0 parts", "201 parts", "depth 0", "depth 101"):
+        out += 2 * [limits + ": 25 0 0, rows as before, work as before"]  # in longer buffers and in none
     return out + ["--"]
 
 

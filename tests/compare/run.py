@@ -6,14 +6,21 @@ differ it prints both answers, keeps the file, and ends with status 1.
     rt check check_vectors && (cd tests/peer && cargo build --release --offline)
     tests/compare/run.py [--count N] [--seed S]
 
-Files are made in batches, so that little memory is used; batch k has the seed S + k."""
+Files are made in batches, so that little memory is used; batch k has the seed S + k.
+
+With --limits each file is asked under four settings of document 02's limits, reading and the subtype question too, and the program is limit_vectors.
+Besides, request (xi)'s claim is tested on the program's own answers: for every two settings of one file, both in range, of which one is at least the
+other, all lines are the same unless the file is 3 or 5 under the smaller; such a file is neither 1 nor 2 under the larger and, if it was 5, nor 3 or 4."""
 import argparse
 import collections
+import itertools
 import os
 import subprocess
 import sys
 
 ROOT = os.path.join(os.path.dirname(os.path.abspath(__file__)), "..", "..")
+SETTINGS = 4  # cases that genlimits makes of each file
+Question = collections.namedtuple("Question", "make batch program unpack line")
 
 
 def answers(command, packed):
@@ -22,12 +29,100 @@ def answers(command, packed):
     return out.split("--\n")[:-1]
 
 
+def number(packed, at):
+    return int.from_bytes(packed[at:at + 4], "little")
+
+
 def unpack(packed):
+    """Each file; no setting."""
     at = 0
     while at < len(packed):
-        length = int.from_bytes(packed[at:at + 4], "little")
-        yield packed[at + 4:at + 4 + length]
+        length = number(packed, at)
+        yield packed[at + 4:at + 4 + length], None
         at += 4 + length
+
+
+def unpack_limited(packed):
+    """Each file with its setting, parts and depth."""
+    at = 0
+    while at < len(packed):
+        length = number(packed, at)
+        yield packed[at + 12:at + 12 + length], (number(packed, at + 4), number(packed, at + 8))
+        at += 12 + length
+
+
+CHECK = Question("gen", "batch", "check_vectors", unpack, 0)
+LIMITS = Question("genlimits", "limitbatch", "limit_vectors", unpack_limited, 2)
+
+
+def refusal(said, question):
+    """The check's number."""
+    return int(said.split("\n")[question.line].split(" ")[0])
+
+
+def in_range(setting):
+    return 1 <= setting[0] <= 200 and 1 <= setting[1] <= 100
+
+
+def pairs(settings):
+    """Two of one file's settings, both in range, the first at most the second; two equal settings once."""
+    for i, j in itertools.combinations(range(len(settings)), 2):
+        for less, more in ((i, j), (j, i)):
+            ordered = all(a <= b for a, b in zip(settings[less], settings[more]))
+            if ordered and in_range(settings[less]) and in_range(settings[more]):
+                yield less, more
+                break
+
+
+def claim_fails(less, more):
+    """Request (xi)'s claim on what is said under a smaller and a larger setting."""
+    small, large = refusal(less, LIMITS), refusal(more, LIMITS)
+    if small == 3:
+        return large in (1, 2, 25)
+    if small == 5:
+        return large in (1, 2, 3, 4, 25)
+    return less != more
+
+
+def test_claim(cases, found, counts):
+    """Tests the claim on every file, counts pairs and moved files; gives the first pair that fails."""
+    for start in range(0, len(cases), SETTINGS):
+        moved = False
+        settings = [setting for _, setting in cases[start:start + SETTINGS]]
+        for less, more in pairs(settings):
+            said = found[start + less], found[start + more]
+            if claim_fails(*said):
+                return start + less, start + more
+            counts["pairs"] += 1
+            moved |= refusal(said[0], LIMITS) in (3, 5) and refusal(said[1], LIMITS) not in (3, 5)
+        counts["moved"] += moved
+    return None
+
+
+def under(setting):
+    return f" under parts {setting[0]} and depth {setting[1]}" if setting else ""
+
+
+def compare(given, question, seed, many, counts):
+    """Compares one batch; gives what is wrong, if anything is."""
+    packed = subprocess.run([given.peer, question.make, str(seed), str(many)], stdout=subprocess.PIPE, check=True).stdout
+    cases = list(question.unpack(packed))
+    right, found = answers([given.peer, question.batch], packed), answers([given.program], packed)
+    for i, (file, setting) in enumerate(cases):
+        said = found[i] if i < len(found) else "no answer\n"
+        if said != right[i]:
+            open(given.keep, "wb").write(file)
+            return f"seed {seed}, file {i}{under(setting)}, kept in {given.keep}\nthe peer:\n{right[i]}the program:\n{said}"
+        counts[refusal(said, question)] += 1
+        counts["rows"] += said.count("\n") - 1 - question.line
+    if len(found) != len(cases):
+        return f"seed {seed}: {len(cases)} files, {len(found)} answers\n"
+    failed = test_claim(cases, found, counts) if given.limits else None
+    if failed:
+        open(given.keep, "wb").write(cases[failed[0]][0])
+        told = "".join(f"file {i}{under(cases[i][1])}:\n{found[i]}" for i in failed)
+        return f"seed {seed}, the claim fails, the file is kept in {given.keep}\n{told}"
+    return None
 
 
 def main():
@@ -35,31 +130,26 @@ def main():
     words.add_argument("--count", type=int, default=10000, help="how many files (10000)")
     words.add_argument("--seed", type=int, default=1000, help="the seed of the first batch (1000)")
     words.add_argument("--batch", type=int, default=2000, help="files in a batch (2000)")
-    words.add_argument("--program", default=os.path.join(ROOT, "target", "bin", "check_vectors"), help="target/bin/check_vectors")
+    words.add_argument("--limits", action="store_true", help="ask each file under four settings of the limits")
+    words.add_argument("--program", help="target/bin/check_vectors, with --limits target/bin/limit_vectors")
     words.add_argument("--peer", default=os.path.join(ROOT, "tests", "peer", "target", "release", "oat_peer"), help="the peer's program")
     words.add_argument("--keep", default="different.oat", help="where a file that differs is kept (different.oat)")
     given = words.parse_args()
-    numbers, done, rows = collections.Counter(), 0, 0
+    question = LIMITS if given.limits else CHECK
+    given.program = given.program or os.path.join(ROOT, "target", "bin", question.program)
+    counts, done = collections.Counter(), 0
     while done < given.count:
         many = min(given.batch, given.count - done)
-        seed = given.seed + done // given.batch
-        packed = subprocess.run([given.peer, "gen", str(seed), str(many)], stdout=subprocess.PIPE, check=True).stdout
-        files = list(unpack(packed))
-        right, found = answers([given.peer, "batch"], packed), answers([given.program], packed)
-        for i, file in enumerate(files):
-            said = found[i] if i < len(found) else "no answer\n"
-            if said != right[i]:
-                open(given.keep, "wb").write(file)
-                print(f"seed {seed}, file {i}, kept in {given.keep}\nthe peer:\n{right[i]}the program:\n{said}", end="")
-                return 1
-            numbers[int(said.split(" ")[0])] += 1
-            rows += said.count("\n") - 1
-        if len(found) != len(files):
-            print(f"seed {seed}: {len(files)} files, {len(found)} answers")
+        wrong = compare(given, question, given.seed + done // given.batch, many, counts)
+        if wrong:
+            print(wrong, end="")
             return 1
         done += many
-    print(f"{done} files from seed {given.seed}: every line the same; {numbers[0]} accepted, with {rows} rows")
-    print("refused: " + ", ".join(f"{numbers[n]} under {n}" for n in sorted(numbers) if n))
+    settings = f", each under {SETTINGS} settings" if given.limits else ""
+    print(f"{done} files from seed {given.seed}{settings}: every line the same; {counts[0]} accepted, with {counts['rows']} rows")
+    print("refused: " + ", ".join(f"{counts[n]} under {n}" for n in range(1, 26) if counts[n]))
+    if given.limits:
+        print(f"the claim holds for {counts['pairs']} pairs of settings; {counts['moved']} files are 3 or 5 under the smaller setting alone")
     return 0
 
 

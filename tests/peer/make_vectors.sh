@@ -8,5 +8,7 @@ cp tests/vectors/check.bin crates/check_vectors/stdin
 cp tests/vectors/check.txt crates/check_vectors/stdout
 cp tests/vectors/sub.bin crates/subtype_vectors/stdin
 cp tests/vectors/sub.txt crates/subtype_vectors/stdout
+cp tests/vectors/limits.bin crates/limit_vectors/stdin
+cp tests/vectors/limits.txt crates/limit_vectors/stdout
 tests/reading/pack.sh
 tests/buffers/pack.py

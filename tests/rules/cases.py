@@ -23,9 +23,8 @@ use mathlib.Core.List.{List, [], _∷_}
 use Prim.Native.Nat.{ℕ}
 use Rattle.oat.specs.Tables.{TypeRecord, FieldRecord, StructRecord, BuiltInRecord, NodeRecord, fileOf}
 use Rattle.oat.specs.Syntax.{truth, falsity, integer, text, null, literal, name, arrayLiteral, defaultArray, arrayWith, index, lengthOf, structLiteral, field, call, unary, binary, none, also, noInit, init, nameTarget, indexTarget, fieldTarget, noVar, nextVar, noCondition, condition, assign, var, returnValue, returnVoid, callStmt, ifElse, ifNull, for, while, noStep, step, block, empty, then, global, function}
-use Rattle.oat.specs.ProgramFile.{Program, IsFile}
+use Rattle.oat.specs.ProgramFile.{widest, Program, IsFile}
 use Rattle.typing_rules.specs.Check.{checkOf}
-use Rattle.typing_rules.specs.PanCases.{limits}
 use Rattle.typing_rules.proofs.LawsComputed.{computed, isFile, is-file}
 
 abbrev pub ty : ℕ → ℕ → ℕ → ℕ → TypeRecord
@@ -45,7 +44,7 @@ nd k x t c = record { kind = k; x = x; t = t; children = c }
 
 -- the program is that of a file, and the check answers number, step and place, with these rows
 pub record Answers (p : Program) (number step place : ℕ) (rows : List ℕ) : Type 0 where
-  pub file : IsFile limits (fileOf (p .tables)) p
+  pub file : IsFile widest (fileOf (p .tables)) p
   pub answer : checkOf p ≡ record { number = number; step = step; place = place; rows = rows }
 """
 
@@ -229,7 +228,7 @@ class Case:
     def text(self, name):
         program = "pub program-%s : Program\nprogram-%s = %s\n" % (name, name, self.program)
         stated = "pub %s : Answers program-%s %d %d %d %s" % (name, name, self.number, self.step, self.place, listed(self.rows))
-        proof = "%s = record { file = is-file limits program-%s refl; answer = refl }" % (name, name)
+        proof = "%s = record { file = is-file widest program-%s refl; answer = refl }" % (name, name)
         return "\n%s\n%s\nunfolding program-%s computed isFile\n%s\n" % (program, wrapped(stated, 4), name, proof)
 
 

@@ -1,16 +1,17 @@
 // An answer and the rows of a file's nodes, to standard output.
 use file_sections::Reading;
 use printing::Printed;
+use program_file::Limits;
 ghost use mathlib.Core.Path.{_≡_};
-ghost use Rattle.program_file.specs.Reading.{readingOf, limitsOf};
+ghost use Rattle.program_file.specs.Reading.{settingOf, readingOf};
 ghost use Rattle.printing.specs.Outcome.{leaves, printOf};
 ghost use Rattle.answer_output.specs.Nodes.{nodesOf};
 
 // How many nodes a readable file has; 0 where it is refused.
-pub fn node_count(file: &[u8]) -> usize
-    ensures { λ r. ⌜ r ≡ nodesOf (readingOf (limitsOf 200 100) (now (file .entry))) ⌝ }
+pub fn node_count(file: &[u8], limits: Limits) -> usize
+    ensures { λ r. ⌜ r ≡ nodesOf (readingOf (settingOf limits) (now (file .entry))) ⌝ }
 {
-    let reading = program_file::read(file);
+    let reading = program_file::read(file, limits);
     let Reading::Good(sections) = reading else {
         return 0;
     };

@@ -2,6 +2,8 @@
 // It prints for each file the answer and a line for each fact about the buffers, with NOT before what is not so, and then a line `--`.
 // A fact is found by comparing every number with what stood there before. Files have at most 240 nodes.
 use answer_output::node_count;
+use program_file::Limits;
+use program_file::widest;
 use typing::check::Answer;
 use typing::check::check;
 use vector_input::next_length;
@@ -98,9 +100,10 @@ fn say_changes(number: u16, rows: [u16; 512], work: [u16; 512], needed: usize)
     say(is_painted(work, needed), b", work past as many as before\n");
 }
 
-// Checks a file in the first numbers of two buffers.
+// Checks a file under limits, in the first numbers of two buffers.
 fn check_in(
     file: &[u8],
+    limits: Limits,
     mut rows: [u16; 512],
     rows_length: usize,
     mut work: [u16; 512],
@@ -108,7 +111,12 @@ fn check_in(
 ) -> Outcome
     requires { ⌜ («rows_length» ≤ 512) × («work_length» ≤ 512) ⌝ }
 {
-    let answer = check(file, &mut rows[..rows_length], &mut work[..work_length]);
+    let answer = check(
+        file,
+        limits,
+        &mut rows[..rows_length],
+        &mut work[..work_length],
+    );
     Outcome { answer, rows, work }
 }
 
@@ -124,7 +132,7 @@ fn again(
 )
     requires { ⌜ needed ≤ 512 ⌝ }
 {
-    let outcome = check_in(file, rows, needed, work, needed);
+    let outcome = check_in(file, widest(), rows, needed, work, needed);
     say(is_same_answer(outcome.answer, answer), label);
     let found = outcome.rows;
     say(compare(found, first, 0, needed, true), b", same rows\n");
@@ -169,7 +177,7 @@ fn in_dirty(file: &[u8], needed: usize, answer: Answer, rows: [u16; 512], work: 
 fn in_longer(file: &[u8], needed: usize)
     requires { ⌜ needed ≤ 500 ⌝ }
 {
-    let outcome = check_in(file, painted(), needed + 9, painted(), needed + 9);
+    let outcome = check_in(file, widest(), painted(), needed + 9, painted(), needed + 9);
     let answer = outcome.answer;
     let rows = outcome.rows;
     let work = outcome.work;
@@ -179,20 +187,64 @@ fn in_longer(file: &[u8], needed: usize)
     in_dirty(file, needed, answer, rows, work);
 }
 
-// In painted buffers of these lengths, one of them too short.
-fn in_short(label: &[u8], file: &[u8], rows_length: usize, work_length: usize)
+// In painted buffers of these lengths, where the answer is this number alone and nothing changes.
+fn in_painted(
+    label: &[u8],
+    number: u16,
+    file: &[u8],
+    limits: Limits,
+    rows_length: usize,
+    work_length: usize,
+)
     requires { ⌜ («rows_length» ≤ 512) × («work_length» ≤ 512) ⌝ }
 {
-    let outcome = check_in(file, painted(), rows_length, painted(), work_length);
-    let short = Answer {
-        number: 6,
+    let outcome = check_in(file, limits, painted(), rows_length, painted(), work_length);
+    let bare = Answer {
+        number: number,
         step: 0,
         place: 0,
     };
-    say(is_same_answer(outcome.answer, short), label);
+    say(is_same_answer(outcome.answer, bare), label);
     let rows = outcome.rows;
     let work = outcome.work;
     say_kept(rows, work);
+}
+
+// Rows or work too short by one.
+fn in_short(file: &[u8], needed: usize)
+    requires { ⌜ (1 ≤ needed) × (needed ≤ 500) ⌝ }
+{
+    in_painted(
+        b"short rows: 6 0 0, ",
+        6,
+        file,
+        widest(),
+        needed - 1,
+        needed,
+    );
+    in_painted(
+        b"short work: 6 0 0, ",
+        6,
+        file,
+        widest(),
+        needed,
+        needed - 1,
+    );
+}
+
+// Limits out of their range, in buffers that are longer than needed and in none.
+fn out_of_range(label: &[u8], file: &[u8], parts: usize, depth: usize, needed: usize)
+    requires { ⌜ needed ≤ 500 ⌝ }
+{
+    in_painted(
+        label,
+        25,
+        file,
+        Limits { parts, depth },
+        needed + 9,
+        needed + 9,
+    );
+    in_painted(label, 25, file, Limits { parts, depth }, 0, 0);
 }
 
 // Prints the lines of a file with this many numbers needed.
@@ -201,9 +253,12 @@ fn facts(file: &[u8], needed: usize)
 {
     in_longer(file, needed);
     if 0 < needed {
-        in_short(b"short rows: 6 0 0, ", file, needed - 1, needed);
-        in_short(b"short work: 6 0 0, ", file, needed, needed - 1);
+        in_short(file, needed);
     }
+    out_of_range(b"0 parts: 25 0 0, ", file, 0, 100, needed);
+    out_of_range(b"201 parts: 25 0 0, ", file, 201, 100, needed);
+    out_of_range(b"depth 0: 25 0 0, ", file, 200, 0, needed);
+    out_of_range(b"depth 101: 25 0 0, ", file, 200, 101, needed);
     io::write_all(1, b"--\n");
 }
 
@@ -213,7 +268,7 @@ fn answer_one(file: &[u8], bytes: usize) {
         return;
     }
     let part = &file[..bytes];
-    let nodes = node_count(part);
+    let nodes = node_count(part, widest());
     if nodes <= 240 {
         facts(part, 2 * nodes);
     }

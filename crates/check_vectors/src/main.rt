@@ -3,19 +3,20 @@
 // that every file but the first is checked over the numbers of another.
 use answer_output::node_count;
 use answer_output::write_answer;
+use program_file::widest;
 use typing::check::check;
 use vector_input::next_length;
 use vector_input::read_one;
 
 // Checks a file and prints its lines.
 fn answer(file: &[u8], rows: &mut [u16], work: &mut [u16], text: &mut [u8]) {
-    let answer = check(file, &mut *rows, work);
+    let answer = check(file, widest(), &mut *rows, work);
     write_answer(
         answer.number,
         answer.step,
         answer.place,
         &*rows,
-        node_count(file),
+        node_count(file, widest()),
         text,
     );
     io::write_all(1, b"--\n");

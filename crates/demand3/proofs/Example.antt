@@ -10,7 +10,8 @@ use Rattle.oat.specs.Basics.{tabulate}
 use Rattle.oat.specs.Tables.{Tables, recordNumbers, numbersOf, bytesOf, fileOf}
 use Rattle.oat.specs.Types.{Ty, bool, written, firstTypes, typeOf}
 use Rattle.oat.specs.Syntax.{name}
-use Rattle.oat.specs.ProgramFile.{IsFile}
+use Rattle.oat.specs.ProgramFile.{widest, IsFile}
+use Rattle.oat.proofs.LawsLimits.{widest-in-range}
 use Rattle.typing_rules.specs.Contexts.{empty, hit, miss, find, Context, findName}
 use Rattle.typing_rules.specs.Labels.{Labels}
 use Rattle.typing_rules.specs.Rules.{ExprRule, typ-literal, typ-local, typ-global}
@@ -19,13 +20,13 @@ use Rattle.typing_rules.specs.Steps.{Step, structName, globalValue, headings, g
 use Rattle.typing_rules.specs.Rows.{NumberOf, rows-none, rows-node, labelsFrom, DeclRows, no-rows, global-rows}
 use Rattle.typing_rules.proofs.LawsComputed.{computed, isFile, is-file}
 use Rattle.typing_rules.proofs.LawsSubtrees.{at-literal}
-use Rattle.demand3.specs.CheckFile.{limits, outcome, Checks, checked}
+use Rattle.demand3.specs.CheckFile.{outcome, Checks, checked}
 use Rattle.demand3.specs.Demand3.{Derivable}
 use Rattle.demand3.specs.Example.{exampleBytes, example, exampleLabels, exampleContext, exampleRows, unbound}
 
-pub example-file : IsFile limits exampleBytes example
+pub example-file : IsFile widest exampleBytes example
 unfolding recordNumbers numbersOf bytesOf isFile
-example-file = is-file limits example refl
+example-file = is-file widest example refl
 
 -- by its rules: TYP_GGDECL over TYP_BOOL_TRUE
 pub example-derivation : DerivesFile example exampleLabels exampleContext
@@ -44,13 +45,13 @@ example-rows =
     global-rows (rows-node value refl (rows-node value refl rows-none)) no-rows
 
 -- whatever the buffers hold
-pub example-outcome : (rows work : List ℕ) → 4 ≤ length rows → 4 ≤ length work → Checks exampleBytes rows work (outcome 0 1 0 (exampleRows ++ drop 4 rows))
+pub example-outcome : (rows work : List ℕ) → 4 ≤ length rows → 4 ≤ length work → Checks widest exampleBytes rows work (outcome 0 1 0 (exampleRows ++ drop 4 rows))
 unfolding computed
-example-outcome rows work r w = checked example example-file r w
+example-outcome rows work r w = checked widest-in-range example example-file r w
 
-pub unbound-file : IsFile limits (fileOf (unbound .tables)) unbound
+pub unbound-file : IsFile widest (fileOf (unbound .tables)) unbound
 unfolding isFile
-unbound-file = is-file limits unbound refl
+unbound-file = is-file widest unbound refl
 
 -- no rule gives a name a type where nothing is bound
 no-name : {T : Tables} {D : Labels Ty} {n x : ℕ} → D n .before ≡ empty → ExprRule T emptyContext D n (name x) → ⊥
@@ -72,6 +73,6 @@ pub unbound-derivation : Derivable unbound → ⊥
 unfolding tabulate headings globals bodies stepsOf
 unbound-derivation d = no-global (first-step (d .derives .rules))
 
-pub unbound-outcome : (rows work : List ℕ) → 4 ≤ length rows → 4 ≤ length work → Checks (fileOf (unbound .tables)) rows work (outcome 8 0 1 (replicate 4 65535 ++ drop 4 rows))
+pub unbound-outcome : (rows work : List ℕ) → 4 ≤ length rows → 4 ≤ length work → Checks widest (fileOf (unbound .tables)) rows work (outcome 8 0 1 (replicate 4 65535 ++ drop 4 rows))
 unfolding computed
-unbound-outcome rows work r w = checked unbound unbound-file r w
+unbound-outcome rows work r w = checked widest-in-range unbound unbound-file r w

@@ -11,7 +11,7 @@ use Rattle.oat.specs.Basics.{tabulate}
 use Rattle.oat.specs.Tables.{Tables, typeAt, structAt, builtInAt}
 use Rattle.oat.specs.Types.{Field, Lookup, found, missing, lookup, structOf}
 use Rattle.oat.specs.Syntax.{Expr, null, literal, name, arrayLiteral, defaultArray, arrayWith, index, lengthOf, structLiteral, field, call, unary, binary, Exprs, none, also, count, Inits, noInit, init, targetExpr, Vars, noVar, nextVar, Condition, noCondition, condition, Stmt, assign, var, returnValue, returnVoid, callStmt, ifElse, ifNull, for, while, Step, noStep, step, Block, block, Stmts, empty, then, Decl, global, function, size, sizes, sizeInits, sizeTarget, sizeVars, sizeCondition, sizeStep, sizeBlock, sizeStmt, sizeStmts, sizeDecl, sizeDecls}
-use Rattle.oat.specs.ProgramFile.{Program, IsFile}
+use Rattle.oat.specs.ProgramFile.{widest, Program, IsFile}
 use Rattle.oat.proofs.LawsBasics.{tabulate-long}
 use Rattle.typing_rules.specs.Contexts.{Scope, empty as emptyScope, binds, Hit, hit, miss, find, isFresh, Context, findName, orElse}
 use Rattle.typing_rules.specs.Labels.{Label}
@@ -22,7 +22,6 @@ use Rattle.typing_rules.specs.Steps.{Step as CheckStep, structName, builtIn, he
 use Rattle.typing_rules.specs.Check.{isMissing, isMiss, fieldsFormed, runStep, Segment, Ran, accepted, refused, withSegment, onStep, run}
 use Rattle.typing_rules.proofs.Theorem.{runOf, accepted-derives, refused-step}
 use Rattle.typing_rules.proofs.LawsNumbers.{refused-number}
-use Rattle.demand3.specs.CheckFile.{limits}
 use Rattle.demand3.proofs.Theorem.{fits}
 
 -- a statement has a node
@@ -365,10 +364,10 @@ few-steps p =
     (omega (arith, few-headings 0 (p .declarations), few-globals 0 (p .declarations), few-bodies 0 (p .declarations)))
 
 -- so a file has few steps
-file-steps : (bytes : List ℕ) (p : Program) → IsFile limits bytes p → length (stepsOf p) < 65535
+file-steps : (bytes : List ℕ) (p : Program) → IsFile widest bytes p → length (stepsOf p) < 65535
 file-steps bytes p f = omega (arith, few-steps p, f .used-up, f .counts .structs, f .counts .builtIns, f .counts .nodes)
 
-pub refused-fits : (bytes : List ℕ) (p : Program) → IsFile limits bytes p → (m j q : ℕ) → runOf p ≡ refused m j q → (m ≤ 16) × (j < 65535) × (q < 65535)
+pub refused-fits : (bytes : List ℕ) (p : Program) → IsFile widest bytes p → (m j q : ℕ) → runOf p ≡ refused m j q → (m ≤ 16) × (j < 65535) × (q < 65535)
 refused-fits bytes p f m j q e =
     let (least, most) = refused-number p m j q e in
     let within = refused-step p (fits bytes p f) m j q e .0 in
@@ -376,7 +375,7 @@ refused-fits bytes p f m j q e =
     let place = refused-place p 4096 (omega (arith, c .structs)) (omega (arith, c .builtIns)) (omega (arith, f .used-up, c .nodes)) m j q e in
     (omega arith, omega (arith, file-steps bytes p f), omega arith)
 
-pub accepted-fits : (bytes : List ℕ) (p : Program) → IsFile limits bytes p → (gs : List Segment) (k : ℕ) → runOf p ≡ accepted gs k → k < 65535
+pub accepted-fits : (bytes : List ℕ) (p : Program) → IsFile widest bytes p → (gs : List Segment) (k : ℕ) → runOf p ≡ accepted gs k → k < 65535
 accepted-fits bytes p f gs k e =
     let all = accepted-derives p (fits bytes p f) gs k e .0 in
     omega (arith, file-steps bytes p f)

@@ -1,3 +1,4 @@
 pub mod Example
+pub mod Growth
 pub mod LawsPlaces
 pub mod Theorem

@@ -1,5 +1,5 @@
--- Demand 3 (`demand3`): it holds of the outcome of every readable file with long enough buffers, whatever they hold. And the check on bytes has
--- one outcome for every input (`has-outcome`, `one-outcome`). Assumes nothing.
+-- Demand 3 (`demand3`): it holds of the outcome of every readable file under limits in range, with long enough buffers, whatever they hold. And
+-- the check on bytes has one outcome for every input (`has-outcome`, `one-outcome`). Assumes nothing.
 use mathlib.Core.Path.{_≡_, refl, ap, sym, _∙_, subst}
 use mathlib.Core.Bool.{Bool, true, false}
 use mathlib.Core.List.{List, _++_}
@@ -13,11 +13,13 @@ use Rattle.oat.specs.Basics.{pick}
 use Rattle.oat.specs.Tables.{Tables}
 use Rattle.oat.specs.Types.{Ty}
 use Rattle.oat.specs.Syntax.{Decl, size, sizeBlock, sizeDecls}
-use Rattle.oat.specs.ProgramFile.{Program, IsFile}
+use Rattle.oat.specs.ProgramFile.{Limits, inRange, widest, Program, IsFile}
+use Rattle.oat.proofs.LawsLimits.{within-widest, wider}
 use Rattle.file_sections.specs.declared.Reading.{Reading}
 use Rattle.file_sections.specs.declared.Reading.the-variants.{Refused, Good}
 use Rattle.program_file.specs.Reading.{readingOf}
-use Rattle.program_file.proofs.Theorem.{Bytes, program-of, reading-of, one-program}
+use Rattle.program_file.proofs.LawsReading.{good-in-range}
+use Rattle.program_file.proofs.Theorem.{Bytes, program-of, one-program, not-refused}
 use Rattle.typing_rules.specs.Contexts.{Context}
 use Rattle.typing_rules.specs.Labels.{Labels}
 use Rattle.typing_rules.specs.Steps.{Step, stepsOf, SameOn, same-none, same-step, DerivesFile}
@@ -26,11 +28,11 @@ use Rattle.typing_rules.specs.Rows.{DeclRows, no-rows, global-rows, function-ro
 use Rattle.typing_rules.proofs.Theorem.{Fits, file-fits, runOf, accepted-derives, derives-accepted, refused-step}
 use Rattle.typing_rules.proofs.LawsNumbers.{refused-number}
 use Rattle.typing_rules.proofs.RowsTheorem.{rows-are-derived, rows-long, parameters-long, labels-long}
-use Rattle.demand3.specs.CheckFile.{limits, needed, Outcome, outcome, Checks, unreadable, rows-short, work-short, checked}
+use Rattle.demand3.specs.CheckFile.{needed, Outcome, outcome, Checks, unreadable, rows-short, work-short, checked}
 use Rattle.demand3.specs.Demand3.{Derivable, StopsAt, Demand3}
 
 -- a file's program keeps the rules
-pub fits : (bytes : List ℕ) (p : Program) → IsFile limits bytes p → Fits p
+pub fits : (bytes : List ℕ) (p : Program) → IsFile widest bytes p → Fits p
 fits bytes p f = file-fits 100 bytes p f
 
 -- how many numbers rows are
@@ -115,40 +117,42 @@ run-case : (p : Program) (rows : List ℕ) → Fits p → sizeDecls (p .declarat
 run-case p rows f used (accepted gs k) e = accepted-case p rows f used gs k e
 run-case p rows f used (refused m j q) e = refused-case p rows f m j q e
 
-checked-case : (bytes rows : List ℕ) (p : Program) → IsFile limits bytes p → Demand3 p rows (outcomeOf p rows (checkOf p))
+checked-case : (bytes rows : List ℕ) (p : Program) → IsFile widest bytes p → Demand3 p rows (outcomeOf p rows (checkOf p))
 unfolding checkOf
 checked-case bytes rows p f = run-case p rows (fits bytes p f) (f .used-up) (runOf p) refl
 
--- a file's program gives its outcome
-same-outcome : (bytes rows : List ℕ) (p q : Program) → IsFile limits bytes p → IsFile limits bytes q → outcomeOf q rows (checkOf q) ≡ outcomeOf p rows (checkOf p)
-same-outcome bytes rows p q f g = ap (λ (x : Program). outcomeOf x rows (checkOf x)) (one-program limits bytes q p g f)
+module _ (limits : Limits) (bytes rows work : List ℕ) where
+  -- a file's program gives its outcome
+  same-outcome : (p q : Program) → IsFile limits bytes p → IsFile limits bytes q → outcomeOf q rows (checkOf q) ≡ outcomeOf p rows (checkOf p)
+  same-outcome p q f g = ap (λ (x : Program). outcomeOf x rows (checkOf x)) (one-program limits bytes q p g f)
 
-pub demand3 : (bytes rows work : List ℕ) (p : Program) → IsFile limits bytes p → needed p ≤ length rows → needed p ≤ length work → (o : Outcome) → Checks bytes rows work o → Demand3 p rows o
-unfolding outcomeOf
-demand3 bytes rows work p f r w o (unreadable n e) =
-    let good = reading-of limits bytes p f .0 in
-    absurd (let z : _≡_ {A = ℕ} 0 1 = cc in omega arith)
-demand3 bytes rows work p f r w o (rows-short q g l) =
-    let same : needed q ≡ needed p = ap needed (one-program limits bytes q p g f) in
-    absurd (omega arith)
-demand3 bytes rows work p f r w o (work-short q g l k) =
-    let same : needed q ≡ needed p = ap needed (one-program limits bytes q p g f) in
-    absurd (omega arith)
-demand3 bytes rows work p f r w o (checked q g l k) =
-    subst (Demand3 p rows) (sym (same-outcome bytes rows p q f g)) (checked-case bytes rows p f)
+  pub demand3 : inRange limits ≡ true → (p : Program) → IsFile limits bytes p → needed p ≤ length rows → needed p ≤ length work → (o : Outcome) → Checks limits bytes rows work o → Demand3 p rows o
+  unfolding outcomeOf
+  demand3 i p f r w o (unreadable n e) = absurd (not-refused limits i bytes n e p f)
+  demand3 i p f r w o (rows-short j q g l) =
+      let same : needed q ≡ needed p = ap needed (one-program limits bytes q p g f) in
+      absurd (omega arith)
+  demand3 i p f r w o (work-short j q g l k) =
+      let same : needed q ≡ needed p = ap needed (one-program limits bytes q p g f) in
+      absurd (omega arith)
+  demand3 i p f r w o (checked j q g l k) =
+      subst (Demand3 p rows) (sym (same-outcome p q f g)) (checked-case bytes rows p (wider (within-widest limits i) f))
 
--- every input has an outcome
-lengths : (bytes rows work : List ℕ) (p : Program) → IsFile limits bytes p → (a b : Bool) → ltb (length rows) (needed p) ≡ a → ltb (length work) (needed p) ≡ b → (o : Outcome) × Checks bytes rows work o
-lengths bytes rows work p f true b h k = (_, rows-short p f (ltb-true (length rows) (needed p) h))
-lengths bytes rows work p f false true h k = (_, work-short p f (ltb-false (length rows) (needed p) h) (ltb-true (length work) (needed p) k))
-lengths bytes rows work p f false false h k = (_, checked p f (ltb-false (length rows) (needed p) h) (ltb-false (length work) (needed p) k))
+  -- every input has an outcome
+  lengths : inRange limits ≡ true → (p : Program) → IsFile limits bytes p → (a b : Bool) → ltb (length rows) (needed p) ≡ a → ltb (length work) (needed p) ≡ b → (o : Outcome) × Checks limits bytes rows work o
+  lengths i p f true b h k = (_, rows-short i p f (ltb-true (length rows) (needed p) h))
+  lengths i p f false true h k = (_, work-short i p f (ltb-false (length rows) (needed p) h) (ltb-true (length work) (needed p) k))
+  lengths i p f false false h k = (_, checked i p f (ltb-false (length rows) (needed p) h) (ltb-false (length work) (needed p) k))
 
-reads : (bytes rows work : List ℕ) → Bytes bytes → (r : Reading) → readingOf limits bytes ≡ r → (o : Outcome) × Checks bytes rows work o
-reads bytes rows work b (Refused n) e = (_, unreadable n e)
-reads bytes rows work b (Good S) e = let (p, f) = program-of limits bytes S b e in lengths bytes rows work p f _ _ refl refl
+  reads : Bytes bytes → (r : Reading) → readingOf limits bytes ≡ r → (o : Outcome) × Checks limits bytes rows work o
+  reads b (Refused n) e = (_, unreadable n e)
+  reads b (Good S) e =
+      let (i, good) = good-in-range limits bytes S e in
+      let (p, f) = program-of limits bytes S b good in
+      lengths i p f _ _ refl refl
 
-pub has-outcome : (bytes rows work : List ℕ) → Bytes bytes → (o : Outcome) × Checks bytes rows work o
-has-outcome bytes rows work b = reads bytes rows work b (readingOf limits bytes) refl
+  pub has-outcome : Bytes bytes → (o : Outcome) × Checks limits bytes rows work o
+  has-outcome b = reads b (readingOf limits bytes) refl
 
 -- and one alone: that of its reading, or of its program
 outcomeFor : Program → List ℕ → List ℕ → Outcome
@@ -156,21 +160,22 @@ outcomeFor p rows work =
     pick (ltb (length rows) (needed p)) (outcome 6 0 0 rows)
     (pick (ltb (length work) (needed p)) (outcome 6 0 0 rows) (outcomeOf p rows (checkOf p)))
 
-unread : (bytes rows work : List ℕ) (n : ℕ) (o : Outcome) → readingOf limits bytes ≡ Refused n → Checks bytes rows work o → o ≡ outcome n 0 0 rows
-unread bytes rows work n o e (unreadable m h) = let same : m ≡ n = cc in ap (λ k. outcome k 0 0 rows) same
-unread bytes rows work n o e (rows-short p f l) = let good = reading-of limits bytes p f .0 in absurd (let z : _≡_ {A = ℕ} 0 1 = cc in omega arith)
-unread bytes rows work n o e (work-short p f l k) = let good = reading-of limits bytes p f .0 in absurd (let z : _≡_ {A = ℕ} 0 1 = cc in omega arith)
-unread bytes rows work n o e (checked p f l k) = let good = reading-of limits bytes p f .0 in absurd (let z : _≡_ {A = ℕ} 0 1 = cc in omega arith)
+module _ (limits : Limits) (bytes rows work : List ℕ) where
+  pub unread : (n : ℕ) (o : Outcome) → readingOf limits bytes ≡ Refused n → Checks limits bytes rows work o → o ≡ outcome n 0 0 rows
+  unread n o e (unreadable m h) = let same : m ≡ n = cc in ap (λ k. outcome k 0 0 rows) same
+  unread n o e (rows-short i p f l) = absurd (not-refused limits i bytes n e p f)
+  unread n o e (work-short i p f l k) = absurd (not-refused limits i bytes n e p f)
+  unread n o e (checked i p f l k) = absurd (not-refused limits i bytes n e p f)
 
-program-outcome : (bytes rows work : List ℕ) (p : Program) (o : Outcome) → IsFile limits bytes p → Checks bytes rows work o → o ≡ outcomeFor p rows work
-unfolding outcomeFor outcomeOf
-program-outcome bytes rows work p o f (unreadable n e) = let good = reading-of limits bytes p f .0 in absurd (let z : _≡_ {A = ℕ} 0 1 = cc in omega arith)
-program-outcome bytes rows work p o f (rows-short q g l) = rw (← one-program limits bytes q p g f, lt-ltb _ _ l)
-program-outcome bytes rows work p o f (work-short q g l k) = rw (← one-program limits bytes q p g f, le-ltb _ _ l, lt-ltb _ _ k)
-program-outcome bytes rows work p o f (checked q g l k) = rw (← one-program limits bytes q p g f, le-ltb _ _ l, le-ltb _ _ k)
+  program-outcome : inRange limits ≡ true → (p : Program) (o : Outcome) → IsFile limits bytes p → Checks limits bytes rows work o → o ≡ outcomeFor p rows work
+  unfolding outcomeFor outcomeOf
+  program-outcome i p o f (unreadable n e) = absurd (not-refused limits i bytes n e p f)
+  program-outcome i p o f (rows-short j q g l) = rw (← one-program limits bytes q p g f, lt-ltb _ _ l)
+  program-outcome i p o f (work-short j q g l k) = rw (← one-program limits bytes q p g f, le-ltb _ _ l, lt-ltb _ _ k)
+  program-outcome i p o f (checked j q g l k) = rw (← one-program limits bytes q p g f, le-ltb _ _ l, le-ltb _ _ k)
 
-pub one-outcome : (bytes rows work : List ℕ) (o u : Outcome) → Checks bytes rows work o → Checks bytes rows work u → o ≡ u
-one-outcome bytes rows work o u (unreadable n e) d = sym (unread bytes rows work n u e d)
-one-outcome bytes rows work o u (rows-short p f l) d = program-outcome bytes rows work p _ f (rows-short p f l) ∙ sym (program-outcome bytes rows work p u f d)
-one-outcome bytes rows work o u (work-short p f l k) d = program-outcome bytes rows work p _ f (work-short p f l k) ∙ sym (program-outcome bytes rows work p u f d)
-one-outcome bytes rows work o u (checked p f l k) d = program-outcome bytes rows work p _ f (checked p f l k) ∙ sym (program-outcome bytes rows work p u f d)
+  pub one-outcome : (o u : Outcome) → Checks limits bytes rows work o → Checks limits bytes rows work u → o ≡ u
+  one-outcome o u (unreadable n e) d = sym (unread n u e d)
+  one-outcome o u (rows-short i p f l) d = program-outcome i p _ f (rows-short i p f l) ∙ sym (program-outcome i p u f d)
+  one-outcome o u (work-short i p f l k) d = program-outcome i p _ f (work-short i p f l k) ∙ sym (program-outcome i p u f d)
+  one-outcome o u (checked i p f l k) d = program-outcome i p _ f (checked i p f l k) ∙ sym (program-outcome i p u f d)

@@ -1,6 +1,7 @@
 pub mod LawsBasics
 pub mod LawsBelow
 pub mod LawsFormed
+pub mod LawsLimits
 pub mod LawsNodes
 pub mod LawsOrder
 pub mod LawsSame

@@ -1,20 +1,41 @@
--- Document 01, 'The program file': what it is for bytes to be a program file. A file can be read exactly when this holds of its
--- bytes and some program (`program_file`, proofs/Theorem.antt). Assumes nothing.
+-- Document 01, 'The program file', and document 02, (xi), its limits: what it is for bytes to be a program file. A file can be read exactly
+-- when this holds of its bytes and some program (`program_file`, proofs/Theorem.antt). Assumes nothing.
 use mathlib.Core.Path.{_≡_}
-use mathlib.Core.Bool.{true}
+use mathlib.Core.Bool.{Bool, true, _&&_}
 use mathlib.Core.List.{List}
 use Prim.Native.Nat.{ℕ, _≤_}
 use lib.ListN.{length}
+use lib.Dec.{leb}
 use Rattle.oat.specs.Tables.{Tables, fileOf}
 use Rattle.oat.specs.TypeRules.{typesRight}
 use Rattle.oat.specs.TableRules.{tablesRight}
 use Rattle.oat.specs.Syntax.{Decl, sizeDecls, depthDecls}
 use Rattle.oat.specs.Nodes.{DeclsStand}
 
--- the two limits: a type's parts, and the depth of nodes. Document 01 has 200 and 100.
+-- the two limits: how many parts a type has at most, and how deep nodes are at most
 pub record Limits : Type 0 where
   pub parts : ℕ
   pub depth : ℕ
+
+abbrev pub limitsOf : ℕ → ℕ → Limits
+limitsOf parts depth = record { parts = parts; depth = depth }
+
+-- from 1 to `most`, both ends in
+unfoldable pub fromOneTo : ℕ → ℕ → Bool
+fromOneTo most n = leb 1 n && leb n most
+
+-- in range: from 1 to 200 parts, from 1 to 100 levels
+unfoldable pub inRange : Limits → Bool
+inRange l = fromOneTo 200 (l .parts) && fromOneTo 100 (l .depth)
+
+-- document 01's limits, the widest
+abbrev pub widest : Limits
+widest = limitsOf 200 100
+
+-- a is within b: b is at least a in both
+pub record Within (a b : Limits) : Type 0 where
+  pub parts : a .parts ≤ b .parts
+  pub depth : a .depth ≤ b .depth
 
 -- a program: its sections, and the trees of its declarations
 pub record Program : Type 0 where

@@ -1,28 +1,38 @@
-// The operations for C and Rust, over plain pointers and lengths (`rt staticlib oat_c`).
+// The operations for C and Rust, over plain pointers and lengths (`rt staticlib oat_c`). The two limits are plain numbers: `parts` from 1 to
+// 200, `depth` from 1 to 100.
+use program_file::Limits;
 use subtyping::question::Answer;
 ghost use mathlib.Core.Path.{_≡_};
-ghost use Rattle.program_file.specs.Reading.{readingOf, limitsOf, numberOf, Reads};
+ghost use Rattle.oat.specs.ProgramFile.{limitsOf};
+ghost use Rattle.program_file.specs.Reading.{readingOf, numberOf, Reads};
 ghost use Rattle.subtyping.specs.Question.{subtypeOf, refusalNumber, yesAfter, Answers};
 ghost use Rattle.typing.specs.Check.{Checked, Demands};
 
 // 0 where the file is readable, or the number under which it is refused.
 #[no_mangle]
-pub extern "C" fn oat_read(file: &[u8]) -> u16
-    ensures { λ r. ⌜ r ≡ numberOf (readingOf (limitsOf 200 100) (now (file .entry))) ⌝ }
-    ensures { λ r. ⌜ Reads (now (file .entry)) r ⌝ }
+pub extern "C" fn oat_read(file: &[u8], parts: usize, depth: usize) -> u16
+    ensures { λ r. ⌜ r ≡ numberOf (readingOf (limitsOf parts depth) (now (file .entry))) ⌝ }
+    ensures { λ r. ⌜ Reads (limitsOf parts depth) (now (file .entry)) r ⌝ }
 {
-    program_file::number(program_file::read(file))
+    program_file::number(program_file::read(file, Limits { parts, depth }))
 }
 
 // 0, with 1 in `yes` where the type a is below the type b and else 0; or the number under which the question is refused, and `yes` as it
 // was.
 #[no_mangle]
-pub extern "C" fn oat_subtype(file: &[u8], a: usize, b: usize, yes: &mut u8) -> u16
-    ensures { λ r. ⌜ r ≡ refusalNumber (subtypeOf (now (file .entry)) a b) ⌝ }
-    ensures { λ _. ⌜ now (yes .exit) ≡ yesAfter (now (yes .entry)) (subtypeOf (now (file .entry)) a b) ⌝ }
-    ensures { λ r. ⌜ Answers (now (file .entry)) a b r (now (yes .entry)) (now (yes .exit)) ⌝ }
+pub extern "C" fn oat_subtype(
+    file: &[u8],
+    parts: usize,
+    depth: usize,
+    a: usize,
+    b: usize,
+    yes: &mut u8,
+) -> u16
+    ensures { λ r. ⌜ r ≡ refusalNumber (subtypeOf (limitsOf parts depth) (now (file .entry)) a b) ⌝ }
+    ensures { λ _. ⌜ now (yes .exit) ≡ yesAfter (now (yes .entry)) (subtypeOf (limitsOf parts depth) (now (file .entry)) a b) ⌝ }
+    ensures { λ r. ⌜ Answers (limitsOf parts depth) (now (file .entry)) a b r (now (yes .entry)) (now (yes .exit)) ⌝ }
 {
-    let answer = subtyping::question::subtype(file, a, b);
+    let answer = subtyping::question::subtype(file, Limits { parts, depth }, a, b);
     match answer {
         Answer::Refused(number) => number,
         Answer::Yes => {
@@ -41,15 +51,17 @@ pub extern "C" fn oat_subtype(file: &[u8], a: usize, b: usize, yes: &mut u8) -> 
 #[no_mangle]
 pub extern "C" fn oat_check(
     file: &[u8],
+    parts: usize,
+    depth: usize,
     rows: &mut [u16],
     work: &mut [u16],
     step: &mut u16,
     place: &mut u16,
 ) -> u16
-    ensures { λ r. ⌜ Checked (now (file .entry)) (now (rows .entry)) (now (work .entry)) (now (rows .exit)) (now (work .exit)) (record { number = r; step = now (step .exit); place = now (place .exit) }) ⌝ }
-    ensures { λ r. ⌜ Demands (now (file .entry)) (now (rows .entry)) (now (work .entry)) (now (rows .exit)) (record { number = r; step = now (step .exit); place = now (place .exit) }) ⌝ }
+    ensures { λ r. ⌜ Checked (limitsOf parts depth) (now (file .entry)) (now (rows .entry)) (now (work .entry)) (now (rows .exit)) (now (work .exit)) (record { number = r; step = now (step .exit); place = now (place .exit) }) ⌝ }
+    ensures { λ r. ⌜ Demands (limitsOf parts depth) (now (file .entry)) (now (rows .entry)) (now (work .entry)) (now (rows .exit)) (record { number = r; step = now (step .exit); place = now (place .exit) }) ⌝ }
 {
-    let answer = typing::check::check(file, rows, work);
+    let answer = typing::check::check(file, Limits { parts, depth }, rows, work);
     *step = answer.step;
     *place = answer.place;
     answer.number

@@ -2,17 +2,18 @@
 // for each node follows, with its number and row.
 use answer_output::node_count;
 use answer_output::write_answer;
+use program_file::widest;
 use typing::check::check;
 
 // Checks a file and prints the answer.
 fn answer(file: &[u8], rows: &mut [u16], work: &mut [u16], text: &mut [u8]) {
-    let answer = check(file, &mut *rows, work);
+    let answer = check(file, widest(), &mut *rows, work);
     write_answer(
         answer.number,
         answer.step,
         answer.place,
         &*rows,
-        node_count(file),
+        node_count(file, widest()),
         text,
     );
 }

@@ -2,7 +2,7 @@
 fn main() {
     let mut file = [0u8; 45069];
     let length = io::read_full(0, &mut file);
-    let answer = program_file::number(program_file::read(&file[..length]));
+    let answer = program_file::number(program_file::read(&file[..length], program_file::widest()));
     io::print_decimal(1, answer as u64);
     io::write_all(1, b"\n");
 }

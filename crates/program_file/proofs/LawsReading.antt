@@ -1,16 +1,17 @@
--- The ways through a reading, and the numbers that it refuses under. Assumes nothing.
-use mathlib.Core.Path.{_≡_, sym, _∙_}
+-- The ways through a reading, the numbers that it refuses under, and 25 before them. Assumes nothing.
+use mathlib.Core.Path.{_≡_, refl, sym, _∙_}
 use mathlib.Core.Bool.{Bool, true, false, not}
 use mathlib.Core.List.{List}
-use Prim.Native.Nat.{ℕ, _+_, _*_, _≤_}
+use Prim.Native.Nat.{ℕ, _+_, _*_, _≤_, _<_}
 use native.Mathlib.Omega.{arith}
 use lib.ListN.{length}
-use lib.Dec.{eqb, ltb}
-use borrow.Author.Tests.{not-true, not-false}
+use lib.Dec.{eqb, ltb, leb}
+use borrow.Author.Tests.{le-leb, lt-leb, not-true, not-false}
 use Rattle.oat.specs.Basics.{pick}
 use Rattle.oat.specs.TypeRules.{typesRight}
 use Rattle.oat.specs.TableRules.{tablesRight}
-use Rattle.oat.specs.ProgramFile.{Limits}
+use Rattle.oat.specs.ProgramFile.{Limits, limitsOf, fromOneTo, inRange}
+use Rattle.oat.proofs.LawsLimits.{in-range}
 use Rattle.file_sections.specs.declared.Sections.{Sections}
 use Rattle.file_sections.specs.declared.Reading.{Reading}
 use Rattle.file_sections.specs.declared.Reading.the-variants.{Refused, Good}
@@ -20,33 +21,33 @@ use Rattle.file_sections.specs.Numbers.{numberAt}
 use Rattle.file_sections.specs.Layout.{Laid, sectionOf, thenSection, thenReading, frontOf, sectionsOf, tablesOf}
 use Rattle.file_sections.proofs.LawsFile.{all-stood}
 use Rattle.node_tree.specs.Tree.{treesRight}
-use Rattle.program_file.specs.Reading.{readingOf, limitsOf}
+use Rattle.program_file.specs.Reading.{readingWithin, readingOf}
 
 pub laid : (s : List ℕ) (r : Reading) (S : Sections) → r ≡ sectionsOf s → r ≡ Good S → Laid s S
 laid s r S e h = all-stood s S (sym h ∙ e) .laid
 
 module _ (s : List ℕ) (parts depth : ℕ) (r : Reading) (e : r ≡ sectionsOf s) where
-  pub sections-refused : (n : ℕ) → r ≡ Refused n → r ≡ readingOf (limitsOf parts depth) s
-  unfolding readingOf
+  pub sections-refused : (n : ℕ) → r ≡ Refused n → r ≡ readingWithin (limitsOf parts depth) s
+  unfolding readingWithin
   sections-refused n h = h ∙ rw (← e, h)
 
   module _ (S : Sections) (h : r ≡ Good S) (t : Bool) (et : t ≡ typesRight parts (tablesOf s S)) where
-    pub types-broken : not t ≡ true → Refused 3 ≡ readingOf (limitsOf parts depth) s
-    unfolding readingOf
+    pub types-broken : not t ≡ true → Refused 3 ≡ readingWithin (limitsOf parts depth) s
+    unfolding readingWithin
     types-broken b = rw (← e, h, ← et, not-true t b)
 
     module _ (b : not t ≡ false) (u : Bool) (eu : u ≡ tablesRight (tablesOf s S)) where
-      pub tables-broken : not u ≡ true → Refused 4 ≡ readingOf (limitsOf parts depth) s
-      unfolding readingOf
+      pub tables-broken : not u ≡ true → Refused 4 ≡ readingWithin (limitsOf parts depth) s
+      unfolding readingWithin
       tables-broken c = rw (← e, h, ← et, not-false t b, ← eu, not-true u c)
 
       module _ (c : not u ≡ false) (v : Bool) (ev : v ≡ treesRight depth (tablesOf s S)) where
-        pub trees-broken : not v ≡ true → Refused 5 ≡ readingOf (limitsOf parts depth) s
-        unfolding readingOf
+        pub trees-broken : not v ≡ true → Refused 5 ≡ readingWithin (limitsOf parts depth) s
+        unfolding readingWithin
         trees-broken d = rw (← e, h, ← et, not-false t b, ← eu, not-false u c, ← ev, not-true v d)
 
-        pub all-right : not v ≡ false → Good S ≡ readingOf (limitsOf parts depth) s
-        unfolding readingOf
+        pub all-right : not v ≡ false → Good S ≡ readingWithin (limitsOf parts depth) s
+        unfolding readingWithin
         all-right d = rw (← e, h, ← et, not-false t b, ← eu, not-false u c, ← ev, not-false v d)
 
 -- a refusal is under 1 to 5
@@ -97,8 +98,8 @@ low-sections s =
     then-section (sectionOf s nodes 4096 4) _ (low-section s _ _ _) λ count end.
     pick-refused (eqb (length s) (end * 2)) _ 1 (omega arith) (omega arith) low-good
 
-pub low-reading : (limits : Limits) (s : List ℕ) → Low (readingOf limits s)
-unfolding readingOf
+pub low-reading : (limits : Limits) (s : List ℕ) → Low (readingWithin limits s)
+unfolding readingWithin
 low-reading limits s =
     then-reading (sectionsOf s) _ (low-sections s) λ S.
     pick-refused (typesRight (limits .parts) (tablesOf s S)) _ 3 (omega arith) (omega arith)
@@ -108,3 +109,49 @@ low-reading limits s =
 pub low-number : {r : Reading} {n : ℕ} → Low r → r ≡ Refused n → (1 ≤ n) × (n ≤ 5)
 low-number {n = n} (low-refused {n = m} h k) e = let same : m ≡ n = cc in (omega arith, omega arith)
 low-number low-good e = absurd (let z : _≡_ {A = ℕ} 0 1 = cc in omega arith)
+
+-- 25 comes before everything else
+module _ (limits : Limits) (s : List ℕ) where
+  pub reading-in-range : inRange limits ≡ true → readingOf limits s ≡ readingWithin limits s
+  unfolding readingOf
+  reading-in-range e = rw e
+
+  pub reading-out-of-range : inRange limits ≡ false → readingOf limits s ≡ Refused 25
+  unfolding readingOf
+  reading-out-of-range e = rw e
+
+  -- a file that is read is read within limits in range
+  pub good-in-range : (S : Sections) → readingOf limits s ≡ Good S → (inRange limits ≡ true) × (readingWithin limits s ≡ Good S)
+  good-in-range S e = go (inRange limits) refl
+    where
+      go : (b : Bool) → inRange limits ≡ b → (inRange limits ≡ true) × (readingWithin limits s ≡ Good S)
+      go true r = (r, sym (reading-in-range r) ∙ e)
+      go false r = let out = reading-out-of-range r in absurd (let z : _≡_ {A = ℕ} 0 1 = cc in omega arith)
+
+-- the tests of the limits
+pub too-small : (most n : ℕ) → n < 1 → leb 1 n ≡ fromOneTo most n
+unfolding fromOneTo
+too-small most n h = rw (lt-leb 1 n h)
+
+pub one-or-more : (most n : ℕ) → 1 ≤ n → leb n most ≡ fromOneTo most n
+unfolding fromOneTo
+one-or-more most n h = rw (le-leb 1 n h)
+
+module _ (l : Limits) (p : Bool) (e : p ≡ fromOneTo 200 (l .parts)) where
+  pub parts-out : p ≡ false → p ≡ inRange l
+  unfolding inRange
+  parts-out h = rw (← e, h)
+
+  pub depth-too : (d : Bool) → d ≡ fromOneTo 100 (l .depth) → p ≡ true → d ≡ inRange l
+  unfolding inRange
+  depth-too d f h = rw (← e, ← f, h)
+
+pub parts-few : (l : Limits) (b : Bool) → b ≡ inRange l → not b ≡ false → l .parts ≤ 200
+parts-few l b e h = in-range l (sym e ∙ not-false b h) .parts
+
+module _ (l : Limits) (s : List ℕ) (b : Bool) (e : b ≡ inRange l) where
+  pub tested-out : not b ≡ true → Refused 25 ≡ readingOf l s
+  tested-out h = sym (reading-out-of-range l s (sym e ∙ not-true b h))
+
+  pub tested-in : (r : Reading) → not b ≡ false → r ≡ readingWithin l s → r ≡ readingOf l s
+  tested-in r h c = c ∙ sym (reading-in-range l s (sym e ∙ not-false b h))

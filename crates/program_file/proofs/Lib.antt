@@ -1,2 +1,3 @@
+pub mod LawsGrowth
 pub mod LawsReading
 pub mod Theorem

@@ -1,10 +1,10 @@
--- A file is read exactly when its bytes are a program file, and then they are the file of one program alone (`readable`). Its
--- tables are those that the readers of records give (`read-tables`). A refusal is under 1 to 5 (`refused-from-1-to-5`). So the answer
--- has demand 1 (`demand1`, `with-demand1`). Assumes nothing.
+-- With limits in range a file is read exactly when its bytes are a program file, and then they are the file of one program alone
+-- (`readable`). Its tables are those that the readers of records give (`read-tables`). A refusal is under 1 to 5 (`refused-from-1-to-5`).
+-- So the answer has demand 1 (`demand1`, `with-demand1`). Larger limits read what smaller ones read (`read-grows`). Assumes nothing.
 use mathlib.Core.Path.{_≡_, refl, ap, sym, _∙_, subst}
 use mathlib.Core.Bool.{Bool, true, false}
 use mathlib.Core.List.{List}
-use mathlib.Core.Logic.{_↔_}
+use mathlib.Core.Logic.{_↔_, _⊎_, inl, inr}
 use Prim.Native.Nat.{ℕ, _≤_, _<_}
 use native.Mathlib.Omega.{arith}
 use mir.Syntax.{w8}
@@ -16,7 +16,8 @@ use Rattle.oat.specs.TypeRules.{typesRight}
 use Rattle.oat.specs.TableRules.{tablesRight}
 use Rattle.oat.specs.Syntax.{Decl, sizeDecls}
 use Rattle.oat.specs.Nodes.{DeclsStand}
-use Rattle.oat.specs.ProgramFile.{Limits, Program, Counts, IsFile}
+use Rattle.oat.specs.ProgramFile.{Limits, inRange, Within, Program, Counts, IsFile}
+use Rattle.oat.proofs.LawsLimits.{in-range, types-wider, wider}
 use Rattle.oat.proofs.LawsNodes.{same-trees}
 use Rattle.file_sections.specs.declared.Sections.{Sections}
 use Rattle.file_sections.specs.declared.Reading.{Reading}
@@ -27,8 +28,8 @@ use Rattle.file_sections.proofs.LawsRecords.{types-long, list-long, fields-long
 use Rattle.node_tree.specs.Tree.{treesRight}
 use Rattle.node_tree.proofs.Accepted.{trees-accepted}
 use Rattle.node_tree.proofs.Found.{trees-found}
-use Rattle.program_file.specs.Reading.{readingOf, limitsOf, numberOf, IsProgramFile, Reads, ReadsTables}
-use Rattle.program_file.proofs.LawsReading.{low-reading, low-number}
+use Rattle.program_file.specs.Reading.{readingWithin, readingOf, numberOf, IsProgramFile, Reads, ReadsTables}
+use Rattle.program_file.proofs.LawsReading.{low-reading, low-number, reading-in-range, reading-out-of-range, good-in-range}
 
 -- the list holds bytes
 pub record Bytes (s : List ℕ) : Type 0 where
@@ -62,19 +63,20 @@ accepted-at limits s S F e k =
     let same : F ≡ S = cc in
     subst (Accepted limits s) same (record { sections = sym e; types = a; tables = b; trees = c })
 
-pub accepted : (limits : Limits) (s : List ℕ) (S : Sections) → readingOf limits s ≡ Good S → Accepted limits s S
-unfolding readingOf
+pub accepted : (limits : Limits) (s : List ℕ) (S : Sections) → readingWithin limits s ≡ Good S → Accepted limits s S
+unfolding readingWithin
 accepted limits s S e = let (F, f, k) = then-good (sectionsOf s) _ S e in accepted-at limits s S F f k
 
-accepts : (limits : Limits) (s : List ℕ) (S : Sections) → Accepted limits s S → readingOf limits s ≡ Good S
-unfolding readingOf
+accepts : (limits : Limits) (s : List ℕ) (S : Sections) → Accepted limits s S → readingWithin limits s ≡ Good S
+unfolding readingWithin
 accepts limits s S a = rw (← a .sections, a .types, a .tables, a .trees)
 
 -- a file that was read has its sections laid and its tables right
-pub good-tables : (s : List ℕ) (r : Reading) (S : Sections) → r ≡ readingOf (limitsOf 200 100) s → r ≡ Good S → GoodTables s S
-good-tables s r S e h =
-    let a = accepted (limitsOf 200 100) s S (sym e ∙ h) in
-    record { laid = all-stood s S (a .sections) .laid; types = a .types; tables = a .tables }
+pub good-tables : (limits : Limits) (s : List ℕ) (r : Reading) (S : Sections) → r ≡ readingOf limits s → r ≡ Good S → GoodTables s S
+good-tables limits s r S e h =
+    let (range, good) = good-in-range limits s S (sym e ∙ h) in
+    let a = accepted limits s S good in
+    record { laid = all-stood s S (a .sections) .laid; types = types-wider (limits .parts) 200 (tablesOf s S) (in-range limits range .parts) (a .types); tables = a .tables }
 
 counts : (s : List ℕ) (S : Sections) → Laid s S → Counts (tablesOf s S)
 counts s S l = record {
@@ -87,7 +89,7 @@ counts s S l = record {
 }
 
 -- an accepted file is the file of a program
-pub program-of : (limits : Limits) (s : List ℕ) (S : Sections) → Bytes s → readingOf limits s ≡ Good S → (p : Program) × IsFile limits s p
+pub program-of : (limits : Limits) (s : List ℕ) (S : Sections) → Bytes s → readingWithin limits s ≡ Good S → (p : Program) × IsFile limits s p
 program-of limits s S b e =
     let a = accepted limits s S e in
     let w = all-stood s S (a .sections) in
@@ -105,18 +107,18 @@ program-of limits s S b e =
     )
 
 -- the file of a program is accepted, with the program's tables
-pub reading-of : (limits : Limits) (s : List ℕ) (p : Program) → IsFile limits s p → (readingOf limits s ≡ Good (sectionsFor (p .tables))) × (tablesOf s (sectionsFor (p .tables)) ≡ p .tables)
+pub reading-of : (limits : Limits) (s : List ℕ) (p : Program) → IsFile limits s p → (readingWithin limits s ≡ Good (sectionsFor (p .tables))) × (tablesOf s (sectionsFor (p .tables)) ≡ p .tables)
 reading-of limits s p f =
     let T = p .tables in
     let (good, back) = file-accepted T (f .counts) in
     let trees = trees-accepted (limits .depth) T (p .declarations) (f .stand) (f .used-up) (f .deep) in
     let a : Accepted limits (fileOf T) (sectionsFor T) =
     record { sections = good; types = rw back (f .types); tables = rw back (f .tables); trees = rw back trees } in
-    subst (λ (z : List ℕ). (readingOf limits z ≡ Good (sectionsFor T)) × (tablesOf z (sectionsFor T) ≡ T)) (sym (f .layout))
+    subst (λ (z : List ℕ). (readingWithin limits z ≡ Good (sectionsFor T)) × (tablesOf z (sectionsFor T) ≡ T)) (sym (f .layout))
     (accepts limits (fileOf T) (sectionsFor T) a, back)
 
 -- the tables of a program are those that the readers of records give
-pub read-tables : (limits : Limits) (s : List ℕ) (S : Sections) (p : Program) → readingOf limits s ≡ Good S → IsFile limits s p → p .tables ≡ tablesOf s S
+pub read-tables : (limits : Limits) (s : List ℕ) (S : Sections) (p : Program) → readingWithin limits s ≡ Good S → IsFile limits s p → p .tables ≡ tablesOf s S
 read-tables limits s S p e f =
     let (good, back) = reading-of limits s p f in
     let same : sectionsFor (p .tables) ≡ S = cc in
@@ -135,44 +137,79 @@ one-program limits s p q f g =
     same-program p q tables
     (same-declarations (p .tables) (q .tables) (p .declarations) (q .declarations) tables (f .stand) (g .stand) (f .used-up) (g .used-up))
 
--- A file is read exactly when its bytes are a program file, and then they are the file of one program alone.
-pub readable : (limits : Limits) (s : List ℕ) → Bytes s → ((S : Sections) × (readingOf limits s ≡ Good S)) ↔ ((p : Program) × IsFile limits s p × ((q : Program) → IsFile limits s q → q ≡ p))
-readable limits s b = (
+-- With limits in range a file is read exactly when its bytes are a program file, and then they are the file of one program alone.
+pub readable : (limits : Limits) → inRange limits ≡ true → (s : List ℕ) → Bytes s → ((S : Sections) × (readingOf limits s ≡ Good S)) ↔ ((p : Program) × IsFile limits s p × ((q : Program) → IsFile limits s q → q ≡ p))
+readable limits range s b = (
   λ read.
-      let (p, f) = program-of limits s (read .0) b (read .1) in
+      let (p, f) = program-of limits s (read .0) b (good-in-range limits s (read .0) (read .1) .1) in
       (p, f, λ q g. one-program limits s q p g f),
-  λ file. (sectionsFor (file .0 .tables), reading-of limits s (file .0) (file .1) .0),
+  λ file. (sectionsFor (file .0 .tables), reading-in-range limits s range ∙ reading-of limits s (file .0) (file .1) .0),
 )
 
--- A file that is not read is refused under 1 to 5.
-pub refused-from-1-to-5 : (limits : Limits) (s : List ℕ) (n : ℕ) → readingOf limits s ≡ Refused n → (1 ≤ n) × (n ≤ 5)
-refused-from-1-to-5 limits s n e = low-number (low-reading limits s) e
+-- A file that is not read then is refused under 1 to 5.
+pub refused-from-1-to-5 : (limits : Limits) → inRange limits ≡ true → (s : List ℕ) (n : ℕ) → readingOf limits s ≡ Refused n → (1 ≤ n) × (n ≤ 5)
+refused-from-1-to-5 limits range s n e = low-number (low-reading limits s) (sym (reading-in-range limits s range) ∙ e)
+
+-- and with limits in range or not, a refusal is under 25 or under 1 to 5
+pub refused-numbers : (limits : Limits) (s : List ℕ) (n : ℕ) → readingOf limits s ≡ Refused n → (n ≡ 25) ⊎ ((1 ≤ n) × (n ≤ 5))
+refused-numbers limits s n e = go (inRange limits) refl
+  where
+    go : (b : Bool) → inRange limits ≡ b → (n ≡ 25) ⊎ ((1 ≤ n) × (n ≤ 5))
+    go true range = inr (refused-from-1-to-5 limits range s n e)
+    go false out = let is = reading-out-of-range limits s out in inl cc
 
 -- the file of a program is not refused
-not-refused : (s : List ℕ) (n : ℕ) → readingOf (limitsOf 200 100) s ≡ Refused n → IsProgramFile s → ⊥
-not-refused s n e f =
-    let good = reading-of (limitsOf 200 100) s (f .program) (f .file) .0 in
+pub not-refused : (limits : Limits) → inRange limits ≡ true → (s : List ℕ) (n : ℕ) → readingOf limits s ≡ Refused n → (p : Program) → IsFile limits s p → ⊥
+not-refused limits range s n e p f =
+    let good = reading-in-range limits s range ∙ reading-of limits s p f .0 in
     let z : _≡_ {A = ℕ} 0 1 = cc in omega arith
 
 -- Demand 1, of the number of a reading.
-pub demand1 : (s : List ℕ) → Bytes s → (r : Reading) → readingOf (limitsOf 200 100) s ≡ r → Reads s (numberOf r)
-demand1 s b (Refused n) e =
-    let low = refused-from-1-to-5 (limitsOf 200 100) s n e in
-    record {
-      read = (λ z. absurd (omega (arith, low .0)), λ f. absurd (not-refused s n e f));
-      refused = (λ l f. not-refused s n e f, λ none. low);
-      one-program = one-program (limitsOf 200 100) s;
-    }
-demand1 s b (Good S) e =
-    let (p, f) = program-of (limitsOf 200 100) s S b e in
-    let file : IsProgramFile s = record { program = p; file = f } in
-    record {
-      read = (λ z. file, λ f. refl);
-      refused = (λ l. absurd (omega (arith, l .0)), λ none. absurd (none file));
-      one-program = one-program (limitsOf 200 100) s;
-    }
+module _ (limits : Limits) (s : List ℕ) (b : Bytes s) where
+  demand1-out : inRange limits ≡ false → Reads limits s 25
+  demand1-out out = record {
+    out-of-range = (λ z. out, λ z. refl);
+    read = (λ z. absurd (omega (arith, z)), λ f. absurd (let range = f .0 in let z : _≡_ {A = ℕ} 0 1 = cc in omega arith));
+    refused = (λ l. absurd (omega (arith, l .1)), λ f. absurd (let range = f .0 in let z : _≡_ {A = ℕ} 0 1 = cc in omega arith));
+    one-program = one-program limits s;
+  }
 
--- and of an answer
-pub with-demand1 : (s : List ℕ) → Bytes s → (r : Reading) → r ≡ readingOf (limitsOf 200 100) s → (r ≡ readingOf (limitsOf 200 100) s) × ReadsTables s r
-with-demand1 s b r e =
-    (e, record { reads = demand1 s b r (sym e); tables = λ S h p f. read-tables (limitsOf 200 100) s S p (sym e ∙ h) f })
+  demand1-in : inRange limits ≡ true → (r : Reading) → readingOf limits s ≡ r → Reads limits s (numberOf r)
+  demand1-in range (Refused n) e =
+      let low = refused-from-1-to-5 limits range s n e in
+      let none : IsProgramFile limits s → ⊥ = λ f. not-refused limits range s n e (f .program) (f .file) in
+      record {
+        out-of-range = (λ z. absurd (omega (arith, low .1)), λ out. absurd (let z : _≡_ {A = ℕ} 0 1 = cc in omega arith));
+        read = (λ z. absurd (omega (arith, low .0)), λ f. absurd (none (f .1)));
+        refused = (λ l. (range, none), λ f. low);
+        one-program = one-program limits s;
+      }
+  demand1-in range (Good S) e =
+      let (p, f) = program-of limits s S b (good-in-range limits s S e .1) in
+      let file : IsProgramFile limits s = record { program = p; file = f } in
+      record {
+        out-of-range = (λ z. absurd (omega (arith, z)), λ out. absurd (let z : _≡_ {A = ℕ} 0 1 = cc in omega arith));
+        read = (λ z. (range, file), λ f. refl);
+        refused = (λ l. absurd (omega (arith, l .0)), λ f. absurd (f .1 file));
+        one-program = one-program limits s;
+      }
+
+  pub demand1 : (r : Reading) → readingOf limits s ≡ r → Reads limits s (numberOf r)
+  demand1 r e = go (inRange limits) refl
+    where
+      go : (t : Bool) → inRange limits ≡ t → Reads limits s (numberOf r)
+      go true range = demand1-in range r e
+      go false out = subst (λ x. Reads limits s (numberOf x)) (sym (reading-out-of-range limits s out) ∙ e) (demand1-out out)
+
+  -- and of an answer
+  pub with-demand1 : (r : Reading) → r ≡ readingOf limits s → (r ≡ readingOf limits s) × ReadsTables limits s r
+  with-demand1 r e =
+      (e, record { reads = demand1 r (sym e); tables = λ S h p f. read-tables limits s S p (good-in-range limits s S (sym e ∙ h) .1) f })
+
+-- With larger limits in range a file that is read is read with the same sections.
+pub read-grows : (a b : Limits) → inRange b ≡ true → Within a b → (s : List ℕ) → Bytes s → (S : Sections) → readingOf a s ≡ Good S → readingOf b s ≡ Good S
+read-grows a b range w s y S e =
+    let good = good-in-range a s S e .1 in
+    let (p, f) = program-of a s S y good in
+    let same : sectionsFor (p .tables) ≡ S = let narrow = reading-of a s p f .0 in cc in
+    reading-in-range b s range ∙ reading-of b s p (wider w f) .0 ∙ ap Good same

@@ -1,33 +1,68 @@
-// Reads a program file (document 01, 'The program file'): the bytes are refused under 1 to 5, or they are the file of one program.
+// Reads a program file (document 01, 'The program file'): the bytes are refused under 1 to 5, or they are the file of one
+// program. Before them comes 25, a limit out of its range (document 02, (xi)).
 use file_sections::Reading;
 ghost use mathlib.Core.Path.{_≡_};
 ghost use Prim.Native.Nat.{_≤_};
-ghost use Rattle.program_file.specs.Reading.{readingOf, limitsOf, numberOf, ReadsTables};
+ghost use Rattle.oat.specs.ProgramFile.{fromOneTo, inRange};
+ghost use Rattle.program_file.specs.Reading.{settingOf, readingWithin, readingOf, numberOf, ReadsTables};
 
-// Reads a file within document 01's limits: 200 parts, depth 100.
-pub fn read(file: &[u8]) -> Reading
-    ensures { λ r. ⌜ r ≡ readingOf (limitsOf 200 100) (now (file .entry)) ⌝ }
-    ensures { λ r. ⌜ ReadsTables (now (file .entry)) r ⌝ }
-{
-    read_within(file, 200, 100)
+// The two limits: how many parts a type has at most, from 1 to 200, and how deep nodes are at most, from 1 to 100.
+pub struct Limits {
+    pub parts: usize,
+    pub depth: usize,
 }
 
-// Reads a file within the limits on a type's parts and on the depth of nodes.
-fn read_within(file: &[u8], parts: usize, depth: usize) -> Reading
-    requires { ⌜ parts ≤ 200 ⌝ }
-    ensures { λ r. ⌜ r ≡ readingOf (limitsOf parts depth) (now (file .entry)) ⌝ }
+// Document 01's limits, the widest.
+pub fn widest() -> Limits
+    ensures { λ r. ⌜ r ≡ record { parts = 200; depth = 100 } ⌝ }
+{
+    Limits {
+        parts: 200,
+        depth: 100,
+    }
+}
+
+// Whether a limit is from 1 to `most`, both ends in.
+fn from_one_to(most: usize, limit: usize) -> bool
+    ensures { λ r. ⌜ r ≡ fromOneTo most limit ⌝ }
+{
+    1 <= limit && limit <= most
+}
+
+// Whether both limits are in range.
+fn in_range(limits: Limits) -> bool
+    ensures { λ r. ⌜ r ≡ inRange (settingOf limits) ⌝ }
+{
+    from_one_to(200, limits.parts) && from_one_to(100, limits.depth)
+}
+
+// Reads a file; a limit out of its range is refused under 25, before everything else.
+pub fn read(file: &[u8], limits: Limits) -> Reading
+    ensures { λ r. ⌜ r ≡ readingOf (settingOf limits) (now (file .entry)) ⌝ }
+    ensures { λ r. ⌜ ReadsTables (settingOf limits) (now (file .entry)) r ⌝ }
+{
+    if !in_range(limits) {
+        return Reading::Refused(25);
+    }
+    read_within(file, limits)
+}
+
+// Reads a file within the limits.
+fn read_within(file: &[u8], limits: Limits) -> Reading
+    requires { ⌜ limits .parts ≤ 200 ⌝ }
+    ensures { λ r. ⌜ r ≡ readingWithin (settingOf limits) (now (file .entry)) ⌝ }
 {
     let found = file_sections::layout::sections(file);
     let Reading::Good(sections) = found else {
         return found;
     };
-    if !type_tables::types::types_right(file, sections, parts) {
+    if !type_tables::types::types_right(file, sections, limits.parts) {
         return Reading::Refused(3);
     }
     if !type_tables::tables::tables_right(file, sections) {
         return Reading::Refused(4);
     }
-    if !node_tree::tree::trees_right(file, sections, depth) {
+    if !node_tree::tree::trees_right(file, sections, limits.depth) {
         return Reading::Refused(5);
     }
     Reading::Good(sections)

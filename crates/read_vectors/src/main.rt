@@ -6,7 +6,10 @@ use vector_input::read_one;
 // Prints the line of a file of this length.
 fn answer_one(file: &[u8], length: usize) {
     if length <= file.len() {
-        let answer = program_file::number(program_file::read(&file[..length]));
+        let answer = program_file::number(program_file::read(
+            &file[..length],
+            program_file::widest(),
+        ));
         io::print_decimal(1, answer as u64);
         io::write_all(1, b"\n");
     }

@@ -7,7 +7,7 @@ use vector_input::read_one;
 
 // Prints 1 or 0; false where the question is refused.
 fn pair(file: &[u8], a: usize, b: usize) -> bool {
-    let answer = subtyping::question::subtype(file, a, b);
+    let answer = subtyping::question::subtype(file, program_file::widest(), a, b);
     match answer {
         Answer::Refused(number) => {
             if number != 17 {

@@ -14,15 +14,16 @@ use Rattle.oat.specs.Tables.{Tables}
 use Rattle.oat.specs.Types.{typeOf}
 use Rattle.oat.specs.Subtyping.{SubRet}
 use Rattle.oat.specs.Decide.{below}
-use Rattle.oat.specs.ProgramFile.{Program, IsFile}
+use Rattle.oat.specs.ProgramFile.{Limits, inRange, Within, Program, IsFile}
 use Rattle.oat.proofs.LawsSubtyping.{below-is}
 use Rattle.file_sections.specs.declared.Sections.{Sections}
 use Rattle.file_sections.specs.declared.Reading.{Reading}
 use Rattle.file_sections.specs.declared.Reading.the-variants as Readings
 use Rattle.file_sections.specs.Layout.{tablesOf}
 use Rattle.file_sections.proofs.LawsRecords.{types-long}
-use Rattle.program_file.specs.Reading.{readingOf, limitsOf, numberOf, IsProgramFile, Reads, ReadsTables}
-use Rattle.program_file.proofs.Theorem.{reading-of}
+use Rattle.program_file.specs.Reading.{readingOf, numberOf, IsProgramFile, Reads, ReadsTables}
+use Rattle.program_file.proofs.LawsReading.{reading-in-range}
+use Rattle.program_file.proofs.Theorem.{Bytes, reading-of, refused-numbers, read-grows}
 use Rattle.type_index.specs.Index.{declared}
 use Rattle.subtyping.specs.Numbered.{belowAt}
 use Rattle.subtyping.specs.Question.{askOf, subtypeOf, refusalNumber, yesAfter, HasBoth, Below, AnswersOn, Answers}
@@ -37,25 +38,25 @@ module _ (T : Tables) (a b : ℕ) (r : Bool) (e : r ≡ below (declared T) (type
   pub says-no : r ≡ false → No ≡ pick (below (declared T) (typeOf T a) (typeOf T b)) Yes No
   says-no h = rw (← e, h)
 
-module _ (s : List ℕ) (a b : ℕ) (r : Reading) (e : r ≡ readingOf (limitsOf 200 100) s) where
-  pub not-read : (n k : ℕ) → r ≡ Readings.Refused n → k ≡ numberOf r → Refused k ≡ subtypeOf s a b
+module _ (limits : Limits) (s : List ℕ) (a b : ℕ) (r : Reading) (e : r ≡ readingOf limits s) where
+  pub not-read : (n k : ℕ) → r ≡ Readings.Refused n → k ≡ numberOf r → Refused k ≡ subtypeOf limits s a b
   unfolding subtypeOf
   not-read n k h c = rw (c, ← e, h)
 
   module _ (S : Sections) (h : r ≡ Readings.Good S) where
-    pub first-lacks : S .types ≤ a → Refused 17 ≡ subtypeOf s a b
+    pub first-lacks : S .types ≤ a → Refused 17 ≡ subtypeOf limits s a b
     unfolding subtypeOf askOf
     first-lacks l = rw (← e, h, types-long s S, le-leb _ _ l)
 
-    pub second-lacks : a < S .types → S .types ≤ b → Refused 17 ≡ subtypeOf s a b
+    pub second-lacks : a < S .types → S .types ≤ b → Refused 17 ≡ subtypeOf limits s a b
     unfolding subtypeOf askOf
     second-lacks k l = rw (← e, h, types-long s S, lt-leb _ _ k, le-leb _ _ l)
 
-    pub both-there : (q : Answer) → a < S .types → b < S .types → q ≡ pick (below (declared (tablesOf s S)) (typeOf (tablesOf s S) a) (typeOf (tablesOf s S) b)) Yes No → q ≡ subtypeOf s a b
+    pub both-there : (q : Answer) → a < S .types → b < S .types → q ≡ pick (below (declared (tablesOf s S)) (typeOf (tablesOf s S) a) (typeOf (tablesOf s S) b)) Yes No → q ≡ subtypeOf limits s a b
     unfolding subtypeOf askOf
     both-there q k l c = c ∙ rw (← e, h, types-long s S, lt-leb _ _ k, lt-leb _ _ l)
 
--- For every readable file, and two types of it, the answer is yes exactly when the rules derive that the first is below the second.
+-- For every readable file under limits in range, and two types of it, the answer is yes exactly when the rules derive that the first is below the second.
 picked-yes : (c : Bool) → (pick c Yes No ≡ Yes) ↔ (c ≡ true)
 picked-yes true = (λ e. refl, λ e. refl)
 picked-yes false = (λ e. absurd (let z : _≡_ {A = ℕ} 0 1 = cc in omega arith), λ e. absurd (let z : _≡_ {A = ℕ} 0 1 = cc in omega arith))
@@ -64,14 +65,16 @@ asked-yes : (T : Tables) (a b : ℕ) → a < length (T .types) → b < length (T
 unfolding askOf
 asked-yes T a b h k = rw (lt-leb _ _ h, lt-leb _ _ k)
 
-question-asks : (s : List ℕ) (p : Program) (a b : ℕ) → IsFile (limitsOf 200 100) s p → subtypeOf s a b ≡ askOf (p .tables) a b
+question-asks : (limits : Limits) → inRange limits ≡ true → (s : List ℕ) (p : Program) (a b : ℕ) → IsFile limits s p → subtypeOf limits s a b ≡ askOf (p .tables) a b
 unfolding subtypeOf
-question-asks s p a b f = let (good, back) = reading-of (limitsOf 200 100) s p f in rw (good, back)
+question-asks limits range s p a b f =
+    let (good, back) = reading-of limits s p f in
+    rw (reading-in-range limits s range, good, back)
 
-pub question-yes : (s : List ℕ) (p : Program) (a b : ℕ) → IsFile (limitsOf 200 100) s p → a < length (p .tables .types) → b < length (p .tables .types) → (subtypeOf s a b ≡ Yes) ↔ SubRet (declared (p .tables)) (typeOf (p .tables) a) (typeOf (p .tables) b)
-question-yes s p a b f h k =
+pub question-yes : (limits : Limits) → inRange limits ≡ true → (s : List ℕ) (p : Program) (a b : ℕ) → IsFile limits s p → a < length (p .tables .types) → b < length (p .tables .types) → (subtypeOf limits s a b ≡ Yes) ↔ SubRet (declared (p .tables)) (typeOf (p .tables) a) (typeOf (p .tables) b)
+question-yes limits range s p a b f h k =
     let T = p .tables in
-    let is : subtypeOf s a b ≡ pick (below (declared T) (typeOf T a) (typeOf T b)) Yes No = question-asks s p a b f ∙ asked-yes T a b h k in
+    let is : subtypeOf limits s a b ≡ pick (below (declared T) (typeOf T a) (typeOf T b)) Yes No = question-asks limits range s p a b f ∙ asked-yes T a b h k in
     let yes = picked-yes (below (declared T) (typeOf T a) (typeOf T b)) in
     let derives = below-is (declared T) (typeOf T a) (typeOf T b) in
     (λ e. derives .0 (yes .0 (sym is ∙ e)), λ d. is ∙ yes .1 (derives .1 d))
@@ -120,14 +123,14 @@ module _ (p : Program) (a b : ℕ) where
   unfolding askOf
   asked-answers old = tested old _ _ _ refl refl refl
 
--- a question that is asked is refused under no number of 1 to 5
-high : (x y z : Bool) → 1 ≤ refusalNumber (byTests x y z) → refusalNumber (byTests x y z) ≤ 5 → ⊥
-high true y z l k = omega arith
-high false true z l k = omega arith
-high false false true l k = omega arith
-high false false false l k = omega arith
+-- a question that is asked is refused under 17 alone
+high : (x y z : Bool) → (refusalNumber (byTests x y z) ≡ 0) ⊎ (refusalNumber (byTests x y z) ≡ 17)
+high true y z = inr refl
+high false true z = inr refl
+high false false true = inl refl
+high false false false = inl refl
 
-asked-high : (T : Tables) (a b : ℕ) → 1 ≤ refusalNumber (askOf T a b) → refusalNumber (askOf T a b) ≤ 5 → ⊥
+asked-high : (T : Tables) (a b : ℕ) → (refusalNumber (askOf T a b) ≡ 0) ⊎ (refusalNumber (askOf T a b) ≡ 17)
 unfolding askOf
 asked-high T a b = high (leb (length (T .types)) a) (leb (length (T .types)) b) (belowAt T a b)
 
@@ -137,35 +140,52 @@ yes-stays old (Refused n) h = refl
 yes-stays old Yes h = absurd (h refl)
 yes-stays old No h = absurd (h refl)
 
--- What they say of bytes.
-module _ (s : List ℕ) (a b old : ℕ) where
-  asked : (p : Program) → IsFile (limitsOf 200 100) s p → AnswersOn p a b (refusalNumber (subtypeOf s a b)) (yesAfter old (subtypeOf s a b))
-  asked p f = subst (λ x. AnswersOn p a b (refusalNumber x) (yesAfter old x)) (sym (question-asks s p a b f)) (asked-answers p a b old)
+-- What they say of limits and bytes.
+module _ (limits : Limits) (s : List ℕ) (a b old : ℕ) where
+  asked : inRange limits ≡ true → (p : Program) → IsFile limits s p → AnswersOn p a b (refusalNumber (subtypeOf limits s a b)) (yesAfter old (subtypeOf limits s a b))
+  asked range p f = subst (λ x. AnswersOn p a b (refusalNumber x) (yesAfter old x)) (sym (question-asks limits range s p a b f)) (asked-answers p a b old)
 
-  unread-is : (n : ℕ) → readingOf (limitsOf 200 100) s ≡ Readings.Refused n → subtypeOf s a b ≡ Refused n
+  unread-is : (n : ℕ) → readingOf limits s ≡ Readings.Refused n → subtypeOf limits s a b ≡ Refused n
   unfolding subtypeOf
   unread-is n e = rw e
 
-  answers-at : (q : Reading) → readingOf (limitsOf 200 100) s ≡ q → Reads s (numberOf q) → Answers s a b (refusalNumber (subtypeOf s a b)) old (yesAfter old (subtypeOf s a b))
+  answers-at : (q : Reading) → readingOf limits s ≡ q → Reads limits s (numberOf q) → Answers limits s a b (refusalNumber (subtypeOf limits s a b)) old (yesAfter old (subtypeOf limits s a b))
   answers-at (Readings.Refused n) e d =
       let is = ap refusalNumber (unread-is n e) in
       record {
+        out-of-range = subst (λ m. (m ≡ 25) ↔ (inRange limits ≡ false)) (sym is) (d .out-of-range);
         asked = asked;
-        refused = subst (λ m. ((1 ≤ m) × (m ≤ 5)) ↔ (IsProgramFile s → ⊥)) (sym is) (d .refused);
-        unread = λ none. is ∙ sym (ap numberOf e);
-        unchanged = yes-stays old (subtypeOf s a b);
+        refused = subst (λ m. ((1 ≤ m) × (m ≤ 5)) ↔ ((inRange limits ≡ true) × (IsProgramFile limits s → ⊥))) (sym is) (d .refused);
+        unread = λ range none. is ∙ sym (ap numberOf e);
+        unchanged = yes-stays old (subtypeOf limits s a b);
       }
   answers-at (Readings.Good S) e d =
-      let file = d .read .0 refl in
-      let is = ap refusalNumber (question-asks s (file .program) a b (file .file)) in
+      let (range, file) = d .read .0 refl in
+      let is = ap refusalNumber (question-asks limits range s (file .program) a b (file .file)) in
+      let few = asked-high (file .program .tables) a b in
       record {
+        out-of-range = (λ z. absurd (⊎-elim (λ n. omega (arith, n, is, z)) (λ n. omega (arith, n, is, z)) few), λ out. absurd (let z : _≡_ {A = ℕ} 0 1 = cc in omega arith));
         asked = asked;
-        refused = (λ l. absurd (asked-high (file .program .tables) a b (subst (λ m. 1 ≤ m) is (l .0)) (subst (λ m. m ≤ 5) is (l .1))), λ none. absurd (none file));
-        unread = λ none. absurd (none file);
-        unchanged = yes-stays old (subtypeOf s a b);
+        refused = (λ l. absurd (⊎-elim (λ n. omega (arith, n, is, l .0)) (λ n. omega (arith, n, is, l .1)) few), λ none. absurd (none .1 file));
+        unread = λ range none. absurd (none file);
+        unchanged = yes-stays old (subtypeOf limits s a b);
       }
 
 -- The answer is the definition's, and so its number and its yes say this of every input.
-pub with-answers : (s : List ℕ) (a b : ℕ) (q : Reading) → (q ≡ readingOf (limitsOf 200 100) s) × ReadsTables s q → (r : Answer) → r ≡ subtypeOf s a b → (r ≡ subtypeOf s a b) × ((old : ℕ) → Answers s a b (refusalNumber r) old (yesAfter old r))
-with-answers s a b q d r e =
-    (e, λ old. subst (λ x. Answers s a b (refusalNumber x) old (yesAfter old x)) (sym e) (answers-at s a b old q (sym (d .0)) (d .1 .reads)))
+pub with-answers : (limits : Limits) (s : List ℕ) (a b : ℕ) (q : Reading) → (q ≡ readingOf limits s) × ReadsTables limits s q → (r : Answer) → r ≡ subtypeOf limits s a b → (r ≡ subtypeOf limits s a b) × ((old : ℕ) → Answers limits s a b (refusalNumber r) old (yesAfter old r))
+with-answers limits s a b q d r e =
+    (e, λ old. subst (λ x. Answers limits s a b (refusalNumber x) old (yesAfter old x)) (sym e) (answers-at limits s a b old q (sym (d .0)) (d .1 .reads)))
+
+-- With larger limits in range yes, no and 17 stay.
+pub subtype-grows : (l m : Limits) → inRange m ≡ true → Within l m → (s : List ℕ) → Bytes s → (a b : ℕ) → (refusalNumber (subtypeOf l s a b) ≡ 0) ⊎ (refusalNumber (subtypeOf l s a b) ≡ 17) → subtypeOf m s a b ≡ subtypeOf l s a b
+unfolding subtypeOf
+subtype-grows l m range w s y a b k = go (readingOf l s) refl
+  where
+    go : (r : Reading) → readingOf l s ≡ r → subtypeOf m s a b ≡ subtypeOf l s a b
+    go (Readings.Refused n) e =
+        let is = ap refusalNumber (unread-is l s a b 0 n e) in
+        absurd (⊎-elim
+        (λ out. ⊎-elim (λ z. omega (arith, z, is, out)) (λ z. omega (arith, z, is, out)) k)
+        (λ low. ⊎-elim (λ z. omega (arith, z, is, low .0)) (λ z. omega (arith, z, is, low .1)) k)
+        (refused-numbers l s n e))
+    go (Readings.Good S) e = rw (e, read-grows l m range w s y S e)

@@ -1,6 +1,7 @@
--- The subtype question (document 01, 'Rows and answers'): 1 to 5, then 17, then yes or no; and what its number and its yes say of the file
--- and the rules. Assumes nothing.
+-- The subtype question (document 01, 'Rows and answers'; document 02, (xi)): 25, then 1 to 5, then 17, then yes or no; and what its number and
+-- its yes say of the limits, the file and the rules. Assumes nothing.
 use mathlib.Core.Path.{_≡_}
+use mathlib.Core.Bool.{true, false}
 use mathlib.Core.List.{List}
 use mathlib.Core.Logic.{_↔_, _⊎_}
 use Prim.Native.Nat.{ℕ, _≤_, _<_}
@@ -11,13 +12,13 @@ use Rattle.oat.specs.Tables.{Tables}
 use Rattle.oat.specs.Types.{typeOf, structsOf}
 use Rattle.oat.specs.Subtyping.{SubRet}
 use Rattle.oat.specs.Decide.{below}
-use Rattle.oat.specs.ProgramFile.{Program, IsFile}
+use Rattle.oat.specs.ProgramFile.{Limits, inRange, Program, IsFile}
 use Rattle.file_sections.specs.declared.Sections.{Sections}
 use Rattle.file_sections.specs.declared.Reading.{Reading}
 use Rattle.file_sections.specs.declared.Reading.the-variants.{Good}
 use Rattle.file_sections.specs.declared.Reading.the-variants
 use Rattle.file_sections.specs.Layout.{tablesOf}
-use Rattle.program_file.specs.Reading.{readingOf, limitsOf, numberOf, IsProgramFile}
+use Rattle.program_file.specs.Reading.{readingOf, numberOf, IsProgramFile}
 use Rattle.type_index.specs.Index.{declared}
 use Rattle.subtyping.specs.declared.question.Answer.{Answer}
 use Rattle.subtyping.specs.declared.question.Answer.the-variants.{Refused, Yes, No}
@@ -35,8 +36,8 @@ onReading (the-variants.Refused n) k = Refused n
 onReading (Good S) k = k S
 
 -- is the type a below the type b?
-unfoldable pub subtypeOf : List ℕ → ℕ → ℕ → Answer
-subtypeOf s a b = onReading (readingOf (limitsOf 200 100) s) λ S. askOf (tablesOf s S) a b
+unfoldable pub subtypeOf : Limits → List ℕ → ℕ → ℕ → Answer
+subtypeOf limits s a b = onReading (readingOf limits s) λ S. askOf (tablesOf s S) a b
 
 -- document 01's number for an answer; yes and no are no refusals
 abbrev pub refusalNumber : Answer → ℕ
@@ -67,13 +68,15 @@ pub record AnswersOn (p : Program) (a b n yes : ℕ) : Type 0 where
   -- no exactly when it has both and they do not
   pub says-no : ((n ≡ 0) × (yes ≡ 0)) ↔ (HasBoth p a b × (Below p a b → ⊥))
 
--- what they say on the bytes F, where the value was `old` before
-pub record Answers (F : List ℕ) (a b n old yes : ℕ) : Type 0 where
-  -- where the bytes are the file of a program: 17, yes or no
-  pub asked : (p : Program) → IsFile (limitsOf 200 100) F p → AnswersOn p a b n yes
+-- what they say on the limits and the bytes F, where the value was `old` before
+pub record Answers (limits : Limits) (F : List ℕ) (a b n old yes : ℕ) : Type 0 where
+  -- 25 exactly when a limit is out of its range
+  pub out-of-range : (n ≡ 25) ↔ (inRange limits ≡ false)
+  -- with limits in range, where the bytes are the file of a program: 17, yes or no
+  pub asked : inRange limits ≡ true → (p : Program) → IsFile limits F p → AnswersOn p a b n yes
   -- 1 to 5 exactly when they are no program file
-  pub refused : ((1 ≤ n) × (n ≤ 5)) ↔ (IsProgramFile F → ⊥)
+  pub refused : ((1 ≤ n) × (n ≤ 5)) ↔ ((inRange limits ≡ true) × (IsProgramFile limits F → ⊥))
   -- and then it is the number of their reading
-  pub unread : (IsProgramFile F → ⊥) → n ≡ numberOf (readingOf (limitsOf 200 100) F)
+  pub unread : inRange limits ≡ true → (IsProgramFile limits F → ⊥) → n ≡ numberOf (readingOf limits F)
   -- a refusal leaves the value as it was
   pub unchanged : (n ≡ 0 → ⊥) → yes ≡ old

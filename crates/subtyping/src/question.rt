@@ -1,7 +1,8 @@
-// The subtype question on a file: refused under 1 to 5 or 17, or yes or no.
+// The subtype question on a file: refused under 25, 1 to 5 or 17, or yes or no.
 use crate::below::below;
 use file_sections::Reading;
 use file_sections::Sections;
+use program_file::Limits;
 use type_index::index::index_types;
 ghost use mathlib.Core.Path.{_≡_};
 ghost use Prim.Native.Nat.{ℕ, _<_};
@@ -9,6 +10,7 @@ ghost use Rattle.oat.specs.Basics.{pick};
 ghost use Rattle.oat.specs.Types.{typeOf};
 ghost use Rattle.oat.specs.Decide.{below};
 ghost use Rattle.file_sections.specs.Layout.{tablesOf, GoodTables};
+ghost use Rattle.program_file.specs.Reading.{settingOf};
 ghost use Rattle.type_index.specs.Index.{declared};
 ghost use Rattle.subtyping.specs.Question.{subtypeOf, refusalNumber, yesAfter, Answers};
 
@@ -32,11 +34,11 @@ fn ask(file: &[u8], sections: Sections, a: usize, b: usize) -> Answer
 }
 
 // Is the type a below the type b? Whatever value a caller holds before, the answer's number and `yesAfter` give what `Answers` says.
-pub fn subtype(file: &[u8], a: usize, b: usize) -> Answer
-    ensures { λ r. ⌜ r ≡ subtypeOf (now (file .entry)) a b ⌝ }
-    ensures { λ r. ⌜ ((old : ℕ) → Answers (now (file .entry)) a b (refusalNumber r) old (yesAfter old r)) ⌝ }
+pub fn subtype(file: &[u8], limits: Limits, a: usize, b: usize) -> Answer
+    ensures { λ r. ⌜ r ≡ subtypeOf (settingOf limits) (now (file .entry)) a b ⌝ }
+    ensures { λ r. ⌜ ((old : ℕ) → Answers (settingOf limits) (now (file .entry)) a b (refusalNumber r) old (yesAfter old r)) ⌝ }
 {
-    let read = program_file::read(file);
+    let read = program_file::read(file, limits);
     let Reading::Good(sections) = read else {
         return Answer::Refused(program_file::number(read));
     };

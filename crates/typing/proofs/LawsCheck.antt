@@ -1,6 +1,8 @@
 -- The check of a readable file: the answer and the rows are the definition's; and the check on bytes and buffers. Assumes nothing.
 use mathlib.Core.Path.{_≡_, refl, ap, ap₂, sym, subst, _∙_}
+use mathlib.Core.Bool.{true}
 use mathlib.Core.List.{List, [], _∷_, _++_, append-nil}
+use mathlib.Core.Logic.{_⊎_, ⊎-elim}
 use Prim.Native.Nat.{ℕ, _+_, _*_, _≤_, _<_}
 use native.Mathlib.Omega.{arith}
 use lib.ListN.{length, getD, take, drop, replicate}
@@ -10,24 +12,26 @@ use Rattle.oat.specs.Tables.{Tables}
 use Rattle.oat.specs.Types.{structsOf}
 use Rattle.oat.specs.Syntax.{sizeDecls}
 use Rattle.oat.specs.Nodes.{DeclsStand}
-use Rattle.oat.specs.ProgramFile.{Program, IsFile}
+use Rattle.oat.specs.ProgramFile.{Limits, inRange, widest, Program, IsFile}
+use Rattle.oat.proofs.LawsLimits.{widest-in-range, within-widest, wider}
 use Rattle.typing_rules.specs.Steps.{Step, stepsOf, emptyContext}
 use Rattle.typing_rules.specs.Check.{Segment, Ran, accepted, refused, withSegment, run, answerOf as programAnswer, checkOf}
 use Rattle.typing_rules.proofs.Theorem.{runOf}
-use Rattle.typing_rules.proofs.LawsNumbers.{refused-number}
 use Rattle.typing_rules.proofs.RowsTheorem.{segments-long}
 use Rattle.file_sections.specs.declared.Sections.{Sections}
 use Rattle.file_sections.specs.declared.Reading.{Reading}
 use Rattle.file_sections.specs.declared.Reading.the-variants.{Refused as Unread, Good}
 use Rattle.file_sections.specs.Layout.{tablesOf, GoodTables}
 use Rattle.file_sections.proofs.LawsRecords.{nodes-long}
-use Rattle.program_file.specs.Reading.{readingOf, numberOf}
-use Rattle.program_file.proofs.Theorem.{Bytes, program-of, read-tables, good-tables}
+use Rattle.program_file.specs.Reading.{readingWithin, readingOf, numberOf}
+use Rattle.program_file.proofs.LawsReading.{reading-in-range, good-in-range}
+use Rattle.program_file.proofs.Theorem.{Bytes, program-of, read-tables, good-tables, read-grows}
 use Rattle.type_index.specs.Index.{Indexed}
 use Rattle.bindings.specs.Bindings.{namesOf}
 use Rattle.bindings.proofs.LawsBindings.{scoped-none}
-use Rattle.demand3.specs.CheckFile.{limits, needed, outcome, Checks, unreadable, rows-short, work-short, checked}
+use Rattle.demand3.specs.CheckFile.{needed, outcome, Checks, unreadable, rows-short, work-short, checked}
 use Rattle.demand3.proofs.Theorem.{fits, demand3}
+use Rattle.demand3.proofs.Growth.{check-kept}
 use Rattle.demand3.proofs.LawsPlaces.{refused-fits, accepted-fits}
 use Rattle.steps.specs.declared.context.Context.{Context}
 use Rattle.steps.specs.declared.context.Stepped.{Stepped}
@@ -49,9 +53,9 @@ unfolding namesOf structsOf tabulate
 empty-start T W = refl
 
 -- a file's program, and its sections
-module _ {F : List ℕ} {S : Sections} (p : Program) (f : IsFile limits F p) (e : readingOf limits F ≡ Good S) where
+module _ {F : List ℕ} {S : Sections} (p : Program) (f : IsFile widest F p) (e : readingWithin widest F ≡ Good S) where
   tables-are : p .tables ≡ tablesOf F S
-  tables-are = read-tables limits F S p e f
+  tables-are = read-tables widest F S p e f
 
   nodes-are : length (p .tables .nodes) ≡ S .nodes
   nodes-are = ap (λ T. length (T .nodes)) tables-are ∙ nodes-long F S
@@ -72,14 +76,14 @@ pub data Ends (p : Program) (R′ : List ℕ) (r : Stepped) : Type 0 where
   ends-next : (c : Context) (ss : List Step) (gs : List Segment) → r ≡ Next c → runOf p ≡ accepted gs (c .steps) → Written R′ ss gs → Ends p R′ r
   ends-refused : (n s q : ℕ) → r ≡ Refused n s q → runOf p ≡ refused n s q → Ends p R′ r
 
-run-ends : {F : List ℕ} {S : Sections} {X R W R′ W′ K′ : List ℕ} {r : Stepped} (p : Program) → IsFile limits F p → readingOf limits F ≡ Good S
+run-ends : {F : List ℕ} {S : Sections} {X R W R′ W′ K′ : List ℕ} {r : Stepped} (p : Program) → IsFile widest F p → readingWithin widest F ≡ Good S
     → Runs F S X start (stepsOf (programOf F S (p .declarations))) R W R′ W′ K′ r → Ends p R′ r
 unfolding run
 run-ends {F} {S} {W = W} p f e (goes gs q m) = ends-next (afterSteps (stepsOf (programOf F S (p .declarations))) start) _ gs q (run-is p f e W ∙ m .on [] ∙ segments-all gs _) (m .written)
 run-ends {F} {S} {W = W} p f e (stops n s u q m) = ends-refused n s u q (run-is p f e W ∙ m [])
 
 -- the numbers of the answer
-ends-small : {F : List ℕ} {R′ : List ℕ} {r : Stepped} (p : Program) → IsFile limits F p → Ends p R′ r → Small r
+ends-small : {F : List ℕ} {R′ : List ℕ} {r : Stepped} (p : Program) → IsFile widest F p → Ends p R′ r → Small r
 ends-small {F} p f (ends-next c ss gs q e w) = record {
   next = λ d i. let same : c ≡ d = cc in subst (λ x. x .steps < 65535) same (accepted-fits F p f gs (c .steps) e);
   refused = λ n s u i. absurd (let z : _≡_ {A = ℕ} 0 1 = cc in omega arith);
@@ -100,7 +104,7 @@ check-is : (p : Program) (a : Ran) → runOf p ≡ a → checkOf p ≡ programAn
 unfolding checkOf
 check-is p a e = ap (programAnswer p) e
 
-ends-answer : {F : List ℕ} {S : Sections} {R′ : List ℕ} {r : Stepped} (p : Program) → IsFile limits F p → readingOf limits F ≡ Good S → length R′ ≡ S .nodes * 2
+ends-answer : {F : List ℕ} {S : Sections} {R′ : List ℕ} {r : Stepped} (p : Program) → IsFile widest F p → readingWithin widest F ≡ Good S → length R′ ≡ S .nodes * 2
     → Ends p R′ r → AnswersAs p (rowsAfter r R′) (answerOf r)
 ends-answer {F} {S} {R′} p f e l (ends-next c ss gs q h w) =
     let long : length R′ ≡ 2 * sizeDecls (p .declarations) = omega (arith, nodes-are p f e, f .used-up) in
@@ -122,7 +126,7 @@ ends-answer {F} {S} {R′} p f e l (ends-refused n s u q h) =
 -- the check of a readable file
 module _ {F : List ℕ} {S : Sections} {R W : List ℕ} (z : ReadyCheck F S R W) where
   pub check-tables : GoodTables F S
-  check-tables = good-tables F (Good S) S (sym (z .reads)) refl
+  check-tables = good-tables widest F (Good S) S (sym (reading-in-range widest F widest-in-range ∙ z .reads)) refl
 
   pub check-run : {X N K : List ℕ} → Indexed X (tablesOf F S) (S .types) → 1024 ≤ length N → 4736 ≤ length K → ((h : ℕ) → h < 512 → getD K h 0 ≡ 0) → ReadyRun F S X N W K
   check-run {X} {N} {K} x n k h = record {
@@ -147,86 +151,101 @@ module _ {F : List ℕ} {S : Sections} {R W : List ℕ} (z : ReadyCheck F S R W)
       work-long = w ∙ z .work-long;
     }
 
--- the definition of the check refuses under 7 to 16
-check-numbers : (p : Program) → 1 ≤ checkOf p .number → checkOf p .number ≤ 6 → ⊥
-check-numbers p = go (runOf p) refl
-  where
-    go : (a : Ran) → runOf p ≡ a → 1 ≤ checkOf p .number → checkOf p .number ≤ 6 → ⊥
-    go (accepted gs k) e l h = omega (arith, ap (λ x. x .number) (check-is p (accepted gs k) e))
-    go (refused m k q) e l h = omega (arith, ap (λ x. x .number) (check-is p (refused m k q) e), refused-number p m k q e .0)
-
 -- a readable file has few nodes
-pub nodes-few : (F : List ℕ) {S : Sections} {g : Reading} → g ≡ readingOf limits F → g ≡ Good S → S .nodes ≤ 4096
-nodes-few F {S} {g} i j = good-tables F g S i j .laid .nodes-most
+pub nodes-few : (l : Limits) (F : List ℕ) {S : Sections} {g : Reading} → g ≡ readingOf l F → g ≡ Good S → S .nodes ≤ 4096
+nodes-few l F {S} {g} i j = good-tables l F g S i j .laid .nodes-most
 
--- the check on bytes and buffers: 1 to 5
-needed-is : {F : List ℕ} {S : Sections} (p : Program) → IsFile limits F p → readingOf limits F ≡ Good S → needed p ≡ S .nodes * 2
+-- a file that is read under some limits, as the check within speaks of it
+record Door (l : Limits) (F : List ℕ) (S : Sections) : Type 0 where
+  range : inRange l ≡ true
+  program : Program
+  file : IsFile l F program
+  wide : IsFile widest F program
+  reads : readingWithin widest F ≡ Good S
+
+door : (l : Limits) (F : List ℕ) (S : Sections) → Bytes F → readingOf l F ≡ Good S → Door l F S
+door l F S b e =
+    let (range, good) = good-in-range l F S e in
+    let (p, f) = program-of l F S b good in
+    record {
+      range = range;
+      program = p;
+      file = f;
+      wide = wider (within-widest l range) f;
+      reads = sym (reading-in-range widest F widest-in-range) ∙ read-grows l widest widest-in-range (within-widest l range) F b S e;
+    }
+
+needed-is : {F : List ℕ} {S : Sections} (p : Program) → IsFile widest F p → readingWithin widest F ≡ Good S → needed p ≡ S .nodes * 2
 needed-is p f e = omega (arith, nodes-are p f e)
 
-module _ {F R W : List ℕ} where
-  pub check-unread : {a : Answer} {r : Reading} {n m : ℕ} → r ≡ readingOf limits F → r ≡ Unread n → m ≡ numberOf r → a ≡ record { number = m; step = 0; place = 0 } → Checked F R W R W a
+-- the check on bytes and buffers: 25 and 1 to 5
+module _ {l : Limits} {F R W : List ℕ} where
+  pub check-unread : {a : Answer} {r : Reading} {n m : ℕ} → r ≡ readingOf l F → r ≡ Unread n → m ≡ numberOf r → a ≡ record { number = m; step = 0; place = 0 } → Checked l F R W R W a
   check-unread {a} {r} {n} {m} e h k q =
       let same : m ≡ n = k ∙ ap numberOf h in
       record {
-        checks = subst (λ x. Checks F R W (outcomeOf x R)) (sym q) (subst (λ k. Checks F R W (outcome k 0 0 R)) (sym same) (unreadable n (sym e ∙ h)));
-        unchanged = λ a b. refl;
+        checks = subst (λ x. Checks l F R W (outcomeOf x R)) (sym q) (subst (λ k. Checks l F R W (outcome k 0 0 R)) (sym same) (unreadable n (sym e ∙ h)));
+        unchanged = λ a. refl;
         rest = λ p f. refl;
       }
 
   -- 6
-  pub check-rows-short : {S : Sections} {r : Answer} {g : Reading} → Bytes F → g ≡ readingOf limits F → g ≡ Good S → length R < S .nodes * 2 → r ≡ record { number = 6; step = 0; place = 0 } → Checked F R W R W r
+  pub check-rows-short : {S : Sections} {r : Answer} {g : Reading} → Bytes F → g ≡ readingOf l F → g ≡ Good S → length R < S .nodes * 2 → r ≡ record { number = 6; step = 0; place = 0 } → Checked l F R W R W r
   check-rows-short {S} {r} b i j h q =
-      let e : readingOf limits F ≡ Good S = sym i ∙ j in
-      let (p, f) = program-of limits F S b e in
+      let d = door l F S b (sym i ∙ j) in
       record {
-        checks = subst (λ x. Checks F R W (outcomeOf x R)) (sym q) (rows-short p f (omega (arith, needed-is p f e)));
-        unchanged = λ a b. refl;
+        checks = subst (λ x. Checks l F R W (outcomeOf x R)) (sym q) (rows-short (d .range) (d .program) (d .file) (omega (arith, needed-is (d .program) (d .wide) (d .reads))));
+        unchanged = λ a. refl;
         rest = λ p f. refl;
       }
 
-  pub check-work-short : {S : Sections} {r : Answer} {g : Reading} → Bytes F → g ≡ readingOf limits F → g ≡ Good S → S .nodes * 2 ≤ length R → length W < S .nodes * 2 → r ≡ record { number = 6; step = 0; place = 0 } → Checked F R W R W r
-  check-work-short {S} {r} b i j l h q =
-      let e : readingOf limits F ≡ Good S = sym i ∙ j in
-      let (p, f) = program-of limits F S b e in
+  pub check-work-short : {S : Sections} {r : Answer} {g : Reading} → Bytes F → g ≡ readingOf l F → g ≡ Good S → S .nodes * 2 ≤ length R → length W < S .nodes * 2 → r ≡ record { number = 6; step = 0; place = 0 } → Checked l F R W R W r
+  check-work-short {S} {r} b i j k h q =
+      let d = door l F S b (sym i ∙ j) in
+      let n = needed-is (d .program) (d .wide) (d .reads) in
       record {
-        checks = subst (λ x. Checks F R W (outcomeOf x R)) (sym q) (work-short p f (omega (arith, needed-is p f e)) (omega (arith, needed-is p f e)));
-        unchanged = λ a b. refl;
+        checks = subst (λ x. Checks l F R W (outcomeOf x R)) (sym q) (work-short (d .range) (d .program) (d .file) (omega (arith, n)) (omega (arith, n)));
+        unchanged = λ a. refl;
         rest = λ p f. refl;
       }
 
 -- the check itself, on the parts that are lent
-module _ (F R W : List ℕ) where
-  module _ {S : Sections} {g : Reading} (b : Bytes F) (i : g ≡ readingOf limits F) (j : g ≡ Good S) (l : S .nodes * 2 ≤ length R) (k : S .nodes * 2 ≤ length W) where
+module _ (l : Limits) (F R W : List ℕ) where
+  module _ {S : Sections} {g : Reading} (b : Bytes F) (i : g ≡ readingOf l F) (j : g ≡ Good S) (m : S .nodes * 2 ≤ length R) (k : S .nodes * 2 ≤ length W) where
     pub check-ready : ReadyCheck F S (take (S .nodes * 2) R) (take (S .nodes * 2) W)
     check-ready =
-        let (p, f) = program-of limits F S b (sym i ∙ j) in
-        record { reads = sym i ∙ j; program = p; file = f; rows-long = length-take-le (S .nodes * 2) R l; work-long = length-take-le (S .nodes * 2) W k }
+        let d = door l F S b (sym i ∙ j) in
+        record { reads = d .reads; program = d .program; file = d .wide; rows-long = length-take-le (S .nodes * 2) R m; work-long = length-take-le (S .nodes * 2) W k }
 
-    pub check-good : {R₁ W₁ : List ℕ} {a : Answer} → ToldCheck F S R₁ W₁ a → Checked F R W (R₁ ++ drop (S .nodes * 2) R) (W₁ ++ drop (S .nodes * 2) W) a
+    pub check-good : {R₁ W₁ : List ℕ} {a : Answer} → ToldCheck F S R₁ W₁ a → Checked l F R W (R₁ ++ drop (S .nodes * 2) R) (W₁ ++ drop (S .nodes * 2) W) a
     check-good {R₁} {W₁} {a} told =
-        let e : readingOf limits F ≡ Good S = sym i ∙ j in
-        let (p, f) = program-of limits F S b e in
-        let n : needed p ≡ S .nodes * 2 = needed-is p f e in
-        let t = told .tells p f in
-        let c : Checks F R W (outcome (checkOf p .number) (checkOf p .step) (checkOf p .place) (checkOf p .rows ++ drop (needed p) R)) = checked p f (omega arith) (omega arith) in
+        let d = door l F S b (sym i ∙ j) in
+        let p = d .program in
+        let n : needed p ≡ S .nodes * 2 = needed-is p (d .wide) (d .reads) in
+        let t = told .tells p (d .wide) in
+        let c : Checks l F R W (outcome (checkOf p .number) (checkOf p .step) (checkOf p .place) (checkOf p .rows ++ drop (needed p) R)) = checked (d .range) p (d .file) (omega arith) (omega arith) in
         record {
           checks = same-checks (t .number) (t .step) (t .place) (ap₂ (λ x m. x ++ drop m R) (t .rows) (sym n)) c;
-          unchanged = λ x y. absurd (not-low p f t x y);
-          rest = λ q h. rest-stays (needed q) (needed-is q h e ∙ sym (told .work-long));
+          unchanged = λ low. absurd (not-low p t low);
+          rest = λ q h. rest-stays (needed q) (needed-is q (wider (within-widest l (d .range)) h) (d .reads) ∙ sym (told .work-long));
         }
       where
-        same-checks : {n s q n′ s′ q′ : ℕ} {A B : List ℕ} → n ≡ n′ → s ≡ s′ → q ≡ q′ → A ≡ B → Checks F R W (outcome n′ s′ q′ B) → Checks F R W (outcome n s q A)
+        same-checks : {n s q n′ s′ q′ : ℕ} {A B : List ℕ} → n ≡ n′ → s ≡ s′ → q ≡ q′ → A ≡ B → Checks l F R W (outcome n′ s′ q′ B) → Checks l F R W (outcome n s q A)
         same-checks e f g h c = rw (e, f, g, h) c
 
         rest-stays : (m : ℕ) → m ≡ length W₁ → drop m (W₁ ++ drop (S .nodes * 2) W) ≡ drop m W
         rest-stays m e = drop-at W₁ (drop (S .nodes * 2) W) m (sym e) ∙ ap (λ x. drop x W) (sym (e ∙ told .work-long))
 
-        not-low : (p : Program) → IsFile limits F p → AnswersAs p R₁ a → 1 ≤ a .number → a .number ≤ 6 → ⊥
-        not-low p f t x y = check-numbers p (subst (λ m. 1 ≤ m) (t .number) x) (subst (λ m. m ≤ 6) (t .number) y)
+        not-low : (p : Program) → AnswersAs p R₁ a → (a .number ≡ 25) ⊎ ((1 ≤ a .number) × (a .number ≤ 6)) → ⊥
+        not-low p t low =
+            ⊎-elim
+            (λ zero. ⊎-elim (λ x. omega (arith, x, zero, t .number)) (λ x. omega (arith, x .0, zero, t .number)) low)
+            (λ typed. ⊎-elim (λ x. omega (arith, x, typed .1, t .number)) (λ x. omega (arith, x .1, typed .0, t .number)) low)
+            (check-kept p)
 
 -- demand 3, of any of these
-demands : {F R W R′ W′ : List ℕ} {r : Answer} → Checked F R W R′ W′ r → Demands F R W R′ r
-demands {F} {R} {W} {R′} {W′} {r} c = record { demand3 = λ p f l k. demand3 F R W p f l k (outcomeOf r R′) (c .checks) }
+demands : {l : Limits} {F R W R′ W′ : List ℕ} {r : Answer} → Checked l F R W R′ W′ r → Demands l F R W R′ r
+demands {l} {F} {R} {W} {R′} {W′} {r} c = record { demand3 = λ i p f k m. demand3 l F R W i p f k m (outcomeOf r R′) (c .checks) }
 
-pub with-demands : {F R W R′ W′ : List ℕ} {r : Answer} → Checked F R W R′ W′ r → Checked F R W R′ W′ r × Demands F R W R′ r
+pub with-demands : {l : Limits} {F R W R′ W′ : List ℕ} {r : Answer} → Checked l F R W R′ W′ r → Checked l F R W R′ W′ r × Demands l F R W R′ r
 with-demands c = (c, demands c)

@@ -9,3 +9,4 @@ pub mod LawsAll
 pub mod LawsFill
 pub mod LawsRows
 pub mod LawsCheck
+pub mod Growth

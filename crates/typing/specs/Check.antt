@@ -1,15 +1,18 @@
 -- What the contract of `check` cites, on every input, and demand 3 for the code. F is the file, R the rows, W the work buffer; a prime
--- marks a buffer after the call. Assumes nothing.
+-- marks a buffer after the call. Within the check a file is spoken of under the widest limits, which any limits in range are within.
+-- Assumes nothing.
 use mathlib.Core.Path.{_≡_}
+use mathlib.Core.Bool.{true}
 use mathlib.Core.List.{List}
+use mathlib.Core.Logic.{_⊎_}
 use Prim.Native.Nat.{ℕ, _*_, _≤_, _<_}
 use lib.ListN.{length, drop, replicate}
-use Rattle.oat.specs.ProgramFile.{Program, IsFile}
+use Rattle.oat.specs.ProgramFile.{Limits, inRange, widest, Program, IsFile}
 use Rattle.typing_rules.specs.Check.{checkOf}
 use Rattle.file_sections.specs.declared.Sections.{Sections}
 use Rattle.file_sections.specs.declared.Reading.the-variants.{Good}
-use Rattle.program_file.specs.Reading.{readingOf}
-use Rattle.demand3.specs.CheckFile.{limits, needed, Outcome, outcome, Checks}
+use Rattle.program_file.specs.Reading.{readingWithin}
+use Rattle.demand3.specs.CheckFile.{needed, Outcome, outcome, Checks}
 use Rattle.demand3.specs.Demand3.{Demand3}
 use Rattle.steps.specs.declared.context.Context.{Context}
 use Rattle.steps.specs.declared.context.Stepped.{Stepped}
@@ -19,16 +22,16 @@ use Rattle.typing.specs.declared.check.Answer.{Answer}
 abbrev pub outcomeOf : Answer → List ℕ → Outcome
 outcomeOf r rows = outcome (r .number) (r .step) (r .place) rows
 
--- the answer and the rows are the definition's; 1 to 6 change no buffer (the rows are in the outcome); of work the first two numbers for
--- each node are free, and the rest stays
-pub record Checked (F R W R′ W′ : List ℕ) (r : Answer) : Type 0 where
-  pub checks : Checks F R W (outcomeOf r R′)
-  pub unchanged : 1 ≤ r .number → r .number ≤ 6 → W′ ≡ W
+-- the answer and the rows are the definition's; 25 and 1 to 6 change no buffer (the rows are in the outcome); of work the first two numbers
+-- for each node are free, and the rest stays
+pub record Checked (limits : Limits) (F R W R′ W′ : List ℕ) (r : Answer) : Type 0 where
+  pub checks : Checks limits F R W (outcomeOf r R′)
+  pub unchanged : (r .number ≡ 25) ⊎ ((1 ≤ r .number) × (r .number ≤ 6)) → W′ ≡ W
   pub rest : (p : Program) → IsFile limits F p → drop (needed p) W′ ≡ drop (needed p) W
 
--- demand 3, on bytes and buffers: for every readable file, with long enough buffers holding anything
-pub record Demands (F R W R′ : List ℕ) (r : Answer) : Type 0 where
-  pub demand3 : (p : Program) → IsFile limits F p → needed p ≤ length R → needed p ≤ length W → Demand3 p R (outcomeOf r R′)
+-- demand 3, on bytes and buffers: for every readable file under limits in range, with long enough buffers holding anything
+pub record Demands (limits : Limits) (F R W R′ : List ℕ) (r : Answer) : Type 0 where
+  pub demand3 : inRange limits ≡ true → (p : Program) → IsFile limits F p → needed p ≤ length R → needed p ≤ length W → Demand3 p R (outcomeOf r R′)
 
 -- the answer after the last step, and the rows: a refusal fills them
 abbrev pub answerOf : Stepped → Answer
@@ -46,9 +49,9 @@ pub record Small (r : Stepped) : Type 0 where
 
 -- a readable file, whose rows and work are of the length needed
 pub record ReadyCheck (F : List ℕ) (S : Sections) (R W : List ℕ) : Type 0 where
-  pub reads : readingOf limits F ≡ Good S
+  pub reads : readingWithin widest F ≡ Good S
   pub program : Program
-  pub file : IsFile limits F program
+  pub file : IsFile widest F program
   pub rows-long : length R ≡ S .nodes * 2
   pub work-long : length W ≡ S .nodes * 2
 
@@ -60,5 +63,5 @@ pub record AnswersAs (p : Program) (R′ : List ℕ) (r : Answer) : Type 0 where
   pub rows : R′ ≡ checkOf p .rows
 
 pub record ToldCheck (F : List ℕ) (S : Sections) (R′ W′ : List ℕ) (r : Answer) : Type 0 where
-  pub tells : (p : Program) → IsFile limits F p → AnswersAs p R′ r
+  pub tells : (p : Program) → IsFile widest F p → AnswersAs p R′ r
   pub work-long : length W′ ≡ S .nodes * 2

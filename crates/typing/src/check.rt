@@ -8,11 +8,13 @@ use crate::groups::struct_names;
 use bindings::Chains;
 use file_sections::Reading;
 use file_sections::Sections;
+use program_file::Limits;
 use steps::context::Stepped;
 use type_index::index::index_types;
 ghost use mathlib.Core.Path.{_≡_};
 ghost use Prim.Native.Nat.{_*_, _≤_, _<_};
 ghost use lib.ListN.{length, replicate};
+ghost use Rattle.program_file.specs.Reading.{settingOf};
 ghost use Rattle.typing.specs.Runs.{ReadyRun, ToldFirst, ToldRun};
 ghost use Rattle.typing.specs.Check.{Checked, Demands, answerOf, rowsAfter, Small, ReadyCheck, ToldCheck};
 
@@ -148,12 +150,13 @@ fn check_read(file: &[u8], sections: Sections, rows: &mut [u16], work: &mut [u16
     finish(stepped, rows)
 }
 
-// Checks a program file: reads it, tests the buffers, and answers; `rows` gets two numbers for each node, and `work` lends as many.
-pub fn check(file: &[u8], rows: &mut [u16], work: &mut [u16]) -> Answer
-    ensures { λ r. ⌜ Checked (now (file .entry)) (now (rows .entry)) (now (work .entry)) (now (rows .exit)) (now (work .exit)) r ⌝ }
-    ensures { λ r. ⌜ Demands (now (file .entry)) (now (rows .entry)) (now (work .entry)) (now (rows .exit)) r ⌝ }
+// Checks a program file: tests the limits, reads it, tests the buffers, and answers; `rows` gets two numbers for each node, and `work` lends as
+// many.
+pub fn check(file: &[u8], limits: Limits, rows: &mut [u16], work: &mut [u16]) -> Answer
+    ensures { λ r. ⌜ Checked (settingOf limits) (now (file .entry)) (now (rows .entry)) (now (work .entry)) (now (rows .exit)) (now (work .exit)) r ⌝ }
+    ensures { λ r. ⌜ Demands (settingOf limits) (now (file .entry)) (now (rows .entry)) (now (work .entry)) (now (rows .exit)) r ⌝ }
 {
-    let read = program_file::read(file);
+    let read = program_file::read(file, limits);
     let Reading::Good(sections) = read else {
         return bare(program_file::number(read));
     };

@@ -6,9 +6,8 @@ use mathlib.Core.List.{List, [], _∷_}
 use Prim.Native.Nat.{ℕ}
 use Rattle.oat.specs.Tables.{TypeRecord, FieldRecord, StructRecord, BuiltInRecord, NodeRecord, fileOf}
 use Rattle.oat.specs.Syntax.{truth, falsity, integer, text, null, literal, name, arrayLiteral, defaultArray, arrayWith, index, lengthOf, structLiteral, field, call, unary, binary, none, also, noInit, init, nameTarget, indexTarget, fieldTarget, noVar, nextVar, noCondition, condition, assign, var, returnValue, returnVoid, callStmt, ifElse, ifNull, for, while, noStep, step, block, empty, then, global, function}
-use Rattle.oat.specs.ProgramFile.{Program, IsFile}
+use Rattle.oat.specs.ProgramFile.{widest, Program, IsFile}
 use Rattle.typing_rules.specs.Check.{checkOf}
-use Rattle.typing_rules.specs.PanCases.{limits}
 use Rattle.typing_rules.proofs.LawsComputed.{computed, isFile, is-file}
 
 abbrev pub ty : ℕ → ℕ → ℕ → ℕ → TypeRecord
@@ -28,7 +27,7 @@ nd k x t c = record { kind = k; x = x; t = t; children = c }
 
 -- the program is that of a file, and the check answers number, step and place, with these rows
 pub record Answers (p : Program) (number step place : ℕ) (rows : List ℕ) : Type 0 where
-  pub file : IsFile limits (fileOf (p .tables)) p
+  pub file : IsFile widest (fileOf (p .tables)) p
   pub answer : checkOf p ≡ record { number = number; step = step; place = place; rows = rows }
 
 pub program-accepted-1 : Program
@@ -51,7 +50,7 @@ program-accepted-1 = record {
 
 pub accepted-1 : Answers program-accepted-1 0 2 0 (1 ∷ 65535 ∷ 1 ∷ 65535 ∷ 1 ∷ 65535 ∷ 0 ∷ 65535 ∷ 0 ∷ 65535 ∷ 0 ∷ 65535 ∷ [])
 unfolding program-accepted-1 computed isFile
-accepted-1 = record { file = is-file limits program-accepted-1 refl; answer = refl }
+accepted-1 = record { file = is-file widest program-accepted-1 refl; answer = refl }
 
 pub program-accepted-2 : Program
 program-accepted-2 = record {
@@ -73,7 +72,7 @@ program-accepted-2 = record {
 
 pub accepted-2 : Answers program-accepted-2 0 2 0 (1 ∷ 65535 ∷ 1 ∷ 65535 ∷ 1 ∷ 65535 ∷ 0 ∷ 65535 ∷ 0 ∷ 65535 ∷ 0 ∷ 65535 ∷ [])
 unfolding program-accepted-2 computed isFile
-accepted-2 = record { file = is-file limits program-accepted-2 refl; answer = refl }
+accepted-2 = record { file = is-file widest program-accepted-2 refl; answer = refl }
 
 pub program-accepted-3 : Program
 program-accepted-3 = record {
@@ -99,7 +98,7 @@ program-accepted-3 = record {
 pub accepted-3 : Answers program-accepted-3 0 2 0 (1 ∷ 65535 ∷ 1 ∷ 65535 ∷ 0 ∷ 65535 ∷ 0 ∷ 65535 ∷ 0 ∷ 65535 ∷ 1 ∷ 65535 ∷ 0 ∷ 3
     ∷ 0 ∷ 65535 ∷ 0 ∷ 65535 ∷ 0 ∷ 3 ∷ 0 ∷ 65535 ∷ 0 ∷ 3 ∷ 0 ∷ 65535 ∷ 0 ∷ 65535 ∷ 0 ∷ 65535 ∷ 0 ∷ 3 ∷ 1 ∷ 65535 ∷ [])
 unfolding program-accepted-3 computed isFile
-accepted-3 = record { file = is-file limits program-accepted-3 refl; answer = refl }
+accepted-3 = record { file = is-file widest program-accepted-3 refl; answer = refl }
 
 pub program-accepted-4 : Program
 program-accepted-4 = record {
@@ -141,7 +140,7 @@ pub accepted-4 : Answers program-accepted-4 0 10 0 (1 ∷ 65535 ∷ 1 ∷ 65535 
     ∷ 65535 ∷ 13 ∷ 66 ∷ 13 ∷ 66 ∷ 0 ∷ 65535 ∷ 16 ∷ 7 ∷ 16 ∷ 7 ∷ 0 ∷ 65535 ∷ 1 ∷ 65535 ∷ 1 ∷ 65535 ∷ 9 ∷ 65535 ∷ 9 ∷ 65535 ∷ 1
     ∷ 65535 ∷ 0 ∷ 65535 ∷ 0 ∷ 65535 ∷ 0 ∷ 65535 ∷ 1 ∷ 65535 ∷ 13 ∷ 65535 ∷ 13 ∷ 0 ∷ [])
 unfolding program-accepted-4 computed isFile
-accepted-4 = record { file = is-file limits program-accepted-4 refl; answer = refl }
+accepted-4 = record { file = is-file widest program-accepted-4 refl; answer = refl }
 
 pub program-accepted-5 : Program
 program-accepted-5 = record {
@@ -181,7 +180,7 @@ pub accepted-5 : Answers program-accepted-5 0 12 0 (1 ∷ 65535 ∷ 0 ∷ 65535 
     ∷ 65535 ∷ 10 ∷ 65535 ∷ 1 ∷ 65535 ∷ 1 ∷ 65535 ∷ 0 ∷ 1 ∷ 0 ∷ 65535 ∷ 0 ∷ 65535 ∷ 18 ∷ 65535 ∷ 1 ∷ 65535 ∷ 0 ∷ 65535 ∷ 0 ∷ 65535
     ∷ 16 ∷ 0 ∷ 0 ∷ 65535 ∷ 16 ∷ 40001 ∷ 0 ∷ 65535 ∷ [])
 unfolding program-accepted-5 computed isFile
-accepted-5 = record { file = is-file limits program-accepted-5 refl; answer = refl }
+accepted-5 = record { file = is-file widest program-accepted-5 refl; answer = refl }
 
 pub program-accepted-6 : Program
 program-accepted-6 = record {
@@ -228,7 +227,7 @@ pub accepted-6 : Answers program-accepted-6 0 14 0 (23 ∷ 65535 ∷ 23 ∷ 6553
     ∷ 65535 ∷ 0 ∷ 65535 ∷ 0 ∷ 65535 ∷ 0 ∷ 65535 ∷ 0 ∷ 58 ∷ 0 ∷ 65535 ∷ 0 ∷ 58 ∷ 0 ∷ 65535 ∷ 0 ∷ 65535 ∷ 1 ∷ 65535 ∷ 0 ∷ 65535 ∷ 1
     ∷ 65535 ∷ 11 ∷ 65535 ∷ 0 ∷ 65535 ∷ 0 ∷ 72 ∷ 1 ∷ 65535 ∷ 1 ∷ 65535 ∷ 1 ∷ 65535 ∷ [])
 unfolding program-accepted-6 computed isFile
-accepted-6 = record { file = is-file limits program-accepted-6 refl; answer = refl }
+accepted-6 = record { file = is-file widest program-accepted-6 refl; answer = refl }
 
 pub program-accepted-7 : Program
 program-accepted-7 = record {
@@ -277,7 +276,7 @@ pub accepted-7 : Answers program-accepted-7 0 18 0 (29 ∷ 65535 ∷ 29 ∷ 6553
     ∷ 65535 ∷ 0 ∷ 5 ∷ 29 ∷ 65535 ∷ 2 ∷ 65535 ∷ 2 ∷ 65535 ∷ 21 ∷ 65535 ∷ 22 ∷ 40004 ∷ 15 ∷ 40001 ∷ 0 ∷ 65535 ∷ 0 ∷ 65535 ∷ 1
     ∷ 65535 ∷ 0 ∷ 65535 ∷ 1 ∷ 65535 ∷ 1 ∷ 65535 ∷ 1 ∷ 65535 ∷ [])
 unfolding program-accepted-7 computed isFile
-accepted-7 = record { file = is-file limits program-accepted-7 refl; answer = refl }
+accepted-7 = record { file = is-file widest program-accepted-7 refl; answer = refl }
 
 pub program-refused-7-1 : Program
 program-refused-7-1 = record {
@@ -294,7 +293,7 @@ program-refused-7-1 = record {
 
 pub refused-7-1 : Answers program-refused-7-1 7 1 0 ([])
 unfolding program-refused-7-1 computed isFile
-refused-7-1 = record { file = is-file limits program-refused-7-1 refl; answer = refl }
+refused-7-1 = record { file = is-file widest program-refused-7-1 refl; answer = refl }
 
 pub program-refused-7-2 : Program
 program-refused-7-2 = record {
@@ -315,7 +314,7 @@ program-refused-7-2 = record {
 
 pub refused-7-2 : Answers program-refused-7-2 7 1 0 (65535 ∷ 65535 ∷ 65535 ∷ 65535 ∷ 65535 ∷ 65535 ∷ 65535 ∷ 65535 ∷ [])
 unfolding program-refused-7-2 computed isFile
-refused-7-2 = record { file = is-file limits program-refused-7-2 refl; answer = refl }
+refused-7-2 = record { file = is-file widest program-refused-7-2 refl; answer = refl }
 
 pub program-refused-7-3 : Program
 program-refused-7-3 = record {
@@ -332,7 +331,7 @@ program-refused-7-3 = record {
 
 pub refused-7-3 : Answers program-refused-7-3 7 1 1 ([])
 unfolding program-refused-7-3 computed isFile
-refused-7-3 = record { file = is-file limits program-refused-7-3 refl; answer = refl }
+refused-7-3 = record { file = is-file widest program-refused-7-3 refl; answer = refl }
 
 pub program-refused-7-4 : Program
 program-refused-7-4 = record {
@@ -353,7 +352,7 @@ program-refused-7-4 = record {
 
 pub refused-7-4 : Answers program-refused-7-4 7 1 1 ([])
 unfolding program-refused-7-4 computed isFile
-refused-7-4 = record { file = is-file limits program-refused-7-4 refl; answer = refl }
+refused-7-4 = record { file = is-file widest program-refused-7-4 refl; answer = refl }
 
 pub program-refused-7-5 : Program
 program-refused-7-5 = record {
@@ -376,7 +375,7 @@ program-refused-7-5 = record {
 pub refused-7-5 : Answers program-refused-7-5 7 1 4 (65535 ∷ 65535 ∷ 65535 ∷ 65535 ∷ 65535 ∷ 65535 ∷ 65535 ∷ 65535 ∷ 65535 ∷ 65535
     ∷ 65535 ∷ 65535 ∷ 65535 ∷ 65535 ∷ [])
 unfolding program-refused-7-5 computed isFile
-refused-7-5 = record { file = is-file limits program-refused-7-5 refl; answer = refl }
+refused-7-5 = record { file = is-file widest program-refused-7-5 refl; answer = refl }
 
 pub program-refused-7-6 : Program
 program-refused-7-6 = record {
@@ -400,7 +399,7 @@ program-refused-7-6 = record {
 pub refused-7-6 : Answers program-refused-7-6 7 1 5 (65535 ∷ 65535 ∷ 65535 ∷ 65535 ∷ 65535 ∷ 65535 ∷ 65535 ∷ 65535 ∷ 65535 ∷ 65535
     ∷ 65535 ∷ 65535 ∷ 65535 ∷ 65535 ∷ 65535 ∷ 65535 ∷ 65535 ∷ 65535 ∷ [])
 unfolding program-refused-7-6 computed isFile
-refused-7-6 = record { file = is-file limits program-refused-7-6 refl; answer = refl }
+refused-7-6 = record { file = is-file widest program-refused-7-6 refl; answer = refl }
 
 pub program-refused-7-7 : Program
 program-refused-7-7 = record {
@@ -420,7 +419,7 @@ program-refused-7-7 = record {
 pub refused-7-7 : Answers program-refused-7-7 7 2 6 (65535 ∷ 65535 ∷ 65535 ∷ 65535 ∷ 65535 ∷ 65535 ∷ 65535 ∷ 65535 ∷ 65535 ∷ 65535
     ∷ 65535 ∷ 65535 ∷ 65535 ∷ 65535 ∷ 65535 ∷ 65535 ∷ [])
 unfolding program-refused-7-7 computed isFile
-refused-7-7 = record { file = is-file limits program-refused-7-7 refl; answer = refl }
+refused-7-7 = record { file = is-file widest program-refused-7-7 refl; answer = refl }
 
 pub program-refused-7-8 : Program
 program-refused-7-8 = record {
@@ -442,7 +441,7 @@ program-refused-7-8 = record {
 pub refused-7-8 : Answers program-refused-7-8 7 7 0 (65535 ∷ 65535 ∷ 65535 ∷ 65535 ∷ 65535 ∷ 65535 ∷ 65535 ∷ 65535 ∷ 65535 ∷ 65535
     ∷ 65535 ∷ 65535 ∷ [])
 unfolding program-refused-7-8 computed isFile
-refused-7-8 = record { file = is-file limits program-refused-7-8 refl; answer = refl }
+refused-7-8 = record { file = is-file widest program-refused-7-8 refl; answer = refl }
 
 pub program-refused-8-1 : Program
 program-refused-8-1 = record {
@@ -463,7 +462,7 @@ program-refused-8-1 = record {
 
 pub refused-8-1 : Answers program-refused-8-1 8 0 1 (65535 ∷ 65535 ∷ 65535 ∷ 65535 ∷ [])
 unfolding program-refused-8-1 computed isFile
-refused-8-1 = record { file = is-file limits program-refused-8-1 refl; answer = refl }
+refused-8-1 = record { file = is-file widest program-refused-8-1 refl; answer = refl }
 
 pub program-refused-8-2 : Program
 program-refused-8-2 = record {
@@ -484,7 +483,7 @@ program-refused-8-2 = record {
 
 pub refused-8-2 : Answers program-refused-8-2 8 1 3 (65535 ∷ 65535 ∷ 65535 ∷ 65535 ∷ 65535 ∷ 65535 ∷ 65535 ∷ 65535 ∷ [])
 unfolding program-refused-8-2 computed isFile
-refused-8-2 = record { file = is-file limits program-refused-8-2 refl; answer = refl }
+refused-8-2 = record { file = is-file widest program-refused-8-2 refl; answer = refl }
 
 pub program-refused-8-3 : Program
 program-refused-8-3 = record {
@@ -508,7 +507,7 @@ program-refused-8-3 = record {
 pub refused-8-3 : Answers program-refused-8-3 8 7 3 (65535 ∷ 65535 ∷ 65535 ∷ 65535 ∷ 65535 ∷ 65535 ∷ 65535 ∷ 65535 ∷ 65535 ∷ 65535
     ∷ 65535 ∷ 65535 ∷ 65535 ∷ 65535 ∷ 65535 ∷ 65535 ∷ 65535 ∷ 65535 ∷ 65535 ∷ 65535 ∷ [])
 unfolding program-refused-8-3 computed isFile
-refused-8-3 = record { file = is-file limits program-refused-8-3 refl; answer = refl }
+refused-8-3 = record { file = is-file widest program-refused-8-3 refl; answer = refl }
 
 pub program-refused-9-1 : Program
 program-refused-9-1 = record {
@@ -525,7 +524,7 @@ program-refused-9-1 = record {
 
 pub refused-9-1 : Answers program-refused-9-1 9 0 0 ([])
 unfolding program-refused-9-1 computed isFile
-refused-9-1 = record { file = is-file limits program-refused-9-1 refl; answer = refl }
+refused-9-1 = record { file = is-file widest program-refused-9-1 refl; answer = refl }
 
 pub program-refused-9-2 : Program
 program-refused-9-2 = record {
@@ -546,7 +545,7 @@ program-refused-9-2 = record {
 
 pub refused-9-2 : Answers program-refused-9-2 9 0 0 (65535 ∷ 65535 ∷ 65535 ∷ 65535 ∷ 65535 ∷ 65535 ∷ 65535 ∷ 65535 ∷ [])
 unfolding program-refused-9-2 computed isFile
-refused-9-2 = record { file = is-file limits program-refused-9-2 refl; answer = refl }
+refused-9-2 = record { file = is-file widest program-refused-9-2 refl; answer = refl }
 
 pub program-refused-9-3 : Program
 program-refused-9-3 = record {
@@ -567,7 +566,7 @@ program-refused-9-3 = record {
 
 pub refused-9-3 : Answers program-refused-9-3 9 0 1 (65535 ∷ 65535 ∷ 65535 ∷ 65535 ∷ [])
 unfolding program-refused-9-3 computed isFile
-refused-9-3 = record { file = is-file limits program-refused-9-3 refl; answer = refl }
+refused-9-3 = record { file = is-file widest program-refused-9-3 refl; answer = refl }
 
 pub program-refused-9-4 : Program
 program-refused-9-4 = record {
@@ -584,7 +583,7 @@ program-refused-9-4 = record {
 
 pub refused-9-4 : Answers program-refused-9-4 9 1 0 ([])
 unfolding program-refused-9-4 computed isFile
-refused-9-4 = record { file = is-file limits program-refused-9-4 refl; answer = refl }
+refused-9-4 = record { file = is-file widest program-refused-9-4 refl; answer = refl }
 
 pub program-refused-9-5 : Program
 program-refused-9-5 = record {
@@ -605,7 +604,7 @@ program-refused-9-5 = record {
 
 pub refused-9-5 : Answers program-refused-9-5 9 1 3 (65535 ∷ 65535 ∷ 65535 ∷ 65535 ∷ 65535 ∷ 65535 ∷ 65535 ∷ 65535 ∷ [])
 unfolding program-refused-9-5 computed isFile
-refused-9-5 = record { file = is-file limits program-refused-9-5 refl; answer = refl }
+refused-9-5 = record { file = is-file widest program-refused-9-5 refl; answer = refl }
 
 pub program-refused-9-6 : Program
 program-refused-9-6 = record {
@@ -626,7 +625,7 @@ program-refused-9-6 = record {
 
 pub refused-9-6 : Answers program-refused-9-6 9 1 3 (65535 ∷ 65535 ∷ 65535 ∷ 65535 ∷ 65535 ∷ 65535 ∷ 65535 ∷ 65535 ∷ [])
 unfolding program-refused-9-6 computed isFile
-refused-9-6 = record { file = is-file limits program-refused-9-6 refl; answer = refl }
+refused-9-6 = record { file = is-file widest program-refused-9-6 refl; answer = refl }
 
 pub program-refused-9-7 : Program
 program-refused-9-7 = record {
@@ -648,7 +647,7 @@ program-refused-9-7 = record {
 pub refused-9-7 : Answers program-refused-9-7 9 1 3 (65535 ∷ 65535 ∷ 65535 ∷ 65535 ∷ 65535 ∷ 65535 ∷ 65535 ∷ 65535 ∷ 65535 ∷ 65535
     ∷ [])
 unfolding program-refused-9-7 computed isFile
-refused-9-7 = record { file = is-file limits program-refused-9-7 refl; answer = refl }
+refused-9-7 = record { file = is-file widest program-refused-9-7 refl; answer = refl }
 
 pub program-refused-9-8 : Program
 program-refused-9-8 = record {
@@ -671,7 +670,7 @@ program-refused-9-8 = record {
 pub refused-9-8 : Answers program-refused-9-8 9 1 3 (65535 ∷ 65535 ∷ 65535 ∷ 65535 ∷ 65535 ∷ 65535 ∷ 65535 ∷ 65535 ∷ 65535 ∷ 65535
     ∷ 65535 ∷ 65535 ∷ [])
 unfolding program-refused-9-8 computed isFile
-refused-9-8 = record { file = is-file limits program-refused-9-8 refl; answer = refl }
+refused-9-8 = record { file = is-file widest program-refused-9-8 refl; answer = refl }
 
 pub program-refused-9-9 : Program
 program-refused-9-9 = record {
@@ -692,7 +691,7 @@ program-refused-9-9 = record {
 pub refused-9-9 : Answers program-refused-9-9 9 9 5 (65535 ∷ 65535 ∷ 65535 ∷ 65535 ∷ 65535 ∷ 65535 ∷ 65535 ∷ 65535 ∷ 65535 ∷ 65535
     ∷ 65535 ∷ 65535 ∷ [])
 unfolding program-refused-9-9 computed isFile
-refused-9-9 = record { file = is-file limits program-refused-9-9 refl; answer = refl }
+refused-9-9 = record { file = is-file widest program-refused-9-9 refl; answer = refl }
 
 pub program-refused-9-10 : Program
 program-refused-9-10 = record {
@@ -714,7 +713,7 @@ program-refused-9-10 = record {
 pub refused-9-10 : Answers program-refused-9-10 9 10 9 (65535 ∷ 65535 ∷ 65535 ∷ 65535 ∷ 65535 ∷ 65535 ∷ 65535 ∷ 65535 ∷ 65535
     ∷ 65535 ∷ 65535 ∷ 65535 ∷ 65535 ∷ 65535 ∷ 65535 ∷ 65535 ∷ 65535 ∷ 65535 ∷ 65535 ∷ 65535 ∷ [])
 unfolding program-refused-9-10 computed isFile
-refused-9-10 = record { file = is-file limits program-refused-9-10 refl; answer = refl }
+refused-9-10 = record { file = is-file widest program-refused-9-10 refl; answer = refl }
 
 pub program-refused-10-1 : Program
 program-refused-10-1 = record {
@@ -737,7 +736,7 @@ program-refused-10-1 = record {
 pub refused-10-1 : Answers program-refused-10-1 10 1 2 (65535 ∷ 65535 ∷ 65535 ∷ 65535 ∷ 65535 ∷ 65535 ∷ 65535 ∷ 65535 ∷ 65535
     ∷ 65535 ∷ 65535 ∷ 65535 ∷ 65535 ∷ 65535 ∷ [])
 unfolding program-refused-10-1 computed isFile
-refused-10-1 = record { file = is-file limits program-refused-10-1 refl; answer = refl }
+refused-10-1 = record { file = is-file widest program-refused-10-1 refl; answer = refl }
 
 pub program-refused-10-2 : Program
 program-refused-10-2 = record {
@@ -760,7 +759,7 @@ program-refused-10-2 = record {
 pub refused-10-2 : Answers program-refused-10-2 10 1 2 (65535 ∷ 65535 ∷ 65535 ∷ 65535 ∷ 65535 ∷ 65535 ∷ 65535 ∷ 65535 ∷ 65535
     ∷ 65535 ∷ 65535 ∷ 65535 ∷ 65535 ∷ 65535 ∷ [])
 unfolding program-refused-10-2 computed isFile
-refused-10-2 = record { file = is-file limits program-refused-10-2 refl; answer = refl }
+refused-10-2 = record { file = is-file widest program-refused-10-2 refl; answer = refl }
 
 pub program-refused-10-3 : Program
 program-refused-10-3 = record {
@@ -783,7 +782,7 @@ program-refused-10-3 = record {
 pub refused-10-3 : Answers program-refused-10-3 10 1 2 (65535 ∷ 65535 ∷ 65535 ∷ 65535 ∷ 65535 ∷ 65535 ∷ 65535 ∷ 65535 ∷ 65535
     ∷ 65535 ∷ 65535 ∷ 65535 ∷ 65535 ∷ 65535 ∷ [])
 unfolding program-refused-10-3 computed isFile
-refused-10-3 = record { file = is-file limits program-refused-10-3 refl; answer = refl }
+refused-10-3 = record { file = is-file widest program-refused-10-3 refl; answer = refl }
 
 pub program-refused-10-4 : Program
 program-refused-10-4 = record {
@@ -807,7 +806,7 @@ program-refused-10-4 = record {
 pub refused-10-4 : Answers program-refused-10-4 10 1 2 (65535 ∷ 65535 ∷ 65535 ∷ 65535 ∷ 65535 ∷ 65535 ∷ 65535 ∷ 65535 ∷ 65535
     ∷ 65535 ∷ 65535 ∷ 65535 ∷ 65535 ∷ 65535 ∷ 65535 ∷ 65535 ∷ [])
 unfolding program-refused-10-4 computed isFile
-refused-10-4 = record { file = is-file limits program-refused-10-4 refl; answer = refl }
+refused-10-4 = record { file = is-file widest program-refused-10-4 refl; answer = refl }
 
 pub program-refused-10-5 : Program
 program-refused-10-5 = record {
@@ -831,7 +830,7 @@ program-refused-10-5 = record {
 pub refused-10-5 : Answers program-refused-10-5 10 1 2 (65535 ∷ 65535 ∷ 65535 ∷ 65535 ∷ 65535 ∷ 65535 ∷ 65535 ∷ 65535 ∷ 65535
     ∷ 65535 ∷ 65535 ∷ 65535 ∷ 65535 ∷ 65535 ∷ 65535 ∷ 65535 ∷ 65535 ∷ 65535 ∷ [])
 unfolding program-refused-10-5 computed isFile
-refused-10-5 = record { file = is-file limits program-refused-10-5 refl; answer = refl }
+refused-10-5 = record { file = is-file widest program-refused-10-5 refl; answer = refl }
 
 pub program-refused-10-6 : Program
 program-refused-10-6 = record {
@@ -853,7 +852,7 @@ program-refused-10-6 = record {
 pub refused-10-6 : Answers program-refused-10-6 10 1 3 (65535 ∷ 65535 ∷ 65535 ∷ 65535 ∷ 65535 ∷ 65535 ∷ 65535 ∷ 65535 ∷ 65535
     ∷ 65535 ∷ 65535 ∷ 65535 ∷ [])
 unfolding program-refused-10-6 computed isFile
-refused-10-6 = record { file = is-file limits program-refused-10-6 refl; answer = refl }
+refused-10-6 = record { file = is-file widest program-refused-10-6 refl; answer = refl }
 
 pub program-refused-10-7 : Program
 program-refused-10-7 = record {
@@ -875,7 +874,7 @@ program-refused-10-7 = record {
 pub refused-10-7 : Answers program-refused-10-7 10 1 3 (65535 ∷ 65535 ∷ 65535 ∷ 65535 ∷ 65535 ∷ 65535 ∷ 65535 ∷ 65535 ∷ 65535
     ∷ 65535 ∷ 65535 ∷ 65535 ∷ [])
 unfolding program-refused-10-7 computed isFile
-refused-10-7 = record { file = is-file limits program-refused-10-7 refl; answer = refl }
+refused-10-7 = record { file = is-file widest program-refused-10-7 refl; answer = refl }
 
 pub program-refused-10-8 : Program
 program-refused-10-8 = record {
@@ -897,7 +896,7 @@ program-refused-10-8 = record {
 pub refused-10-8 : Answers program-refused-10-8 10 1 3 (65535 ∷ 65535 ∷ 65535 ∷ 65535 ∷ 65535 ∷ 65535 ∷ 65535 ∷ 65535 ∷ 65535
     ∷ 65535 ∷ 65535 ∷ 65535 ∷ [])
 unfolding program-refused-10-8 computed isFile
-refused-10-8 = record { file = is-file limits program-refused-10-8 refl; answer = refl }
+refused-10-8 = record { file = is-file widest program-refused-10-8 refl; answer = refl }
 
 pub program-refused-10-9 : Program
 program-refused-10-9 = record {
@@ -919,7 +918,7 @@ program-refused-10-9 = record {
 pub refused-10-9 : Answers program-refused-10-9 10 1 3 (65535 ∷ 65535 ∷ 65535 ∷ 65535 ∷ 65535 ∷ 65535 ∷ 65535 ∷ 65535 ∷ 65535
     ∷ 65535 ∷ 65535 ∷ 65535 ∷ [])
 unfolding program-refused-10-9 computed isFile
-refused-10-9 = record { file = is-file limits program-refused-10-9 refl; answer = refl }
+refused-10-9 = record { file = is-file widest program-refused-10-9 refl; answer = refl }
 
 pub program-refused-10-10 : Program
 program-refused-10-10 = record {
@@ -942,7 +941,7 @@ program-refused-10-10 = record {
 pub refused-10-10 : Answers program-refused-10-10 10 1 3 (65535 ∷ 65535 ∷ 65535 ∷ 65535 ∷ 65535 ∷ 65535 ∷ 65535 ∷ 65535 ∷ 65535
     ∷ 65535 ∷ 65535 ∷ 65535 ∷ [])
 unfolding program-refused-10-10 computed isFile
-refused-10-10 = record { file = is-file limits program-refused-10-10 refl; answer = refl }
+refused-10-10 = record { file = is-file widest program-refused-10-10 refl; answer = refl }
 
 pub program-refused-10-11 : Program
 program-refused-10-11 = record {
@@ -965,7 +964,7 @@ program-refused-10-11 = record {
 pub refused-10-11 : Answers program-refused-10-11 10 1 3 (65535 ∷ 65535 ∷ 65535 ∷ 65535 ∷ 65535 ∷ 65535 ∷ 65535 ∷ 65535 ∷ 65535
     ∷ 65535 ∷ 65535 ∷ 65535 ∷ 65535 ∷ 65535 ∷ [])
 unfolding program-refused-10-11 computed isFile
-refused-10-11 = record { file = is-file limits program-refused-10-11 refl; answer = refl }
+refused-10-11 = record { file = is-file widest program-refused-10-11 refl; answer = refl }
 
 pub program-refused-10-12 : Program
 program-refused-10-12 = record {
@@ -988,7 +987,7 @@ program-refused-10-12 = record {
 pub refused-10-12 : Answers program-refused-10-12 10 1 3 (65535 ∷ 65535 ∷ 65535 ∷ 65535 ∷ 65535 ∷ 65535 ∷ 65535 ∷ 65535 ∷ 65535
     ∷ 65535 ∷ 65535 ∷ 65535 ∷ 65535 ∷ 65535 ∷ [])
 unfolding program-refused-10-12 computed isFile
-refused-10-12 = record { file = is-file limits program-refused-10-12 refl; answer = refl }
+refused-10-12 = record { file = is-file widest program-refused-10-12 refl; answer = refl }
 
 pub program-refused-10-13 : Program
 program-refused-10-13 = record {
@@ -1011,7 +1010,7 @@ program-refused-10-13 = record {
 pub refused-10-13 : Answers program-refused-10-13 10 1 3 (65535 ∷ 65535 ∷ 65535 ∷ 65535 ∷ 65535 ∷ 65535 ∷ 65535 ∷ 65535 ∷ 65535
     ∷ 65535 ∷ 65535 ∷ 65535 ∷ 65535 ∷ 65535 ∷ [])
 unfolding program-refused-10-13 computed isFile
-refused-10-13 = record { file = is-file limits program-refused-10-13 refl; answer = refl }
+refused-10-13 = record { file = is-file widest program-refused-10-13 refl; answer = refl }
 
 pub program-refused-11-1 : Program
 program-refused-11-1 = record {
@@ -1032,7 +1031,7 @@ program-refused-11-1 = record {
 
 pub refused-11-1 : Answers program-refused-11-1 11 0 1 (65535 ∷ 65535 ∷ 65535 ∷ 65535 ∷ 65535 ∷ 65535 ∷ 65535 ∷ 65535 ∷ [])
 unfolding program-refused-11-1 computed isFile
-refused-11-1 = record { file = is-file limits program-refused-11-1 refl; answer = refl }
+refused-11-1 = record { file = is-file widest program-refused-11-1 refl; answer = refl }
 
 pub program-refused-11-2 : Program
 program-refused-11-2 = record {
@@ -1054,7 +1053,7 @@ program-refused-11-2 = record {
 pub refused-11-2 : Answers program-refused-11-2 11 1 1 (65535 ∷ 65535 ∷ 65535 ∷ 65535 ∷ 65535 ∷ 65535 ∷ 65535 ∷ 65535 ∷ 65535
     ∷ 65535 ∷ 65535 ∷ 65535 ∷ [])
 unfolding program-refused-11-2 computed isFile
-refused-11-2 = record { file = is-file limits program-refused-11-2 refl; answer = refl }
+refused-11-2 = record { file = is-file widest program-refused-11-2 refl; answer = refl }
 
 pub program-refused-11-3 : Program
 program-refused-11-3 = record {
@@ -1075,7 +1074,7 @@ program-refused-11-3 = record {
 
 pub refused-11-3 : Answers program-refused-11-3 11 1 2 (65535 ∷ 65535 ∷ 65535 ∷ 65535 ∷ 65535 ∷ 65535 ∷ 65535 ∷ 65535 ∷ [])
 unfolding program-refused-11-3 computed isFile
-refused-11-3 = record { file = is-file limits program-refused-11-3 refl; answer = refl }
+refused-11-3 = record { file = is-file widest program-refused-11-3 refl; answer = refl }
 
 pub program-refused-11-4 : Program
 program-refused-11-4 = record {
@@ -1099,7 +1098,7 @@ program-refused-11-4 = record {
 pub refused-11-4 : Answers program-refused-11-4 11 1 2 (65535 ∷ 65535 ∷ 65535 ∷ 65535 ∷ 65535 ∷ 65535 ∷ 65535 ∷ 65535 ∷ 65535
     ∷ 65535 ∷ 65535 ∷ 65535 ∷ 65535 ∷ 65535 ∷ 65535 ∷ 65535 ∷ 65535 ∷ 65535 ∷ [])
 unfolding program-refused-11-4 computed isFile
-refused-11-4 = record { file = is-file limits program-refused-11-4 refl; answer = refl }
+refused-11-4 = record { file = is-file widest program-refused-11-4 refl; answer = refl }
 
 pub program-refused-11-5 : Program
 program-refused-11-5 = record {
@@ -1122,7 +1121,7 @@ program-refused-11-5 = record {
 pub refused-11-5 : Answers program-refused-11-5 11 1 3 (65535 ∷ 65535 ∷ 65535 ∷ 65535 ∷ 65535 ∷ 65535 ∷ 65535 ∷ 65535 ∷ 65535
     ∷ 65535 ∷ 65535 ∷ 65535 ∷ [])
 unfolding program-refused-11-5 computed isFile
-refused-11-5 = record { file = is-file limits program-refused-11-5 refl; answer = refl }
+refused-11-5 = record { file = is-file widest program-refused-11-5 refl; answer = refl }
 
 pub program-refused-11-6 : Program
 program-refused-11-6 = record {
@@ -1145,7 +1144,7 @@ program-refused-11-6 = record {
 pub refused-11-6 : Answers program-refused-11-6 11 1 3 (65535 ∷ 65535 ∷ 65535 ∷ 65535 ∷ 65535 ∷ 65535 ∷ 65535 ∷ 65535 ∷ 65535
     ∷ 65535 ∷ 65535 ∷ 65535 ∷ 65535 ∷ 65535 ∷ [])
 unfolding program-refused-11-6 computed isFile
-refused-11-6 = record { file = is-file limits program-refused-11-6 refl; answer = refl }
+refused-11-6 = record { file = is-file widest program-refused-11-6 refl; answer = refl }
 
 pub program-refused-11-7 : Program
 program-refused-11-7 = record {
@@ -1168,7 +1167,7 @@ program-refused-11-7 = record {
 pub refused-11-7 : Answers program-refused-11-7 11 1 3 (65535 ∷ 65535 ∷ 65535 ∷ 65535 ∷ 65535 ∷ 65535 ∷ 65535 ∷ 65535 ∷ 65535
     ∷ 65535 ∷ 65535 ∷ 65535 ∷ 65535 ∷ 65535 ∷ [])
 unfolding program-refused-11-7 computed isFile
-refused-11-7 = record { file = is-file limits program-refused-11-7 refl; answer = refl }
+refused-11-7 = record { file = is-file widest program-refused-11-7 refl; answer = refl }
 
 pub program-refused-11-8 : Program
 program-refused-11-8 = record {
@@ -1192,7 +1191,7 @@ program-refused-11-8 = record {
 pub refused-11-8 : Answers program-refused-11-8 11 1 4 (65535 ∷ 65535 ∷ 65535 ∷ 65535 ∷ 65535 ∷ 65535 ∷ 65535 ∷ 65535 ∷ 65535
     ∷ 65535 ∷ 65535 ∷ 65535 ∷ 65535 ∷ 65535 ∷ 65535 ∷ 65535 ∷ [])
 unfolding program-refused-11-8 computed isFile
-refused-11-8 = record { file = is-file limits program-refused-11-8 refl; answer = refl }
+refused-11-8 = record { file = is-file widest program-refused-11-8 refl; answer = refl }
 
 pub program-refused-11-9 : Program
 program-refused-11-9 = record {
@@ -1216,7 +1215,7 @@ program-refused-11-9 = record {
 pub refused-11-9 : Answers program-refused-11-9 11 1 4 (65535 ∷ 65535 ∷ 65535 ∷ 65535 ∷ 65535 ∷ 65535 ∷ 65535 ∷ 65535 ∷ 65535
     ∷ 65535 ∷ 65535 ∷ 65535 ∷ 65535 ∷ 65535 ∷ 65535 ∷ 65535 ∷ 65535 ∷ 65535 ∷ [])
 unfolding program-refused-11-9 computed isFile
-refused-11-9 = record { file = is-file limits program-refused-11-9 refl; answer = refl }
+refused-11-9 = record { file = is-file widest program-refused-11-9 refl; answer = refl }
 
 pub program-refused-11-10 : Program
 program-refused-11-10 = record {
@@ -1240,7 +1239,7 @@ program-refused-11-10 = record {
 pub refused-11-10 : Answers program-refused-11-10 11 7 3 (65535 ∷ 65535 ∷ 65535 ∷ 65535 ∷ 65535 ∷ 65535 ∷ 65535 ∷ 65535 ∷ 65535
     ∷ 65535 ∷ 65535 ∷ 65535 ∷ 65535 ∷ 65535 ∷ 65535 ∷ 65535 ∷ 65535 ∷ 65535 ∷ [])
 unfolding program-refused-11-10 computed isFile
-refused-11-10 = record { file = is-file limits program-refused-11-10 refl; answer = refl }
+refused-11-10 = record { file = is-file widest program-refused-11-10 refl; answer = refl }
 
 pub program-refused-12-1 : Program
 program-refused-12-1 = record {
@@ -1261,7 +1260,7 @@ program-refused-12-1 = record {
 
 pub refused-12-1 : Answers program-refused-12-1 12 1 1 (65535 ∷ 65535 ∷ 65535 ∷ 65535 ∷ 65535 ∷ 65535 ∷ 65535 ∷ 65535 ∷ [])
 unfolding program-refused-12-1 computed isFile
-refused-12-1 = record { file = is-file limits program-refused-12-1 refl; answer = refl }
+refused-12-1 = record { file = is-file widest program-refused-12-1 refl; answer = refl }
 
 pub program-refused-12-2 : Program
 program-refused-12-2 = record {
@@ -1284,7 +1283,7 @@ program-refused-12-2 = record {
 pub refused-12-2 : Answers program-refused-12-2 12 1 2 (65535 ∷ 65535 ∷ 65535 ∷ 65535 ∷ 65535 ∷ 65535 ∷ 65535 ∷ 65535 ∷ 65535
     ∷ 65535 ∷ 65535 ∷ 65535 ∷ [])
 unfolding program-refused-12-2 computed isFile
-refused-12-2 = record { file = is-file limits program-refused-12-2 refl; answer = refl }
+refused-12-2 = record { file = is-file widest program-refused-12-2 refl; answer = refl }
 
 pub program-refused-12-3 : Program
 program-refused-12-3 = record {
@@ -1306,7 +1305,7 @@ program-refused-12-3 = record {
 pub refused-12-3 : Answers program-refused-12-3 12 1 3 (65535 ∷ 65535 ∷ 65535 ∷ 65535 ∷ 65535 ∷ 65535 ∷ 65535 ∷ 65535 ∷ 65535
     ∷ 65535 ∷ 65535 ∷ 65535 ∷ [])
 unfolding program-refused-12-3 computed isFile
-refused-12-3 = record { file = is-file limits program-refused-12-3 refl; answer = refl }
+refused-12-3 = record { file = is-file widest program-refused-12-3 refl; answer = refl }
 
 pub program-refused-12-4 : Program
 program-refused-12-4 = record {
@@ -1329,7 +1328,7 @@ program-refused-12-4 = record {
 pub refused-12-4 : Answers program-refused-12-4 12 7 3 (65535 ∷ 65535 ∷ 65535 ∷ 65535 ∷ 65535 ∷ 65535 ∷ 65535 ∷ 65535 ∷ 65535
     ∷ 65535 ∷ 65535 ∷ 65535 ∷ 65535 ∷ 65535 ∷ [])
 unfolding program-refused-12-4 computed isFile
-refused-12-4 = record { file = is-file limits program-refused-12-4 refl; answer = refl }
+refused-12-4 = record { file = is-file widest program-refused-12-4 refl; answer = refl }
 
 pub program-refused-13-1 : Program
 program-refused-13-1 = record {
@@ -1350,7 +1349,7 @@ program-refused-13-1 = record {
 
 pub refused-13-1 : Answers program-refused-13-1 13 1 2 (65535 ∷ 65535 ∷ 65535 ∷ 65535 ∷ 65535 ∷ 65535 ∷ [])
 unfolding program-refused-13-1 computed isFile
-refused-13-1 = record { file = is-file limits program-refused-13-1 refl; answer = refl }
+refused-13-1 = record { file = is-file widest program-refused-13-1 refl; answer = refl }
 
 pub program-refused-13-2 : Program
 program-refused-13-2 = record {
@@ -1371,7 +1370,7 @@ program-refused-13-2 = record {
 
 pub refused-13-2 : Answers program-refused-13-2 13 1 2 (65535 ∷ 65535 ∷ 65535 ∷ 65535 ∷ 65535 ∷ 65535 ∷ 65535 ∷ 65535 ∷ [])
 unfolding program-refused-13-2 computed isFile
-refused-13-2 = record { file = is-file limits program-refused-13-2 refl; answer = refl }
+refused-13-2 = record { file = is-file widest program-refused-13-2 refl; answer = refl }
 
 pub program-refused-13-3 : Program
 program-refused-13-3 = record {
@@ -1394,7 +1393,7 @@ program-refused-13-3 = record {
 pub refused-13-3 : Answers program-refused-13-3 13 1 2 (65535 ∷ 65535 ∷ 65535 ∷ 65535 ∷ 65535 ∷ 65535 ∷ 65535 ∷ 65535 ∷ 65535
     ∷ 65535 ∷ 65535 ∷ 65535 ∷ [])
 unfolding program-refused-13-3 computed isFile
-refused-13-3 = record { file = is-file limits program-refused-13-3 refl; answer = refl }
+refused-13-3 = record { file = is-file widest program-refused-13-3 refl; answer = refl }
 
 pub program-refused-13-4 : Program
 program-refused-13-4 = record {
@@ -1417,7 +1416,7 @@ program-refused-13-4 = record {
 pub refused-13-4 : Answers program-refused-13-4 13 1 3 (65535 ∷ 65535 ∷ 65535 ∷ 65535 ∷ 65535 ∷ 65535 ∷ 65535 ∷ 65535 ∷ 65535
     ∷ 65535 ∷ 65535 ∷ 65535 ∷ 65535 ∷ 65535 ∷ [])
 unfolding program-refused-13-4 computed isFile
-refused-13-4 = record { file = is-file limits program-refused-13-4 refl; answer = refl }
+refused-13-4 = record { file = is-file widest program-refused-13-4 refl; answer = refl }
 
 pub program-refused-14-1 : Program
 program-refused-14-1 = record {
@@ -1438,7 +1437,7 @@ program-refused-14-1 = record {
 
 pub refused-14-1 : Answers program-refused-14-1 14 1 2 (65535 ∷ 65535 ∷ 65535 ∷ 65535 ∷ 65535 ∷ 65535 ∷ 65535 ∷ 65535 ∷ [])
 unfolding program-refused-14-1 computed isFile
-refused-14-1 = record { file = is-file limits program-refused-14-1 refl; answer = refl }
+refused-14-1 = record { file = is-file widest program-refused-14-1 refl; answer = refl }
 
 pub program-refused-14-2 : Program
 program-refused-14-2 = record {
@@ -1462,7 +1461,7 @@ program-refused-14-2 = record {
 pub refused-14-2 : Answers program-refused-14-2 14 1 2 (65535 ∷ 65535 ∷ 65535 ∷ 65535 ∷ 65535 ∷ 65535 ∷ 65535 ∷ 65535 ∷ 65535
     ∷ 65535 ∷ 65535 ∷ 65535 ∷ 65535 ∷ 65535 ∷ 65535 ∷ 65535 ∷ 65535 ∷ 65535 ∷ [])
 unfolding program-refused-14-2 computed isFile
-refused-14-2 = record { file = is-file limits program-refused-14-2 refl; answer = refl }
+refused-14-2 = record { file = is-file widest program-refused-14-2 refl; answer = refl }
 
 pub program-refused-14-3 : Program
 program-refused-14-3 = record {
@@ -1486,7 +1485,7 @@ program-refused-14-3 = record {
 pub refused-14-3 : Answers program-refused-14-3 14 1 2 (65535 ∷ 65535 ∷ 65535 ∷ 65535 ∷ 65535 ∷ 65535 ∷ 65535 ∷ 65535 ∷ 65535
     ∷ 65535 ∷ 65535 ∷ 65535 ∷ 65535 ∷ 65535 ∷ 65535 ∷ 65535 ∷ 65535 ∷ 65535 ∷ [])
 unfolding program-refused-14-3 computed isFile
-refused-14-3 = record { file = is-file limits program-refused-14-3 refl; answer = refl }
+refused-14-3 = record { file = is-file widest program-refused-14-3 refl; answer = refl }
 
 pub program-refused-14-4 : Program
 program-refused-14-4 = record {
@@ -1505,7 +1504,7 @@ program-refused-14-4 = record {
 
 pub refused-14-4 : Answers program-refused-14-4 14 11 0 (65535 ∷ 65535 ∷ 65535 ∷ 65535 ∷ 65535 ∷ 65535 ∷ [])
 unfolding program-refused-14-4 computed isFile
-refused-14-4 = record { file = is-file limits program-refused-14-4 refl; answer = refl }
+refused-14-4 = record { file = is-file widest program-refused-14-4 refl; answer = refl }
 
 pub program-refused-14-5 : Program
 program-refused-14-5 = record {
@@ -1541,7 +1540,7 @@ pub refused-14-5 : Answers program-refused-14-5 14 12 24 (65535 ∷ 65535 ∷ 65
     ∷ 65535 ∷ 65535 ∷ 65535 ∷ 65535 ∷ 65535 ∷ 65535 ∷ 65535 ∷ 65535 ∷ 65535 ∷ 65535 ∷ 65535 ∷ 65535 ∷ 65535 ∷ 65535 ∷ 65535
     ∷ 65535 ∷ 65535 ∷ 65535 ∷ 65535 ∷ 65535 ∷ 65535 ∷ [])
 unfolding program-refused-14-5 computed isFile
-refused-14-5 = record { file = is-file limits program-refused-14-5 refl; answer = refl }
+refused-14-5 = record { file = is-file widest program-refused-14-5 refl; answer = refl }
 
 pub program-refused-15-1 : Program
 program-refused-15-1 = record {
@@ -1563,7 +1562,7 @@ program-refused-15-1 = record {
 pub refused-15-1 : Answers program-refused-15-1 15 14 4 (65535 ∷ 65535 ∷ 65535 ∷ 65535 ∷ 65535 ∷ 65535 ∷ 65535 ∷ 65535 ∷ 65535
     ∷ 65535 ∷ 65535 ∷ 65535 ∷ 65535 ∷ 65535 ∷ 65535 ∷ 65535 ∷ [])
 unfolding program-refused-15-1 computed isFile
-refused-15-1 = record { file = is-file limits program-refused-15-1 refl; answer = refl }
+refused-15-1 = record { file = is-file widest program-refused-15-1 refl; answer = refl }
 
 pub program-refused-16-1 : Program
 program-refused-16-1 = record {
@@ -1586,4 +1585,4 @@ program-refused-16-1 = record {
 pub refused-16-1 : Answers program-refused-16-1 16 1 3 (65535 ∷ 65535 ∷ 65535 ∷ 65535 ∷ 65535 ∷ 65535 ∷ 65535 ∷ 65535 ∷ 65535
     ∷ 65535 ∷ 65535 ∷ 65535 ∷ [])
 unfolding program-refused-16-1 computed isFile
-refused-16-1 = record { file = is-file limits program-refused-16-1 refl; answer = refl }
+refused-16-1 = record { file = is-file widest program-refused-16-1 refl; answer = refl }

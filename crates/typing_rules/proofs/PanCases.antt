@@ -11,13 +11,13 @@ use Rattle.oat.specs.Tables.{fileOf}
 use Rattle.oat.specs.Types.{Ty, typeOf, Struct, structsOf}
 use Rattle.oat.specs.Subtyping.{SubRet}
 use Rattle.oat.specs.Decide.{below}
-use Rattle.oat.specs.ProgramFile.{Program}
+use Rattle.oat.specs.ProgramFile.{widest, Program}
 use Rattle.oat.proofs.LawsSubtyping.{below-is}
 use Rattle.typing_rules.specs.Contexts.{Context}
 use Rattle.typing_rules.specs.Labels.{Labels}
 use Rattle.typing_rules.specs.Steps.{DerivesFile}
 use Rattle.typing_rules.specs.Check.{Ran, accepted, refused, answerOf, checkOf}
-use Rattle.typing_rules.specs.PanCases.{Numbered, Body, panStructs, A, B, C, nullableA, arrayA, arrayB, fromAToB, fromBToA, panTables, panTypes, withBody, returning, going, either, panCases, limits, Says, BelowIs, AnswerIs, AllHold, hold-none, hold-also}
+use Rattle.typing_rules.specs.PanCases.{Numbered, Body, panStructs, A, B, C, nullableA, arrayA, arrayB, fromAToB, fromBToA, panTables, panTypes, withBody, returning, going, either, panCases, Says, BelowIs, AnswerIs, AllHold, hold-none, hold-also}
 use Rattle.typing_rules.proofs.LawsComputed.{computed, isFile, is-file}
 use Rattle.typing_rules.proofs.LawsNumbers.{refused-number}
 use Rattle.typing_rules.proofs.Theorem.{Fits, runOf, file-fits, accepted-derives, derives-accepted}
@@ -47,7 +47,7 @@ below-case : (s t : Numbered) (b : Bool) → typeOf panTables (s .number) ≡ s 
     → below panStructs (s .type) (t .type) ≡ b → BelowIs s t b
 unfolding structsOf computed isFile
 below-case s t b e f d = record {
-  file = is-file limits panTypes refl;
+  file = is-file widest panTypes refl;
   structs = refl;
   first = e;
   second = f;
@@ -55,9 +55,9 @@ below-case s t b e f d = record {
   rules = sub-says panStructs (s .type) (t .type) b d;
 }
 
-body-case : (b : Body) (n : ℕ) → isFile limits (withBody b) ≡ true → checkOf (withBody b) .number ≡ n → AnswerIs b n
+body-case : (b : Body) (n : ℕ) → isFile widest (withBody b) ≡ true → checkOf (withBody b) .number ≡ n → AnswerIs b n
 body-case b n i e =
-    let f = is-file limits (withBody b) i in
+    let f = is-file widest (withBody b) i in
     record { file = f; decision = e; rules = file-says (withBody b) (file-fits 100 (fileOf (withBody b .tables)) (withBody b) f) n e }
 
 pub pan-cases : AllHold panCases

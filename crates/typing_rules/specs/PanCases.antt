@@ -11,7 +11,7 @@ use Rattle.oat.specs.Subtyping.{SubRet}
 use Rattle.oat.specs.Decide.{below}
 use Rattle.oat.specs.Syntax.{literal, truth, returnVoid, ifElse, Block, block, empty, then}
 use Rattle.oat.specs.Syntax as Syntax
-use Rattle.oat.specs.ProgramFile.{Limits, Program, IsFile}
+use Rattle.oat.specs.ProgramFile.{widest, Program, IsFile}
 use Rattle.typing_rules.specs.Contexts.{Context}
 use Rattle.typing_rules.specs.Labels.{Labels}
 use Rattle.typing_rules.specs.Steps.{DerivesFile}
@@ -146,10 +146,6 @@ panCases =
     ∷ answers (either returning going) 14
     ∷ []
 
--- document 01's limits
-abbrev pub limits : Limits
-limits = record { parts = 200; depth = 100 }
-
 -- the rules derive it where the answer is yes, and do not where it is no
 abbrev pub Says : Bool → Type 0 → Type 0
 Says true P = P
@@ -157,7 +153,7 @@ Says false P = P → ⊥
 
 -- the two types stand in the file of the pan types with its structs, and decision and rules say of them what the table has
 pub record BelowIs (s t : Numbered) (b : Bool) : Type 0 where
-  pub file : IsFile limits (fileOf panTables) panTypes
+  pub file : IsFile widest (fileOf panTables) panTypes
   pub structs : structsOf panTables 3 ≡ panStructs
   pub first : typeOf panTables (s .number) ≡ s .type
   pub second : typeOf panTables (t .number) ≡ t .type
@@ -166,7 +162,7 @@ pub record BelowIs (s t : Numbered) (b : Bool) : Type 0 where
 
 -- the program is a file's, the check answers what the table has, and there is a derivation exactly where the answer is 0
 pub record AnswerIs (b : Body) (n : ℕ) : Type 0 where
-  pub file : IsFile limits (fileOf (withBody b .tables)) (withBody b)
+  pub file : IsFile widest (fileOf (withBody b .tables)) (withBody b)
   pub decision : checkOf (withBody b) .number ≡ n
   pub rules : Says (eqb n 0) ((D : Labels Ty) × (C : Context Ty) × DerivesFile (withBody b) D C)
 

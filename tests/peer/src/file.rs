@@ -1,6 +1,7 @@
 //! Reading a program file: document 01, "The program file", and the order of
 //! the numbers 1 to 4 in "Rows and answers". Number 5 is in `tree`.
 
+use crate::limits::Limits;
 use crate::mutants::{Mutant::*, Rules};
 
 /// Type kinds.
@@ -13,8 +14,6 @@ pub const NULLABLE: u16 = 7;
 
 /// The most records of each section.
 pub const MOST: [usize; 6] = [512, 1024, 1024, 256, 128, 4096];
-/// The most parts of a type.
-pub const MOST_PARTS: u32 = 200;
 
 /// The six sections, cut into records, still as bytes.
 #[derive(Clone, Copy)]
@@ -184,7 +183,8 @@ fn section<'a, const N: usize, R: Rules>(rest: &mut &'a [u8], most: usize, rules
 }
 
 /// Types and type list: number 3.
-pub fn types_broken<R: Rules>(file: &File, rules: R) -> bool {
+pub fn types_broken<R: Rules>(file: &File, limits: Limits, rules: R) -> bool {
+    let most = limits.most_parts(rules);
     let mut parts = [1u8; MOST[0] + 1];
     let mut taken = 0usize;
     if fixed_types_broken(file, rules) {
@@ -200,13 +200,22 @@ pub fn types_broken<R: Rules>(file: &File, rules: R) -> bool {
             0..=3 if rules.breaks(FixedKindsAgain) => Some(1),
             _ => None,
         };
-        let most = MOST_PARTS + u32::from(rules.breaks(PartsOneMore)) - u32::from(rules.breaks(PartsOneFewer));
         match size {
-            Some(size) if size <= most => parts[i] = size as u8,
+            Some(size) if size <= most || not_measured(file, i, size, rules) => parts[i] = size as u8,
             _ => return true,
         }
     }
     taken != file.list.len() && !rules.breaks(ListLeftOver)
+}
+
+/// Only under a mutant: a type of up to 200 parts that no field, built-in or node has.
+fn not_measured<R: Rules>(file: &File, i: usize, size: u32, rules: R) -> bool {
+    if !rules.breaks(UnusedNotMeasured) || size > Limits::WIDEST.parts as u32 {
+        return false;
+    }
+    let records = file.fields.iter().chain(file.builtins).map(|r| named(r).ty);
+    let mut used = records.chain(file.nodes.iter().map(|n| Four::of(n).t()));
+    !used.any(|t| t as usize == i)
 }
 
 /// Types 0 to 3 are of kinds 0 to 3, without operands.

@@ -1,10 +1,12 @@
 //! An independent checker for Oat v.2 program files, after document 01 ("The
-//! Oat v.2 checker for pan programs") and document 001 (the specification).
+//! Oat v.2 checker for pan programs"), document 001 (the specification) and
+//! document 02's request (xi), limits as parameters.
 
 pub mod cases;
 mod expressions;
 mod file;
 pub mod generator;
+mod limits;
 pub mod mutants;
 pub mod print;
 pub mod program;
@@ -13,6 +15,8 @@ mod tree;
 mod types;
 mod typing;
 pub mod vectors;
+
+pub use limits::{Limits, measures};
 
 use file::{File, records_broken, sections, types_broken};
 use mutants::{Exact, Mutant::*, Rules};
@@ -36,17 +40,18 @@ pub enum Below {
     Refused(u16),
 }
 
-/// Checks a file. Under 1 to 6 no buffer changes; under 7 to 16 the first two
-/// numbers per node of `rows` are 65,535; accepted, they are the rows.
-pub fn check(file: &[u8], rows: &mut [u16], work: &mut [u16]) -> Answer {
-    check_under(file, rows, work, Exact)
+/// Checks a file. Under 25 and 1 to 6 no buffer changes; under 7 to 16 the
+/// first two numbers per node of `rows` are 65,535; accepted, they are the rows.
+pub fn check(file: &[u8], limits: Limits, rows: &mut [u16], work: &mut [u16]) -> Answer {
+    check_under(file, limits, rows, work, Exact)
 }
 
 /// The check under rules that a mutant may break.
-pub fn check_under<R: Rules>(file: &[u8], rows: &mut [u16], work: &mut [u16], rules: R) -> Answer {
+pub fn check_under<R: Rules>(file: &[u8], limits: Limits, rows: &mut [u16], work: &mut [u16], rules: R) -> Answer {
     let refused = |number| Answer { number, step: 0, place: 0 };
     let mut declarations = Declarations::new();
-    let file = match readable(file, &mut declarations, rules) {
+    let handed_on = limits.handed_on(CheckIgnoresLimits, Some(RangeAfterShort), rules);
+    let file = match readable(file, handed_on, &mut declarations, rules) {
         Ok(file) => file,
         Err(number) => return refused(number),
     };
@@ -54,38 +59,51 @@ pub fn check_under<R: Rules>(file: &[u8], rows: &mut [u16], work: &mut [u16], ru
     if rows.len() < needed || work.len() < needed {
         return refused(6);
     }
+    if rules.breaks(RangeAfterShort) && !limits.pass(rules) {
+        return refused(25);
+    }
     let mut types = Types::new(&file, rules);
     types.learn_all();
     Checker::new(&file, &types, rows, work, rules).run(&declarations)
 }
 
-/// 0 for a file that can be read, else its number 1 to 5.
-pub fn read(file: &[u8]) -> u16 {
-    read_under(file, Exact)
+/// 0 for a file that can be read, else its number: 25 or 1 to 5.
+pub fn read(file: &[u8], limits: Limits) -> u16 {
+    read_under(file, limits, Exact)
 }
 
 /// Reading under rules that a mutant may break.
-pub fn read_under<R: Rules>(file: &[u8], rules: R) -> u16 {
-    readable(file, &mut Declarations::new(), rules).err().unwrap_or(0)
+pub fn read_under<R: Rules>(file: &[u8], limits: Limits, rules: R) -> u16 {
+    let handed_on = limits.handed_on(ReadIgnoresLimits, None, rules);
+    readable(file, handed_on, &mut Declarations::new(), rules).err().unwrap_or(0)
 }
 
-/// The subtype question: 1 to 5, then 17, then yes or no.
-pub fn subtype(file: &[u8], a: usize, b: usize) -> Below {
-    let file = match readable(file, &mut Declarations::new(), Exact) {
+/// The subtype question: 25, 1 to 5, then 17, then yes or no.
+pub fn subtype(file: &[u8], limits: Limits, a: usize, b: usize) -> Below {
+    subtype_under(file, limits, a, b, Exact)
+}
+
+/// The subtype question under rules that a mutant may break.
+pub fn subtype_under<R: Rules>(file: &[u8], limits: Limits, a: usize, b: usize, rules: R) -> Below {
+    let handed_on = limits.handed_on(SubtypeIgnoresLimits, Some(RangeAfterType), rules);
+    let file = match readable(file, handed_on, &mut Declarations::new(), rules) {
         Ok(file) => file,
         Err(number) => return Below::Refused(number),
     };
     if a.max(b) >= file.types.len() {
         return Below::Refused(17);
     }
-    let mut types = Types::new(&file, Exact);
+    if rules.breaks(RangeAfterType) && !limits.pass(rules) {
+        return Below::Refused(25);
+    }
+    let mut types = Types::new(&file, rules);
     types.learn_all();
     if types.below(a as u16, b as u16) { Below::Yes } else { Below::No }
 }
 
 /// The subtype question for all pairs of a file's types, row by row.
-pub fn subtypes<R: Rules>(file: &[u8], rules: R) -> Result<Vec<Vec<bool>>, u16> {
-    let file = readable(file, &mut Declarations::new(), rules)?;
+pub fn subtypes<R: Rules>(file: &[u8], limits: Limits, rules: R) -> Result<Vec<Vec<bool>>, u16> {
+    let file = readable(file, limits, &mut Declarations::new(), rules)?;
     let mut types = Types::new(&file, rules);
     types.learn_all();
     let all = 0..file.types.len() as u16;
@@ -97,20 +115,37 @@ pub fn node_count(file: &[u8]) -> usize {
     sections(file, Exact).map_or(0, |f| f.nodes.len())
 }
 
-/// The numbers 1 to 5, in order; notes the declarations.
-fn readable<'a, R: Rules>(bytes: &'a [u8], declarations: &mut Declarations, rules: R) -> Result<File<'a>, u16> {
+/// The numbers 25 and 1 to 5, in order; notes the declarations.
+fn readable<'a, R: Rules>(
+    bytes: &'a [u8],
+    limits: Limits,
+    declarations: &mut Declarations,
+    rules: R,
+) -> Result<File<'a>, u16> {
+    if !rules.breaks(RangeAfterReading) && !limits.pass(rules) {
+        return Err(25);
+    }
     let file = sections(bytes, rules)?;
+    if rules.breaks(DepthLimitFirst) && measures(bytes).depth > limits.depth {
+        return Err(5);
+    }
     if rules.breaks(RecordsBeforeTypes) && records_broken(&file, rules) {
         return Err(4);
     }
-    if types_broken(&file, rules) {
+    if types_broken(&file, limits, rules) {
         return Err(3);
     }
-    if rules.breaks(TreeBeforeRecords) && !tree_fits(&file, &mut Declarations::new(), rules) {
+    if rules.breaks(TreeBeforeRecords) && !tree_fits(&file, limits, &mut Declarations::new(), rules) {
         return Err(5);
     }
     if records_broken(&file, rules) {
         return Err(4);
     }
-    if tree_fits(&file, declarations, rules) { Ok(file) } else { Err(5) }
+    if !tree_fits(&file, limits, declarations, rules) {
+        return Err(5);
+    }
+    if rules.breaks(PartsLimitLast) && measures(bytes).parts > limits.parts {
+        return Err(3);
+    }
+    if rules.breaks(RangeAfterReading) && !limits.pass(rules) { Err(25) } else { Ok(file) }
 }

@@ -1,15 +1,22 @@
 //! The command: see `USAGE`.
 
 use oat_peer::mutants::Exact;
-use oat_peer::vectors::{self, QUESTIONS};
-use oat_peer::{check, generator, node_count, print};
+use oat_peer::print::Limited;
+use oat_peer::vectors::{self, QUESTIONS, Question};
+use oat_peer::{Limits, check, generator, node_count, print};
+use std::hint::black_box;
 use std::io::{Read, Write, stdin, stdout};
 use std::time::Instant;
 
 const USAGE: &str = "oat_peer check | sub A B | read < FILE
 oat_peer batch | readbatch | subbatch | bench N | tally < MANY
+oat_peer limitbatch < CASES
 oat_peer gen SEED COUNT | gentypes SEED COUNT > MANY
-oat_peer vectors DIRECTORY | mutants DIRECTORY";
+oat_peer genlimits SEED COUNT > CASES
+oat_peer vectors DIRECTORY | mutants DIRECTORY
+MANY: for each file 4 bytes length, low first, then the file; asked under 200 parts and depth 100.
+CASES: for each case 4 bytes length of its file, 4 bytes parts, 4 bytes depth, all low first, then the file.
+limitbatch prints `read N`, `sub A B C D` for the pairs 0 0, 3 4, 4 3 and 600 0, what batch prints, and `--`.";
 
 fn main() {
     let arguments: Vec<String> = std::env::args().skip(1).collect();
@@ -26,15 +33,17 @@ fn run(words: &[&str]) -> Option<Vec<u8>> {
     let out = match words {
         ["check"] => print::check(&input()),
         ["sub", a, b] => print::sub(&input(), a.parse().ok()?, b.parse().ok()?),
-        ["read"] => print::read_with(&input(), Exact),
-        ["batch"] => each(|file| print::check(file) + "--\n"),
-        ["readbatch"] => each(|file| print::read_with(file, Exact)),
-        ["subbatch"] => each(|file| print::subs_with(file, Exact) + "--\n"),
+        ["read"] => print::read_with(Limited::widest(&input()), Exact),
+        ["batch"] => each(Question::Check),
+        ["readbatch"] => each(Question::Read),
+        ["subbatch"] => each(Question::Sub),
+        ["limitbatch"] => each(Question::Limits),
         ["bench", n] => bench(n.parse().ok()?),
         ["tally"] => tally(),
         ["vectors", directory] => store(directory),
         ["mutants", directory] => mutants(directory),
         ["gen", seed, count] => return Some(generator::programs(seed.parse().ok()?, count.parse().ok()?)),
+        ["genlimits", seed, count] => return Some(generator::limited(seed.parse().ok()?, count.parse().ok()?)),
         ["gentypes", seed, count] => return Some(generator::type_tables(seed.parse().ok()?, count.parse().ok()?)),
         _ => return None,
     };
@@ -47,9 +56,9 @@ fn input() -> Vec<u8> {
     bytes
 }
 
-/// Runs over packed files.
-fn each(show: impl Fn(&[u8]) -> String) -> String {
-    print::unpack(&input()).into_iter().map(show).collect()
+/// Answers packed files, or packed cases of limits.
+fn each(question: Question) -> String {
+    question.unpack(&input()).into_iter().map(|case| question.show(case)).collect()
 }
 
 /// How many packed files have each number.
@@ -65,8 +74,8 @@ fn store(directory: &str) -> String {
     let mut out = String::new();
     for question in QUESTIONS {
         let packed = vectors::files(question);
-        let files = print::unpack(&packed);
-        let shown: String = files.iter().map(|f| question.show(f)).collect();
+        let files = question.unpack(&packed);
+        let shown: String = files.iter().map(|&f| question.show(f)).collect();
         let path = |end| format!("{directory}/{}.{end}", question.name());
         std::fs::write(path("bin"), &packed).expect("the directory can be written");
         std::fs::write(path("txt"), &shown).expect("the directory can be written");
@@ -77,7 +86,7 @@ fn store(directory: &str) -> String {
 
 /// How many files catch each mutant.
 fn mutants(directory: &str) -> String {
-    let read = |q: vectors::Question| std::fs::read(format!("{directory}/{}.bin", q.name())).expect("a stored vector");
+    let read = |q: Question| std::fs::read(format!("{directory}/{}.bin", q.name())).expect("a stored vector");
     vectors::mutant_tables(&QUESTIONS.map(read))
 }
 
@@ -91,7 +100,7 @@ fn bench(n: usize) -> String {
     for _ in 0..n.max(1) {
         let start = Instant::now();
         for file in &files {
-            std::hint::black_box(check(std::hint::black_box(file), &mut rows, &mut work));
+            black_box(check(black_box(file), black_box(Limits::WIDEST), &mut rows, &mut work));
         }
         best = best.min(start.elapsed().as_nanos() as f64);
     }

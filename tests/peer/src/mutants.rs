@@ -29,7 +29,7 @@ impl Rules for Mutant {
     }
 }
 
-/// The part of document 01 that a mutant breaks.
+/// The part of document 01 that a mutant breaks, or document 02's limits.
 #[derive(Clone, Copy, PartialEq, Eq, Debug)]
 pub enum Part {
     Reading,
@@ -37,6 +37,7 @@ pub enum Part {
     Expressions,
     Statements,
     Declarations,
+    Limits,
 }
 
 macro_rules! mutants {
@@ -293,5 +294,34 @@ mutants! {
         VoidBodyMayGoOn: "a void body may go on",
         BodyMarkPlace: "a body's mark stands at the block",
         FunctionRowNone: "a function's row is 0",
+    }
+    Limits {
+        PartsZeroLetIn: "parts 0 is in range",
+        PartsOneRefused: "parts 1 is 25",
+        PartsMostRefused: "parts 200 is 25",
+        PartsPastLetIn: "parts 201 is in range",
+        DepthZeroLetIn: "depth 0 is in range",
+        DepthOneRefused: "depth 1 is 25",
+        DepthMostRefused: "depth 100 is 25",
+        DepthPastLetIn: "depth 101 is in range",
+        OneInRangeWillDo: "it is 25 only if both limits are out of range",
+        RangesSwapped: "the two ranges are swapped",
+        LimitsCut: "limits are cut to 16 bits",
+        RangeAfterReading: "25 is tested after 1 to 5",
+        RangeAfterShort: "the check tests 25 after 6",
+        RangeAfterType: "the subtype question tests 25 after 17",
+        LimitsSwapped: "3 reads the depth and 5 the parts",
+        PartsLimitFixed: "3 reads 200 always",
+        DepthLimitFixed: "5 reads 100 always",
+        PartsLimitOneMore: "3 reads a limit one more, unless it is 200",
+        DepthLimitOneMore: "5 reads a limit one more, unless it is 100",
+        PartsLimitOneFewer: "3 reads a limit one fewer, unless it is 200",
+        DepthLimitOneFewer: "5 reads a limit one fewer, unless it is 100",
+        UnusedNotMeasured: "3 measures only types of fields, built-ins and nodes",
+        PartsLimitLast: "the parts limit is tested after 4 and 5",
+        DepthLimitFirst: "the depth limit is tested before 3 and 4",
+        ReadIgnoresLimits: "reading alone ignores the limits",
+        CheckIgnoresLimits: "the check alone ignores the limits",
+        SubtypeIgnoresLimits: "the subtype question ignores the limits",
     }
 }

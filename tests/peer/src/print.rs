@@ -2,23 +2,44 @@
 //! ends with byte 10.
 
 use crate::mutants::{Exact, Rules};
-use crate::{Below, check_under, node_count, read_under, subtype, subtypes};
+use crate::{Below, Limits, check_under, node_count, read_under, subtype_under, subtypes};
 use std::fmt::Write;
+
+/// A file and the limits that it is asked under.
+#[derive(Clone, Copy)]
+pub struct Limited<'a> {
+    pub file: &'a [u8],
+    pub limits: Limits,
+}
+
+impl<'a> Limited<'a> {
+    /// A file under document 01's limits.
+    pub fn widest(file: &'a [u8]) -> Limited<'a> {
+        Limited { file, limits: Limits::WIDEST }
+    }
+}
+
+/// Buffers of this length are long enough for any file.
+const LONGEST: usize = 8192;
 
 /// The answer, then, if accepted, each node's number and row.
 pub fn check(file: &[u8]) -> String {
-    check_with(file, Exact)
+    check_with(Limited::widest(file), Exact)
 }
 
-/// The same under rules that a mutant may break.
-pub fn check_with<R: Rules>(file: &[u8], rules: R) -> String {
-    let size = 2 * node_count(file);
-    let (mut rows, mut work) = (vec![0; size], vec![0; size]);
-    let answer = check_under(file, &mut rows, &mut work, rules);
+/// The same under limits, and rules that a mutant may break.
+pub fn check_with<R: Rules>(case: Limited, rules: R) -> String {
+    check_in(case, 2 * node_count(case.file), rules)
+}
+
+/// The same in buffers of a length.
+fn check_in<R: Rules>(Limited { file, limits }: Limited, length: usize, rules: R) -> String {
+    let (mut rows, mut work) = (vec![0; length], vec![0; length]);
+    let answer = check_under(file, limits, &mut rows, &mut work, rules);
     let mut out = String::new();
     put(&mut out, [answer.number, answer.step, answer.place]);
     if answer.number == 0 {
-        for (node, row) in rows.chunks(2).enumerate() {
+        for (node, row) in rows.chunks(2).take(node_count(file)).enumerate() {
             put(&mut out, [node as u16, row[0], row[1]]);
         }
     }
@@ -30,27 +51,40 @@ fn put(out: &mut String, line: [u16; 3]) {
 }
 
 /// 0 or the number under which the file cannot be read.
-pub fn read_with<R: Rules>(file: &[u8], rules: R) -> String {
-    format!("{}\n", read_under(file, rules))
+pub fn read_with<R: Rules>(case: Limited, rules: R) -> String {
+    format!("{}\n", read_under(case.file, case.limits, rules))
 }
 
 /// yes, no or the refusing number.
 pub fn sub(file: &[u8], a: usize, b: usize) -> String {
-    match subtype(file, a, b) {
-        Below::Yes => "yes\n".into(),
-        Below::No => "no\n".into(),
-        Below::Refused(number) => format!("{number}\n"),
+    below(Limited::widest(file), [a, b], Exact) + "\n"
+}
+
+fn below<R: Rules>(case: Limited, [a, b]: [usize; 2], rules: R) -> String {
+    match subtype_under(case.file, case.limits, a, b, rules) {
+        Below::Yes => "yes".into(),
+        Below::No => "no".into(),
+        Below::Refused(number) => number.to_string(),
     }
 }
 
 /// A line for each type with a character for each other type, or the refusing number.
-pub fn subs_with<R: Rules>(file: &[u8], rules: R) -> String {
-    let table = match subtypes(file, rules) {
+pub fn subs_with<R: Rules>(case: Limited, rules: R) -> String {
+    let table = match subtypes(case.file, case.limits, rules) {
         Ok(table) => table,
         Err(number) => return format!("{number}\n"),
     };
     let line = |row: &Vec<bool>| row.iter().map(|&yes| if yes { '1' } else { '0' }).chain(['\n']).collect::<String>();
     table.iter().map(line).collect()
+}
+
+/// The pairs that every case of limits is asked about; no file has a type 600.
+const PAIRS: [[usize; 2]; 4] = [[0, 0], [4, 4], [4, 5], [600, 0]];
+
+/// Every operation that takes limits: reading, the subtype question, the check.
+pub fn limits_with<R: Rules>(case: Limited, rules: R) -> String {
+    let answers = PAIRS.map(|pair| below(case, pair, rules)).join(" ");
+    format!("read {}sub {answers}\n{}", read_with(case, rules), check_in(case, LONGEST, rules))
 }
 
 /// Splits packed files: 4 length bytes, low first, then the file.
@@ -71,6 +105,32 @@ pub fn pack<F: AsRef<[u8]>>(files: impl IntoIterator<Item = F>) -> Vec<u8> {
     for file in files {
         let file = file.as_ref();
         many.extend((file.len() as u32).to_le_bytes());
+        many.extend(file);
+    }
+    many
+}
+
+/// Splits packed cases of limits: 4 length bytes of the file, 4 bytes each for
+/// parts and depth, all low first, then the file.
+pub fn unpack_limited(mut many: &[u8]) -> Vec<Limited<'_>> {
+    let mut cases = Vec::new();
+    while let Some((head, rest)) = many.split_first_chunk::<12>() {
+        let number = |k: usize| u32::from_le_bytes([head[k], head[k + 1], head[k + 2], head[k + 3]]) as usize;
+        let (file, rest) = rest.split_at(number(0).min(rest.len()));
+        cases.push(Limited { file, limits: Limits { parts: number(4), depth: number(8) } });
+        many = rest;
+    }
+    cases
+}
+
+/// Packs cases as `unpack_limited` reads them.
+pub fn pack_limited<F: AsRef<[u8]>>(cases: impl IntoIterator<Item = (F, Limits)>) -> Vec<u8> {
+    let mut many = Vec::new();
+    for (file, limits) in cases {
+        let file = file.as_ref();
+        for number in [file.len(), limits.parts, limits.depth] {
+            many.extend((number as u32).to_le_bytes());
+        }
         many.extend(file);
     }
     many

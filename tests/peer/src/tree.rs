@@ -5,10 +5,8 @@
 //! stack of the nodes whose children are still to come.
 
 use crate::file::{ARRAY, FUNCTION, File, Four, NULLABLE, STRING, STRUCT};
+use crate::limits::Limits;
 use crate::mutants::{Mutant, Mutant::*, Rules};
-
-/// The deepest level of a node.
-const MOST_DEPTH: u32 = 100;
 
 /// The most declarations: every one has at least two nodes.
 const MOST_DECLARATIONS: usize = 2048;
@@ -95,7 +93,6 @@ struct Table {
     demands: [Demand; KINDS],
     /// The kinds of the next child, as bits, by how many children are to come.
     allowed: [[u64; 5]; INSIDES],
-    depth: u32,
     count_parameters: bool,
 }
 
@@ -103,7 +100,7 @@ static EXACT: Table = Table::exact();
 
 impl Table {
     const fn exact() -> Table {
-        Table { demands: Table::demands(), allowed: Table::allowed(), depth: MOST_DEPTH, count_parameters: true }
+        Table { demands: Table::demands(), allowed: Table::allowed(), count_parameters: true }
     }
 
     const fn demands() -> [Demand; KINDS] {
@@ -171,8 +168,6 @@ impl Table {
         let mut t = EXACT.clone();
         let free = |d: &mut Demand| (d.most_x, d.types) = (ANY, EVERY_TYPE);
         match mutant {
-            DepthOneMore => t.depth += 1,
-            DepthOneFewer => t.depth -= 1,
             InitializerHasNoDepth => t.demands[22].added -= Frame::LEVEL,
             BlockHasNoDepth => t.demands[39].added -= Frame::LEVEL,
             GlobalOperandFree => free(&mut t.demands[1]),
@@ -245,17 +240,18 @@ impl Frame {
 }
 
 /// Reads the node tree and notes its declarations; false is number 5.
-pub fn tree_fits<R: Rules>(file: &File, declarations: &mut Declarations, rules: R) -> bool {
+pub fn tree_fits<R: Rules>(file: &File, limits: Limits, declarations: &mut Declarations, rules: R) -> bool {
+    let depth = limits.most_depth(rules);
     match rules.mutant() {
-        None => fits(file, declarations, &EXACT),
-        Some(mutant) => fits(file, declarations, &Table::broken(mutant)),
+        None => fits(file, depth, declarations, &EXACT),
+        Some(mutant) => fits(file, depth, declarations, &Table::broken(mutant)),
     }
 }
 
 /// A frame is left on the stack only while it has children to come, so a node
 /// opens at most one frame and closes at most one.
 #[inline(always)]
-fn fits(file: &File, declarations: &mut Declarations, table: &Table) -> bool {
+fn fits(file: &File, depth: u32, declarations: &mut Declarations, table: &Table) -> bool {
     let mut top = Frame::OUTERMOST;
     let mut below = [Frame(0); FRAMES];
     let mut open = 0usize;
@@ -263,7 +259,7 @@ fn fits(file: &File, declarations: &mut Declarations, table: &Table) -> bool {
         let n = Four::of(record);
         let kind = (n.kind() as usize).min(KINDS - 1);
         let demand = &table.demands[kind];
-        if !node_fits(file, table, n, kind, demand, top) {
+        if !node_fits(file, depth, table, n, kind, demand, top) {
             return false;
         }
         if top.inside() == Outermost as usize {
@@ -281,13 +277,13 @@ fn fits(file: &File, declarations: &mut Declarations, table: &Table) -> bool {
 
 /// The kind in its place, the operands, the number of children, the depth.
 #[inline(always)]
-fn node_fits(file: &File, table: &Table, n: Four, kind: usize, demand: &Demand, parent: Frame) -> bool {
+fn node_fits(file: &File, depth: u32, table: &Table, n: Four, kind: usize, demand: &Demand, parent: Frame) -> bool {
     let type_kind = file.types.get(n.t() as usize).map_or(15, |t| Four::of(t).kind());
     let allowed = table.allowed[parent.inside()][parent.left().min(4)];
     let fits = (allowed >> kind & 1 == 1)
         & (n.x() <= demand.most_x)
         & (demand.types >> (type_kind & 15) & 1 == 1)
         & (n.children().wrapping_sub(demand.least) <= demand.more)
-        & (parent.depth() < table.depth);
+        & (parent.depth() < depth);
     fits && (kind != 2 || !table.count_parameters || n.children() as u32 == u32::from(file.ty(n.t()).c()) + 1)
 }

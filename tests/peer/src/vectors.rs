@@ -1,18 +1,19 @@
 //! The stored vectors: which files they hold, and what catches a mutant.
 
 use crate::mutants::{ALL, Exact, Mutant, Part};
-use crate::print::{self, pack, unpack};
-use crate::{cases, generator};
+use crate::print::{self, Limited, pack, pack_limited, unpack, unpack_limited};
+use crate::{Limits, cases, generator};
 
-/// The three questions that vectors are stored for.
+/// The four questions that vectors are stored for.
 #[derive(Clone, Copy, PartialEq, Eq, Debug)]
 pub enum Question {
     Check,
     Read,
     Sub,
+    Limits,
 }
 
-pub const QUESTIONS: [Question; 3] = [Question::Check, Question::Read, Question::Sub];
+pub const QUESTIONS: [Question; 4] = [Question::Check, Question::Read, Question::Sub, Question::Limits];
 
 impl Question {
     /// The name of the stored files.
@@ -21,36 +22,49 @@ impl Question {
             Question::Check => "check",
             Question::Read => "read",
             Question::Sub => "sub",
+            Question::Limits => "limits",
         }
     }
 
-    /// What is printed for one file.
-    pub fn show(self, file: &[u8]) -> String {
+    /// The cases of stored bytes; only those of `Limits` have limits of their own.
+    pub fn unpack(self, packed: &[u8]) -> Vec<Limited<'_>> {
         match self {
-            Question::Check => print::check_with(file, Exact) + "--\n",
-            Question::Read => print::read_with(file, Exact),
-            Question::Sub => print::subs_with(file, Exact) + "--\n",
+            Question::Limits => unpack_limited(packed),
+            _ => unpack(packed).into_iter().map(Limited::widest).collect(),
+        }
+    }
+
+    /// What is printed for one case.
+    pub fn show(self, case: Limited) -> String {
+        match self {
+            Question::Check => print::check_with(case, Exact) + "--\n",
+            Question::Read => print::read_with(case, Exact),
+            Question::Sub => print::subs_with(case, Exact) + "--\n",
+            Question::Limits => print::limits_with(case, Exact) + "--\n",
         }
     }
 
     /// What a mutant prints. A mutant of reading is asked to read only, since
-    /// what it lets pass is no tree that can be typed.
-    fn show_mutant(self, file: &[u8], mutant: Mutant, part: Part) -> Option<String> {
+    /// what it lets pass is no tree that can be typed. The old questions ask
+    /// under 200 and 100 alone, so mutants of limits have their own.
+    fn show_mutant(self, case: Limited, mutant: Mutant, part: Part) -> Option<String> {
         match (self, part) {
-            (Question::Read, Part::Reading) => Some(print::read_with(file, mutant)),
+            (Question::Limits, Part::Limits) => Some(print::limits_with(case, mutant) + "--\n"),
+            (Question::Limits, _) | (_, Part::Limits) => None,
+            (Question::Read, Part::Reading) => Some(print::read_with(case, mutant)),
             (Question::Check, Part::Reading) => None,
-            (Question::Check, _) => Some(print::check_with(file, mutant) + "--\n"),
-            (Question::Sub, Part::Subtyping) => Some(print::subs_with(file, mutant) + "--\n"),
+            (Question::Check, _) => Some(print::check_with(case, mutant) + "--\n"),
+            (Question::Sub, Part::Subtyping) => Some(print::subs_with(case, mutant) + "--\n"),
             _ => None,
         }
     }
 }
 
-/// How many of the files show that the mutant is wrong, given what is right.
-pub fn caught(question: Question, files: &[&[u8]], right: &[String], (mutant, part): (Mutant, Part)) -> usize {
+/// How many of the cases show that the mutant is wrong, given what is right.
+pub fn caught(question: Question, cases: &[Limited], right: &[String], (mutant, part): (Mutant, Part)) -> usize {
     let differs =
-        |(file, right): (&&[u8], &String)| question.show_mutant(file, mutant, part).is_some_and(|s| s != *right);
-    files.iter().zip(right).filter(|&pair| differs(pair)).count()
+        |(&case, right): (&Limited, &String)| question.show_mutant(case, mutant, part).is_some_and(|s| s != *right);
+    cases.iter().zip(right).filter(|&pair| differs(pair)).count()
 }
 
 /// The files of one question, packed.
@@ -59,18 +73,20 @@ pub fn files(question: Question) -> Vec<u8> {
         Question::Check => pack(check_files()),
         Question::Read => pack(read_files()),
         Question::Sub => pack(sub_files()),
+        Question::Limits => pack_limited(limit_cases()),
     }
 }
 
 /// The cases written by hand alone, for each question.
-pub fn hand_written() -> [Vec<u8>; 3] {
-    [pack(typing_cases()), pack(cases::reading().into_iter().map(|c| c.1)), pack(subtyping_cases())]
+pub fn hand_written() -> [Vec<u8>; 4] {
+    let reading = pack(cases::reading().into_iter().map(|c| c.1));
+    [pack(typing_cases()), reading, pack(subtyping_cases()), pack_limited(limit_cases_by_hand())]
 }
 
 /// Generated files alone, for each question.
-pub fn generated() -> [Vec<u8>; 3] {
+pub fn generated() -> [Vec<u8>; 4] {
     let programs = generator::programs(6, 12_000);
-    [programs.clone(), programs, generator::type_tables(7, 400)]
+    [programs.clone(), programs, generator::type_tables(7, 400), generator::limited(8, 1000)]
 }
 
 fn typing_cases() -> Vec<Vec<u8>> {
@@ -113,6 +129,19 @@ fn sub_files() -> Vec<Vec<u8>> {
     files
 }
 
+fn limit_cases_by_hand() -> Vec<(Vec<u8>, Limits)> {
+    cases::limits().into_iter().map(|c| (c.file, c.limits)).collect()
+}
+
+/// The generated files are small; each has several settings around its own measures.
+fn limit_cases() -> Vec<(Vec<u8>, Limits)> {
+    let mut cases = limit_cases_by_hand();
+    for (i, file) in small(&generator::programs(9, 120), 1200).into_iter().enumerate() {
+        cases.extend(generator::settings_around(i as u64, &file).into_iter().map(|limits| (file.clone(), limits)));
+    }
+    cases
+}
+
 /// The packed files of less than a size.
 fn small(many: &[u8], size: usize) -> Vec<Vec<u8>> {
     unpack(many).into_iter().filter(|f| f.len() < size).map(<[u8]>::to_vec).collect()
@@ -123,55 +152,50 @@ const CATCHING: usize = 4;
 
 fn add_catching(files: &mut Vec<Vec<u8>>) {
     let pool = small(&generator::programs(5, 6000), 2000);
-    let right: Vec<String> = pool.iter().map(|f| Question::Check.show(f)).collect();
-    for &(mutant, part, _) in ALL.iter().filter(|m| !matches!(m.1, Part::Reading | Part::Subtyping)) {
-        let own: Vec<&[u8]> = files.iter().map(Vec::as_slice).collect();
-        let own_right: Vec<String> = own.iter().map(|f| Question::Check.show(f)).collect();
+    let right: Vec<String> = pool.iter().map(|f| Question::Check.show(Limited::widest(f))).collect();
+    for &(mutant, part, _) in ALL.iter().filter(|m| !matches!(m.1, Part::Reading | Part::Subtyping | Part::Limits)) {
+        let own: Vec<Limited> = files.iter().map(|f| Limited::widest(f)).collect();
+        let own_right: Vec<String> = own.iter().map(|&f| Question::Check.show(f)).collect();
         let missing = CATCHING.saturating_sub(caught(Question::Check, &own, &own_right, (mutant, part)));
-        let catching =
-            |(f, r): &(&Vec<u8>, &String)| caught(Question::Check, &[f], std::slice::from_ref(r), (mutant, part)) > 0;
+        let catching = |(f, r): &(&Vec<u8>, &String)| {
+            caught(Question::Check, &[Limited::widest(f)], std::slice::from_ref(r), (mutant, part)) > 0
+        };
         files.extend(pool.iter().zip(&right).filter(catching).take(missing).map(|(f, _)| f.clone()));
     }
 }
 
-/// For each mutant: how many files of each question catch it.
-pub fn table(packed: &[Vec<u8>; 3]) -> Vec<(Mutant, Part, [usize; 3])> {
-    let files: Vec<Vec<&[u8]>> = packed.iter().map(|p| unpack(p)).collect();
+/// For each mutant: how many cases of each question catch it.
+pub fn table(packed: &[Vec<u8>; 4]) -> Vec<(Mutant, Part, [usize; 4])> {
+    let cases: Vec<Vec<Limited>> = QUESTIONS.iter().zip(packed).map(|(q, p)| q.unpack(p)).collect();
     let right: Vec<Vec<String>> =
-        QUESTIONS.iter().zip(&files).map(|(q, files)| files.iter().map(|f| q.show(f)).collect()).collect();
-    let count = |m: Mutant, part: Part| std::array::from_fn(|i| caught(QUESTIONS[i], &files[i], &right[i], (m, part)));
+        QUESTIONS.iter().zip(&cases).map(|(q, cases)| cases.iter().map(|&c| q.show(c)).collect()).collect();
+    let count = |m: Mutant, part: Part| std::array::from_fn(|i| caught(QUESTIONS[i], &cases[i], &right[i], (m, part)));
     ALL.iter().map(|&(m, part, _)| (m, part, count(m, part))).collect()
 }
 
+const PARTS: [Part; 6] =
+    [Part::Reading, Part::Subtyping, Part::Expressions, Part::Statements, Part::Declarations, Part::Limits];
+
 /// What `mutants` prints: a line for each part, as docs/TESTING.md has it, and a line for each mutant.
-pub fn mutant_tables(stored: &[Vec<u8>; 3]) -> String {
+pub fn mutant_tables(stored: &[Vec<u8>; 4]) -> String {
     let tables = [table(stored), table(&hand_written()), table(&generated())];
-    let mut out = String::from(
-        "| part | mutants | check | read | sub | stored | by hand | generated |\n|---|---|---|---|---|---|---|---|\n",
-    );
-    for part in [Part::Reading, Part::Subtyping, Part::Expressions, Part::Statements, Part::Declarations] {
-        let count = |t: usize, test: &dyn Fn(&[usize; 3]) -> bool| {
-            tables[t].iter().filter(|m| m.1 == part && test(&m.2)).count()
+    let line = |cells: &[String]| format!("| {} |\n", cells.join(" | "));
+    let mut out = String::from("| part | mutants | check | read | sub | limits | stored | by hand | generated |\n");
+    out += "|---|---|---|---|---|---|---|---|---|\n";
+    for part in PARTS {
+        let count = |t: usize, test: &dyn Fn(&[usize; 4]) -> bool| {
+            tables[t].iter().filter(|m| m.1 == part && test(&m.2)).count().to_string()
         };
-        let any = |c: &[usize; 3]| c.iter().sum::<usize>() > 0;
-        let by = [0, 1, 2].map(|q| count(0, &|c| c[q] > 0));
-        let whole = [0, 1, 2].map(|t| count(t, &any));
-        out += &format!(
-            "| {part:?} | {} | {} | {} | {} | {} | {} | {} |\n",
-            count(0, &|_| true),
-            by[0],
-            by[1],
-            by[2],
-            whole[0],
-            whole[1],
-            whole[2]
-        );
+        let mut cells = vec![format!("{part:?}"), count(0, &|_| true)];
+        cells.extend((0..4).map(|q| count(0, &|c| c[q] > 0)));
+        cells.extend((0..3).map(|t| count(t, &|c| c.iter().sum::<usize>() > 0)));
+        out += &line(&cells);
     }
-    out += "\n| mutant | what it breaks | check | read | sub |\n|---|---|---|---|---|\n";
-    for ((mutant, _, [c, r, s]), (_, _, text)) in tables[0].iter().zip(ALL) {
-        out += &format!("| {mutant:?} | {text} | {c} | {r} | {s} |\n")
-            .replace("[|]", "[\\|]")
-            .replace("& and | take", "& and \\| take");
+    out += "\n| mutant | what it breaks | check | read | sub | limits |\n|---|---|---|---|---|---|\n";
+    for ((mutant, _, counts), (_, _, text)) in tables[0].iter().zip(ALL) {
+        let text = text.replace("[|]", "[\\|]").replace("& and | take", "& and \\| take");
+        let counts = counts.map(|c| c.to_string());
+        out += &line(&[&[format!("{mutant:?}"), text], &counts[..]].concat());
     }
     out
 }

@@ -1,14 +1,14 @@
 //! Document 01, "Rows and answers": what happens to rows and work.
 
 use oat_peer::cases::{reading, typing};
-use oat_peer::{Answer, check, node_count};
+use oat_peer::{Answer, Limits, check, node_count};
 
 const MARK: u16 = 43_690;
 
 /// Runs the check with buffers of the given lengths, filled before.
 fn run(file: &[u8], rows: usize, work: usize) -> (Answer, Vec<u16>, Vec<u16>) {
     let (mut rows, mut work) = (vec![MARK; rows], vec![MARK; work]);
-    let answer = check(file, &mut rows, &mut work);
+    let answer = check(file, Limits::WIDEST, &mut rows, &mut work);
     (answer, rows, work)
 }
 
@@ -80,7 +80,7 @@ fn filled_before() {
         let (answer, marked, _) = run(&case.file, need, need);
         for fill in [0u16, 1, 65_535] {
             let (mut rows, mut work) = (vec![fill; need], vec![fill; need]);
-            assert_eq!(check(&case.file, &mut rows, &mut work), answer, "{}", case.name);
+            assert_eq!(check(&case.file, Limits::WIDEST, &mut rows, &mut work), answer, "{}", case.name);
             assert_eq!(rows, marked, "{}", case.name);
         }
     }

@@ -1,18 +1,18 @@
 //! Every case written by hand has its answer.
 
 use oat_peer::cases::{self, reading, subtyping, typing};
-use oat_peer::{Answer, Below, check, node_count, read, subtype};
+use oat_peer::{Answer, Below, Limits, check, node_count, read, subtype};
 
 fn answer(file: &[u8]) -> [u16; 3] {
     let size = 2 * node_count(file);
-    let Answer { number, step, place } = check(file, &mut vec![0; size], &mut vec![0; size]);
+    let Answer { number, step, place } = check(file, Limits::WIDEST, &mut vec![0; size], &mut vec![0; size]);
     [number, step, place]
 }
 
 #[test]
 fn reading_cases() {
     for (name, file, number) in reading() {
-        assert_eq!(read(&file), number, "{name}");
+        assert_eq!(read(&file, Limits::WIDEST), number, "{name}");
         if number > 0 {
             assert_eq!(answer(&file), [number, 0, 0], "{name}");
         } else {
@@ -35,7 +35,7 @@ fn typing_cases() {
 fn subtyping_cases() {
     for q in subtyping() {
         let [a, b] = q.pair.map(usize::from);
-        assert_eq!(subtype(&q.file, a, b), if q.yes { Below::Yes } else { Below::No }, "{}", q.name);
+        assert_eq!(subtype(&q.file, Limits::WIDEST, a, b), if q.yes { Below::Yes } else { Below::No }, "{}", q.name);
     }
 }
 
@@ -43,12 +43,12 @@ fn subtyping_cases() {
 #[test]
 fn types_not_in_the_file() {
     let four = oat_peer::program::Program::new().bytes();
-    assert_eq!(subtype(&four, 4, 0), Below::Refused(17));
-    assert_eq!(subtype(&four, 0, 4), Below::Refused(17));
-    assert_eq!(subtype(&four, 3, 3), Below::Yes);
-    assert_eq!(subtype(&[], 4, 4), Below::Refused(1));
+    assert_eq!(subtype(&four, Limits::WIDEST, 4, 0), Below::Refused(17));
+    assert_eq!(subtype(&four, Limits::WIDEST, 0, 4), Below::Refused(17));
+    assert_eq!(subtype(&four, Limits::WIDEST, 3, 3), Below::Yes);
+    assert_eq!(subtype(&[], Limits::WIDEST, 4, 4), Below::Refused(1));
     for (name, file, number) in reading().into_iter().filter(|c| c.2 > 0) {
-        assert_eq!(subtype(&file, 9999, 0), Below::Refused(number), "{name}");
+        assert_eq!(subtype(&file, Limits::WIDEST, 9999, 0), Below::Refused(number), "{name}");
     }
 }
 

@@ -3,7 +3,7 @@
 
 use oat_peer::mutants::Exact;
 use oat_peer::vectors::{Question, files};
-use oat_peer::{print, subtypes};
+use oat_peer::{Limits, print, subtypes};
 
 /// A readable file's sections as numbers.
 struct Sections {
@@ -93,7 +93,7 @@ fn subtyping_is_as_written() {
     for file in print::unpack(&packed) {
         let plain = sections(file);
         let all = 0..plain.types.len() as u16;
-        let table = subtypes(file, Exact).expect("a readable file");
+        let table = subtypes(file, Limits::WIDEST, Exact).expect("a readable file");
         for (a, b) in all.clone().flat_map(|a| all.clone().map(move |b| (a, b))) {
             assert_eq!(table[a as usize][b as usize], plain.below(a, b), "{a} below {b}");
         }

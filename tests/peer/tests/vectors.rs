@@ -2,7 +2,7 @@
 
 use oat_peer::mutants::{ALL, Part};
 use oat_peer::vectors::{QUESTIONS, Question, files, table};
-use oat_peer::{generator, print};
+use oat_peer::{Limits, generator, print};
 use std::fs;
 use std::path::PathBuf;
 
@@ -19,7 +19,7 @@ fn stored(question: Question) -> Vec<u8> {
 fn stored_outputs() {
     for question in QUESTIONS {
         let packed = stored(question);
-        let shown: String = print::unpack(&packed).into_iter().map(|f| question.show(f)).collect();
+        let shown: String = question.unpack(&packed).into_iter().map(|c| question.show(c)).collect();
         let expected = fs::read_to_string(path(question, "txt")).expect("a stored output");
         assert!(shown == expected, "{} differs", question.name());
     }
@@ -35,8 +35,12 @@ fn stored_inputs_are_what_the_command_makes() {
 /// The proved programs run over the stored files: reading after vectors of its own, the others over these alone.
 #[test]
 fn crates_have_the_stored_files() {
-    let programs =
-        [("check_vectors", Question::Check), ("subtype_vectors", Question::Sub), ("read_vectors", Question::Read)];
+    let programs = [
+        ("check_vectors", Question::Check),
+        ("subtype_vectors", Question::Sub),
+        ("read_vectors", Question::Read),
+        ("limit_vectors", Question::Limits),
+    ];
     for (program, question) in programs {
         for (name, end) in [("stdin", "bin"), ("stdout", "txt")] {
             let crates = PathBuf::from(env!("CARGO_MANIFEST_DIR")).join("../../crates");
@@ -51,8 +55,12 @@ fn crates_have_the_stored_files() {
 #[test]
 fn sizes() {
     let size = |q, end| fs::metadata(path(q, end)).expect("a stored file").len();
-    let all: u64 = QUESTIONS.iter().map(|&q| size(q, "bin") + size(q, "txt")).sum();
+    let old = QUESTIONS.iter().filter(|&&q| q != Question::Limits);
+    let all: u64 = old.map(|&q| size(q, "bin") + size(q, "txt")).sum();
     assert!(all <= 3 << 20, "{all} bytes");
+    assert!(size(Question::Limits, "bin") < 600_000);
+    let limited = stored(Question::Limits);
+    assert!(Question::Limits.unpack(&limited).iter().all(|c| c.file.len() < 45_200));
     assert!(print::unpack(&stored(Question::Sub)).len() >= 300);
 }
 
@@ -63,6 +71,7 @@ fn every_mutant_is_caught() {
     assert!(survivors.is_empty(), "{survivors:?}");
     assert!(ALL.len() >= 80);
     assert!(ALL.iter().filter(|m| m.1 == Part::Reading).count() >= 20);
+    assert!(ALL.iter().filter(|m| m.1 == Part::Limits).count() >= 20);
     assert_eq!(ALL.iter().filter(|m| m.2.starts_with("slip: ")).count(), 5);
 }
 
@@ -81,5 +90,5 @@ fn generated_numbers() {
 #[test]
 fn generated_tables() {
     let many = generator::type_tables(12, 500);
-    assert!(print::unpack(&many).into_iter().all(|f| oat_peer::read(f) == 0));
+    assert!(print::unpack(&many).into_iter().all(|f| oat_peer::read(f, Limits::WIDEST) == 0));
 }

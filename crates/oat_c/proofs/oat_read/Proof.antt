@@ -10,4 +10,4 @@ oat-read-spec =
     (tie.spec
     (λ c κs. search needs)
     (λ c κs. search needs)
-    (λ c. number-read _ _ _ (c .before .read .ensures) _ (c .number .ensures)))
+    (λ c. number-read _ _ _ _ (c .before .read .ensures) _ (c .number .ensures)))

@@ -2,11 +2,13 @@
 //! it, each reading with its program, each Pan case. A case's name begins with
 //! the number of the reading it shows, if it shows one.
 
+mod limits;
 mod reading;
 pub mod rows;
 mod subtyping;
 mod typing;
 
+pub use limits::{LimitCase, limits};
 pub use reading::reading;
 pub use subtyping::{Question, subtyping};
 pub use typing::typing;

@@ -4,7 +4,7 @@ use super::rng::Rng;
 use super::tables;
 use crate::mutants::Exact;
 use crate::program::*;
-use crate::subtypes;
+use crate::{Limits, subtypes};
 
 const INT: u16 = 0;
 const BOOL: u16 = 1;
@@ -36,7 +36,7 @@ struct Maker<'r> {
 /// A well-typed program.
 pub fn typed(rng: &mut Rng) -> Program {
     let p = table(rng);
-    let below = subtypes(&p.bytes(), Exact).expect("a generated table can be read");
+    let below = subtypes(&p.bytes(), Limits::WIDEST, Exact).expect("a generated table can be read");
     let formed = (0..p.types.len() as u16).map(|t| formed(&p, t)).collect();
     let fuel = 30 + rng.below(150);
     let mut maker = Maker { rng, p, below, formed, globals: vec![], locals: vec![], constant: false, fuel };

@@ -4,12 +4,14 @@
 mod bodies;
 mod damage;
 mod large;
+mod limits;
 mod misses;
 mod rng;
 mod tables;
 
-use crate::print::{pack, unpack};
-use crate::{check, node_count};
+use crate::print::{pack, pack_limited, unpack};
+use crate::{Limits, check, node_count};
+pub use limits::settings_around;
 use rng::Rng;
 
 /// The numbers asked for in turn; 0 stands more often.
@@ -30,6 +32,14 @@ pub fn type_tables(seed: u64, count: usize) -> Vec<u8> {
     pack((0..count).map(|_| tables::rich(&mut rng).bytes()))
 }
 
+/// Packed cases of limits: the files of `programs`, each under four settings in a row.
+pub fn limited(seed: u64, count: usize) -> Vec<u8> {
+    let many = programs(seed, count);
+    let mut rng = Rng::new(seed ^ 0x6C69_6D69);
+    let cases = unpack(&many).into_iter().flat_map(|file| limits::four(&mut rng, file).map(|limits| (file, limits)));
+    pack_limited(cases)
+}
+
 /// One accepted file of each large sort.
 pub fn large_files() -> [Vec<u8>; 4] {
     large::each()
@@ -46,7 +56,7 @@ pub fn tally(many: &[u8]) -> [usize; 17] {
 
 fn number(file: &[u8]) -> u16 {
     let size = 2 * node_count(file);
-    check(file, &mut vec![0; size], &mut vec![0; size]).number
+    check(file, Limits::WIDEST, &mut vec![0; size], &mut vec![0; size]).number
 }
 
 /// One file, with the number asked for if it can be had in some tries.

@@ -19,7 +19,7 @@ mul-needed : tie.Need-mul-needed
 mul-needed c =
     let at-read2 = c .before .before in
     let at-read = at-read2 .before .before in
-    omega (arith, nodes-few _ (at-read .read .ensures .0) (at-read2 .read2 .given .1))
+    omega (arith, nodes-few _ _ (at-read .read .ensures .0) (at-read2 .read2 .given .1))
 
 returns-2 : tie.Need-returns-2
 returns-2 c =
@@ -52,11 +52,11 @@ check-read-requires c κs =
     let at-read = at-read2 .before .before in
     let at-shared-slice-known = at-read .before .before .before in
     let at-start = at-shared-slice-known .before in
-    check-ready _ _ _ (bytes-of (now (at-start .args .file)) (at-shared-slice-known .shared-slice-known .given)) (at-read .read .ensures .0) (at-read2 .read2 .given .1) (at-if1 .if1 .left) (at-if2 .if2 .left)
+    check-ready _ _ _ _ (bytes-of (now (at-start .args .file)) (at-shared-slice-known .shared-slice-known .given)) (at-read .read .ensures .0) (at-read2 .read2 .given .1) (at-if1 .if1 .left) (at-if2 .if2 .left)
 
 returns-4 : tie.Need-returns-4
 returns-4 c =
-    with-demands (check-good _ _ _ (bytes-of (now (c .before .before .before .before .before .before .before .before .before .before .before .before .before .before .before .before .before .args .file)) (c .before .before .before .before .before .before .before .before .before .before .before .before .before .before .before .before .shared-slice-known .given)) (c .before .before .before .before .before .before .before .before .before .before .before .before .before .read .ensures .0) (c .before .before .before .before .before .before .before .before .before .before .before .read2 .given .1) (c .before .before .before .before .before .before .before .before .if1 .left) (c .before .before .before .before .before .before .before .if2 .left) (c .before .before .before .before .check-read .ensures))
+    with-demands (check-good _ _ _ _ (bytes-of (now (c .before .before .before .before .before .before .before .before .before .before .before .before .before .before .before .before .before .args .file)) (c .before .before .before .before .before .before .before .before .before .before .before .before .before .before .before .before .shared-slice-known .given)) (c .before .before .before .before .before .before .before .before .before .before .before .before .before .read .ensures .0) (c .before .before .before .before .before .before .before .before .before .before .before .read2 .given .1) (c .before .before .before .before .before .before .before .before .if1 .left) (c .before .before .before .before .before .before .before .if2 .left) (c .before .before .before .before .check-read .ensures))
 
 pub check-spec : {M : Type 1} → statement M
 check-spec =

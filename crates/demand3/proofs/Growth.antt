@@ -1,0 +1,107 @@
+-- Limits that grow (document 02, (xi)): an acceptance, a 6 and a typing refusal stay under larger limits, with the same rows (`grow`); and an
+-- outcome that moves is a refusal under 3 or 5 by the smaller limits alone (`moves`). Assumes nothing.
+use mathlib.Core.Path.{_≡_, refl, ap, sym, _∙_}
+use mathlib.Core.Bool.{Bool, true, false}
+use mathlib.Core.List.{List}
+use mathlib.Core.Logic.{_⊎_, inl, inr, ⊎-elim}
+use Prim.Native.Nat.{ℕ, _≤_, _<_}
+use native.Mathlib.Omega.{arith}
+use lib.Dec.{leb}
+use borrow.Author.Tests.{leb-true, leb-false}
+use Rattle.oat.specs.TypeRules.{typesRight}
+use Rattle.oat.specs.Syntax.{depthDecls}
+use Rattle.oat.specs.ProgramFile.{Limits, inRange, Within, Program, IsFile}
+use Rattle.oat.proofs.LawsLimits.{more-parts, wider}
+use Rattle.file_sections.specs.declared.Sections.{Sections}
+use Rattle.file_sections.specs.declared.Reading.the-variants.{Refused, Good}
+use Rattle.file_sections.specs.Layout.{tablesOf}
+use Rattle.program_file.specs.Reading.{readingWithin, readingOf}
+use Rattle.program_file.proofs.LawsReading.{reading-in-range}
+use Rattle.program_file.proofs.LawsGrowth.{Goes, same, types, trees, goes}
+use Rattle.program_file.proofs.Theorem.{Bytes, program-of, reading-of, read-tables, refused-numbers}
+use Rattle.typing_rules.specs.Check.{Ran, accepted, refused, answerOf, checkOf}
+use Rattle.typing_rules.proofs.Theorem.{runOf}
+use Rattle.typing_rules.proofs.LawsNumbers.{refused-number}
+use Rattle.demand3.specs.CheckFile.{Outcome, outcome, Checks, unreadable, rows-short, work-short, checked}
+use Rattle.demand3.specs.Growth.{Kept, MoreParts, Deeper, Moves, stays, by-parts, by-depth}
+use Rattle.demand3.proofs.Theorem.{unread, one-outcome}
+
+-- 25 and 1 to 5 are not kept
+not-kept : (limits : Limits) (s : List ℕ) (n : ℕ) → readingOf limits s ≡ Refused n → Kept n → ⊥
+not-kept limits s n e k =
+    ⊎-elim
+    (λ out. ⊎-elim (λ z. omega (arith, z)) (λ h. omega (arith, h .1)) k)
+    (λ low. ⊎-elim (λ z. omega (arith, z, low .0)) (λ h. omega (arith, h .0, low .1)) k)
+    (refused-numbers limits s n e)
+
+-- the definition of the check accepts, or refuses under 7 to 16
+pub check-kept : (p : Program) → (checkOf p .number ≡ 0) ⊎ ((7 ≤ checkOf p .number) × (checkOf p .number ≤ 16))
+unfolding checkOf
+check-kept p = go (runOf p) refl
+  where
+    go : (a : Ran) → runOf p ≡ a → (answerOf p (runOf p) .number ≡ 0) ⊎ ((7 ≤ answerOf p (runOf p) .number) × (answerOf p (runOf p) .number ≤ 16))
+    go (accepted gs k) e = inl (ap (λ x. answerOf p x .number) e)
+    go (refused m k q) e =
+        let is : answerOf p (runOf p) .number ≡ m = ap (λ x. answerOf p x .number) e in
+        let (low, high) = refused-number p m k q e in
+        inr (omega (arith, is, low), omega (arith, is, high))
+
+module _ (a b : Limits) (range : inRange b ≡ true) (w : Within a b) (bytes rows work : List ℕ) where
+  pub grow : (o : Outcome) → Checks a bytes rows work o → Kept (o .number) → Checks b bytes rows work o
+  grow o (unreadable n e) k = absurd (not-kept a bytes n e k)
+  grow o (rows-short i p f l) k = rows-short range p (wider w f) l
+  grow o (work-short i p f l m) k = work-short range p (wider w f) l m
+  grow o (checked i p f l m) k = checked range p (wider w f) l m
+
+module _ (a b : Limits) (narrow : inRange a ≡ true) (range : inRange b ≡ true) (w : Within a b) (bytes : List ℕ) (y : Bytes bytes) (rows work : List ℕ) where
+  -- a file that a alone refuses under 5 is a program file under b, and deeper than a lets it be
+  deeper : (n : ℕ) → readingWithin a bytes ≡ Refused n → (S : Sections) → typesRight (a .parts) (tablesOf bytes S) ≡ true → readingWithin b bytes ≡ Good S → Deeper a b bytes
+  deeper n e S ea good =
+      let (p, f) = program-of b bytes S y good in
+      record { program = p; file = f; more = go p f (leb (depthDecls (p .declarations)) (a .depth)) refl }
+    where
+      go : (p : Program) → IsFile b bytes p → (t : Bool) → leb (depthDecls (p .declarations)) (a .depth) ≡ t → a .depth < depthDecls (p .declarations)
+      go p f false h = leb-false _ _ h
+      go p f true h =
+          let is : p .tables ≡ tablesOf bytes S = read-tables b bytes S p good f in
+          let g : IsFile a bytes p = record {
+            layout = f .layout;
+            counts = f .counts;
+            types = ap (typesRight (a .parts)) is ∙ ea;
+            tables = f .tables;
+            stand = f .stand;
+            used-up = f .used-up;
+            deep = leb-true _ _ h;
+          } in
+          let read = reading-of a bytes p g .0 in
+          absurd (let z : _≡_ {A = ℕ} 0 1 = cc in omega arith)
+
+  -- the number under b of a file that is read under b
+  kept-under : (S : Sections) → readingOf b bytes ≡ Good S → (u : Outcome) → Checks b bytes rows work u → Kept (u .number)
+  kept-under S good u (unreadable n e) = absurd (let z : _≡_ {A = ℕ} 0 1 = cc in omega arith)
+  kept-under S good u (rows-short i p f l) = inr (omega arith, omega arith)
+  kept-under S good u (work-short i p f l k) = inr (omega arith, omega arith)
+  kept-under S good u (checked i p f l k) = ⊎-elim inl (λ h. inr (omega (arith, h .0), h .1)) (check-kept p)
+
+  -- 3 is the number of no outcome but that of a reading
+  not-three : (readingWithin b bytes ≡ Refused 3 → ⊥) → (u : Outcome) → Checks b bytes rows work u → u .number ≡ 3 → ⊥
+  not-three none u (unreadable n e) h = none (sym (reading-in-range b bytes range) ∙ e ∙ ap Refused h)
+  not-three none u (rows-short i p f l) h = omega (arith, h)
+  not-three none u (work-short i p f l k) h = omega (arith, h)
+  not-three none u (checked i p f l k) h = ⊎-elim (λ z. omega (arith, z, h)) (λ m. omega (arith, m .0, h)) (check-kept p)
+
+  unread-moves : (n : ℕ) → readingWithin a bytes ≡ Refused n → Goes a b bytes n → (u : Outcome) → Checks b bytes rows work u → Moves a b bytes (outcome n 0 0 rows) u
+  unread-moves n e (same second) u d = stays (sym (unread b bytes rows work n u (reading-in-range b bytes range ∙ second) d))
+  unread-moves n e (types three S h ea eb none) u d =
+      let (i, there, more) = more-parts (a .parts) (b .parts) (tablesOf bytes S) eb ea in
+      by-parts three (not-three none u d) (record { sections = S; cut = h; type = i; there = there; more = more; right = eb })
+  unread-moves n e (trees five S ea good) u d =
+      by-depth five (kept-under S (reading-in-range b bytes range ∙ good) u d) (deeper n e S ea good)
+
+  pub moves : (o u : Outcome) → Checks a bytes rows work o → Checks b bytes rows work u → Moves a b bytes o u
+  moves o u (unreadable n e) d =
+      let within = sym (reading-in-range a bytes narrow) ∙ e in
+      unread-moves n within (goes a b w bytes n within) u d
+  moves o u (rows-short i p f l) d = stays (one-outcome b bytes rows work _ u (rows-short range p (wider w f) l) d)
+  moves o u (work-short i p f l k) d = stays (one-outcome b bytes rows work _ u (work-short range p (wider w f) l k) d)
+  moves o u (checked i p f l k) d = stays (one-outcome b bytes rows work _ u (checked range p (wider w f) l k) d)
