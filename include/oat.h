@@ -25,6 +25,12 @@ extern "C" {
 #define OAT_MOST_NODES 4096
 #define OAT_MOST_NUMBERS (2 * OAT_MOST_NODES)
 
+/* The two limits, `parts` and `depth` of every function: a type has at most so many parts, and nodes are at most so deep. Each is from 1 to the most named
+   here, both ends in; these are document 01's limits. Under larger limits a file that was accepted stays accepted with the same rows, and 6 to 16 stay too,
+   with their step and place: no file moves but those that the smaller limits alone refuse under 3 or 5. */
+#define OAT_MOST_PARTS 200
+#define OAT_MOST_DEPTH 100
+
 /* In a row: no binder (and every number of the rows of a refused program); a built-in's number is added to OAT_BUILT_IN. */
 #define OAT_NONE 65535
 #define OAT_BUILT_IN 40000
@@ -48,28 +54,30 @@ enum oat_number {
     OAT_RETURN = 14,           /* return mark wrong */
     OAT_FUNCTION_ASSIGNED = 15,/* function assigned */
     OAT_NO_DEFAULT = 16,       /* element without default */
-    OAT_NO_TYPE = 17           /* type not in file (oat_subtype alone) */
+    OAT_NO_TYPE = 17,          /* type not in file (oat_subtype alone) */
+    OAT_LIMITS = 25            /* a limit out of its range; tested before everything else */
 };
 
-/* 0 where the file is readable, else 1 to 5. Changes nothing. */
-uint16_t oat_read(const uint8_t *file, size_t length);
+/* 0 where the file is readable, else 25 or 1 to 5. Changes nothing. */
+uint16_t oat_read(const uint8_t *file, size_t length, size_t parts, size_t depth);
 
-/* Whether the type a of the file is below its type b. Answers 0, with 1 for yes or 0 for no in *yes; or 1 to 5, or 17 where a or b is not the
+/* Whether the type a of the file is below its type b. Answers 0, with 1 for yes or 0 for no in *yes; or 25, or 1 to 5, or 17 where a or b is not the
    number of a type, and *yes stays as it was. `yes` is not null. */
-uint16_t oat_subtype(const uint8_t *file, size_t length, size_t a, size_t b, uint8_t *yes);
+uint16_t oat_subtype(const uint8_t *file, size_t length, size_t parts, size_t depth, size_t a, size_t b, uint8_t *yes);
 
 /* Checks a program file. Answers its number, and puts the answer's step and place into *step and *place (neither is null).
 
      number     *step, *place                       rows                                   work
      0          how many steps there are, 0         result and binder of each node         see below
+     25         0, 0                                as before                              as before
      1 to 6     0, 0                                as before                              as before
      7 to 16    the step and where it broke         65,535 twice for each node             see below
 
    Under 0 and 7 to 16 `rows` changes in its first two numbers for each node: node i has its result at 2 * i and its binder at 2 * i + 1. `work` has any
    contents in as many of its first numbers. What lies past them stays in both. Both may hold anything before the call. 6 is answered where `rows` or
    `work` has fewer than two numbers for each node of a readable file. */
-uint16_t oat_check(const uint8_t *file, size_t length, uint16_t *rows, size_t rows_length, uint16_t *work, size_t work_length,
-                   uint16_t *step, uint16_t *place);
+uint16_t oat_check(const uint8_t *file, size_t length, size_t parts, size_t depth, uint16_t *rows, size_t rows_length, uint16_t *work,
+                   size_t work_length, uint16_t *step, uint16_t *place);
 
 #ifdef __cplusplus
 }

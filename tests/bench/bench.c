@@ -7,8 +7,8 @@
 #include <string.h>
 #include <time.h>
 
-uint16_t oat_read(const uint8_t *file, size_t length);
-uint16_t oat_subtype(const uint8_t *file, size_t length, size_t a, size_t b, uint8_t *yes);
+uint16_t oat_read(const uint8_t *file, size_t length, size_t parts, size_t depth);
+uint16_t oat_subtype(const uint8_t *file, size_t length, size_t parts, size_t depth, size_t a, size_t b, uint8_t *yes);
 
 static uint8_t file[65536];
 static size_t length;
@@ -36,7 +36,7 @@ int main(int argc, char **argv) {
     for (int run = 0; run < 200; run++) {
         double from = seconds();
         for (int call = 0; call < 20; call++)
-            answer = asks ? oat_subtype(file, length, a, b, &yes) : oat_read(file, length);
+            answer = asks ? oat_subtype(file, length, 200, 100, a, b, &yes) : oat_read(file, length, 200, 100);
         double took = (seconds() - from) / 20;
         if (took < best)
             best = took;

@@ -7,21 +7,22 @@ use std::hint::black_box;
 use std::time::Instant;
 
 extern "C" {
-    fn oat_read(file: *const u8, length: usize) -> u16;
-    fn oat_check(file: *const u8, length: usize, rows: *mut u16, rows_length: usize, work: *mut u16, work_length: usize, step: &mut u16, place: &mut u16) -> u16;
+    fn oat_read(file: *const u8, length: usize, parts: usize, depth: usize) -> u16;
+    fn oat_check(file: *const u8, length: usize, parts: usize, depth: usize, rows: *mut u16, rows_length: usize, work: *mut u16, work_length: usize, step: &mut u16, place: &mut u16) -> u16;
 }
 
 const NUMBERS: usize = 8192;
+const WIDEST: oat_peer::Limits = oat_peer::Limits::WIDEST;
 
 fn proved(file: &[u8], rows: &mut [u16], work: &mut [u16]) -> u16 {
     let (mut step, mut place) = (0, 0);
     // SAFETY: every pointer points to as many elements as its length says, and none overlap
-    unsafe { oat_check(file.as_ptr(), file.len(), rows.as_mut_ptr(), rows.len(), work.as_mut_ptr(), work.len(), &mut step, &mut place) }
+    unsafe { oat_check(file.as_ptr(), file.len(), WIDEST.parts, WIDEST.depth, rows.as_mut_ptr(), rows.len(), work.as_mut_ptr(), work.len(), &mut step, &mut place) }
 }
 
 fn proved_read(file: &[u8]) -> u16 {
     // SAFETY: the pointer points to as many bytes as the length says
-    unsafe { oat_read(file.as_ptr(), file.len()) }
+    unsafe { oat_read(file.as_ptr(), file.len(), WIDEST.parts, WIDEST.depth) }
 }
 
 /// Nanoseconds of one call: `calls` calls are timed together.
@@ -57,9 +58,9 @@ fn measure(name: String, file: &[u8], rows: &mut [u16], work: &mut [u16], readin
     let number = proved(file, rows, work);
     let nodes = oat_peer::node_count(file);
     let (proved, peer) = if reading {
-        race(file, rows, work, |f, _, _| { black_box(proved_read(f)); }, |f, _, _| { black_box(oat_peer::read(f)); })
+        race(file, rows, work, |f, _, _| { black_box(proved_read(f)); }, |f, _, _| { black_box(oat_peer::read(f, WIDEST)); })
     } else {
-        race(file, rows, work, |f, r, w| { black_box(proved(f, r, w)); }, |f, r, w| { black_box(oat_peer::check(f, r, w)); })
+        race(file, rows, work, |f, r, w| { black_box(proved(f, r, w)); }, |f, r, w| { black_box(oat_peer::check(f, WIDEST, r, w)); })
     };
     Timed { name, nodes, number, proved, peer }
 }

@@ -286,6 +286,24 @@ def _():
     return e
 
 
+@example("nested_calls", """
+    int least(int a, int b) {
+      if (a < b) { return a; } else { return b; }
+    }
+    int lowest(int a, int b, int c) { return least(a, least(b, c)); }
+    """, """
+    The type of lowest has 5 parts, and c stands on level 6, in a call in a call in a return in a block in a function: the least limits that
+    let this file pass are 5 parts and depth 6. Under them, and under larger ones, it has this answer and these rows; under 4 parts it
+    is refused under 3, and under depth 5 under 5.""")
+def _():
+    e = Example()
+    a, b, c = (e.id(n) for n in "abc")
+    e.function("least", INT, [(INT, "a"), (INT, "b")], e.when(e.binary("<", a, b), e.block(e.give(a)), e.block(e.give(b))))
+    least = e.id("least")
+    e.function("lowest", INT, [(INT, "a"), (INT, "b"), (INT, "c")], e.give(e.call(least, a, e.call(least, b, c))))
+    return e
+
+
 @example("for_variable_gone", """
     int f() {
       for (var i = 0; i < 3; i = i + 1) { }

@@ -8,7 +8,8 @@ cd "$(dirname "$0")/../.."
 library=target/staticlib/liboat_c.a
 peer=tests/peer/target/release/oat_peer
 
-# each example with a subtype question: B below A and not the other way round; C not below A; A? not below A; a type that is not there; refused files
+# each example with a subtype question, and limits: B below A and not the other way round; C not below A; A? not below A; a type that is not
+# there; refused files; the least limits that let a file pass, one part and one level fewer, limits out of their range, also before 1
 cases() {
     cat <<'END'
 pan_levels 0 0
@@ -24,13 +25,20 @@ one_global 4 0
 struct_twice 4 4
 cut_short 0 0
 void_array 0 0
+nested_calls 4 4 5 6
+nested_calls 4 4 4 6
+nested_calls 4 4 5 5
+nested_calls 9 9 0 100
+nested_calls 4 4 201 100
+nested_calls 4 4 200 0
+cut_short 0 0 200 101
 END
 }
 
 if [ "${1:-}" = --expect ]; then
-    cases | while read -r name a b; do
-        "$peer" check < "examples/$name.oat"
-        said=$("$peer" sub "$a" "$b" < "examples/$name.oat")
+    cases | while read -r name a b limits; do
+        "$peer" check $limits < "examples/$name.oat"
+        said=$("$peer" sub "$a" "$b" $limits < "examples/$name.oat")
         case $said in [0-9]*) said="refused under $said" ;; esac
         echo "type $a below type $b: $said"
     done > tests/link/expected.txt
@@ -45,7 +53,7 @@ fi
 cc -std=c11 -Wall -Wextra -Werror -O2 -I include examples/c/check.c -L target/staticlib -l:liboat_c.a -o "$out/check_c"
 rustc --edition 2021 -D warnings -O examples/rust/check.rs -L target/staticlib -l static=oat_c -o "$out/check_rust"
 for program in check_c check_rust; do
-    cases | while read -r name a b; do "$out/$program" "examples/$name.oat" "$a" "$b"; done > "$out/$program.txt"
+    cases | while read -r name a b limits; do "$out/$program" "examples/$name.oat" "$a" "$b" $limits; done > "$out/$program.txt"
     diff tests/link/expected.txt "$out/$program.txt"
     echo "tests/link: $program prints what is expected"
 done

@@ -8,15 +8,16 @@ use std::hint::black_box;
 use std::io::{Read, Write, stdin, stdout};
 use std::time::Instant;
 
-const USAGE: &str = "oat_peer check | sub A B | read < FILE
+const USAGE: &str = "oat_peer check [PARTS DEPTH] | sub A B [PARTS DEPTH] | read [PARTS DEPTH] < FILE
 oat_peer batch | readbatch | subbatch | bench N | tally < MANY
 oat_peer limitbatch < CASES
 oat_peer gen SEED COUNT | gentypes SEED COUNT > MANY
 oat_peer genlimits SEED COUNT > CASES
 oat_peer vectors DIRECTORY | mutants DIRECTORY
+PARTS and DEPTH are 200 and 100 where they are left out.
 MANY: for each file 4 bytes length, low first, then the file; asked under 200 parts and depth 100.
 CASES: for each case 4 bytes length of its file, 4 bytes parts, 4 bytes depth, all low first, then the file.
-limitbatch prints `read N`, `sub A B C D` for the pairs 0 0, 3 4, 4 3 and 600 0, what batch prints, and `--`.";
+limitbatch prints `read N`, `sub A B C D` for the pairs 0 0, 4 4, 4 5 and 600 0, what batch prints, and `--`.";
 
 fn main() {
     let arguments: Vec<String> = std::env::args().skip(1).collect();
@@ -31,9 +32,12 @@ fn main() {
 /// The output of a command, or nothing if there is no such command.
 fn run(words: &[&str]) -> Option<Vec<u8>> {
     let out = match words {
-        ["check"] => print::check(&input()),
-        ["sub", a, b] => print::sub(&input(), a.parse().ok()?, b.parse().ok()?),
-        ["read"] => print::read_with(Limited::widest(&input()), Exact),
+        ["check", limits @ ..] => print::check_with(Limited { limits: set(limits)?, file: &input() }, Exact),
+        ["sub", a, b, limits @ ..] => {
+            let pair = [a.parse().ok()?, b.parse().ok()?];
+            print::sub(Limited { limits: set(limits)?, file: &input() }, pair)
+        }
+        ["read", limits @ ..] => print::read_with(Limited { limits: set(limits)?, file: &input() }, Exact),
         ["batch"] => each(Question::Check),
         ["readbatch"] => each(Question::Read),
         ["subbatch"] => each(Question::Sub),
@@ -48,6 +52,15 @@ fn run(words: &[&str]) -> Option<Vec<u8>> {
         _ => return None,
     };
     Some(out.into_bytes())
+}
+
+/// The limits that words name, the widest where there are none.
+fn set(words: &[&str]) -> Option<Limits> {
+    match words {
+        [] => Some(Limits::WIDEST),
+        [parts, depth] => Some(Limits { parts: parts.parse().ok()?, depth: depth.parse().ok()? }),
+        _ => None,
+    }
 }
 
 fn input() -> Vec<u8> {

@@ -56,8 +56,8 @@ pub fn read_with<R: Rules>(case: Limited, rules: R) -> String {
 }
 
 /// yes, no or the refusing number.
-pub fn sub(file: &[u8], a: usize, b: usize) -> String {
-    below(Limited::widest(file), [a, b], Exact) + "\n"
+pub fn sub(case: Limited, pair: [usize; 2]) -> String {
+    below(case, pair, Exact) + "\n"
 }
 
 fn below<R: Rules>(case: Limited, [a, b]: [usize; 2], rules: R) -> String {

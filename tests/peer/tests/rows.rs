@@ -171,8 +171,8 @@ fn printed() {
     assert_eq!(print::check(&example), "0 1 0\n0 1 65535\n1 1 65535\n");
     assert_eq!(print::check(&Program::new().bytes()), "0 0 0\n");
     assert_eq!(print::check(&[]), "1 0 0\n");
-    assert_eq!(print::sub(&example, 0, 0), "yes\n");
-    assert_eq!(print::sub(&example, 0, 1), "no\n");
-    assert_eq!(print::sub(&example, 4, 0), "17\n");
-    assert_eq!(print::sub(&[], 4, 0), "1\n");
+    assert_eq!(print::sub(print::Limited::widest(&example), [0, 0]), "yes\n");
+    assert_eq!(print::sub(print::Limited::widest(&example), [0, 1]), "no\n");
+    assert_eq!(print::sub(print::Limited::widest(&example), [4, 0]), "17\n");
+    assert_eq!(print::sub(print::Limited::widest(&[]), [4, 0]), "1\n");
 }

@@ -55,8 +55,8 @@ fn crates_have_the_stored_files() {
 #[test]
 fn sizes() {
     let size = |q, end| fs::metadata(path(q, end)).expect("a stored file").len();
-    let old = QUESTIONS.iter().filter(|&&q| q != Question::Limits);
-    let all: u64 = old.map(|&q| size(q, "bin") + size(q, "txt")).sum();
+    let others = QUESTIONS.iter().filter(|&&q| q != Question::Limits);
+    let all: u64 = others.map(|&q| size(q, "bin") + size(q, "txt")).sum();
     assert!(all <= 3 << 20, "{all} bytes");
     assert!(size(Question::Limits, "bin") < 600_000);
     let limited = stored(Question::Limits);
