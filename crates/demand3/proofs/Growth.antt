@@ -23,7 +23,7 @@ use Rattle.typing_rules.specs.Check.{Ran, accepted, refused, answerOf, checkOf}
 use Rattle.typing_rules.proofs.Theorem.{runOf}
 use Rattle.typing_rules.proofs.LawsNumbers.{refused-number}
 use Rattle.demand3.specs.CheckFile.{Outcome, outcome, Checks, unreadable, rows-short, work-short, checked}
-use Rattle.demand3.specs.Growth.{Kept, MoreParts, Deeper, Moves, stays, by-parts, by-depth}
+use Rattle.demand3.specs.Growth.{Kept, Deeper, Moves, stays, by-parts, by-depth}
 use Rattle.demand3.proofs.Theorem.{unread, one-outcome}
 
 -- 25 and 1 to 5 are not kept

@@ -6,7 +6,6 @@ use mathlib.Core.List.{List}
 use mathlib.Core.Logic.{_⊎_}
 use Prim.Native.Nat.{ℕ, _≤_, _<_}
 use lib.ListN.{length}
-use Rattle.oat.specs.Tables.{Tables}
 use Rattle.oat.specs.TypeRules.{partsAt, typesRight}
 use Rattle.oat.specs.Syntax.{depthDecls}
 use Rattle.oat.specs.ProgramFile.{Limits, Program, IsFile}

@@ -112,13 +112,13 @@ low-number low-good e = absurd (let z : _≡_ {A = ℕ} 0 1 = cc in omega arith)
 
 -- 25 comes before everything else
 module _ (limits : Limits) (s : List ℕ) where
-  pub reading-in-range : inRange limits ≡ true → readingOf limits s ≡ readingWithin limits s
-  unfolding readingOf
-  reading-in-range e = rw e
-
   pub reading-out-of-range : inRange limits ≡ false → readingOf limits s ≡ Refused 25
   unfolding readingOf
   reading-out-of-range e = rw e
+
+  pub reading-in-range : inRange limits ≡ true → readingOf limits s ≡ readingWithin limits s
+  unfolding readingOf
+  reading-in-range e = rw e
 
   -- a file that is read is read within limits in range
   pub good-in-range : (S : Sections) → readingOf limits s ≡ Good S → (inRange limits ≡ true) × (readingWithin limits s ≡ Good S)

@@ -56,7 +56,14 @@ check-read-requires c κs =
 
 returns-4 : tie.Need-returns-4
 returns-4 c =
-    with-demands (check-good _ _ _ _ (bytes-of (now (c .before .before .before .before .before .before .before .before .before .before .before .before .before .before .before .before .before .args .file)) (c .before .before .before .before .before .before .before .before .before .before .before .before .before .before .before .before .shared-slice-known .given)) (c .before .before .before .before .before .before .before .before .before .before .before .before .before .read .ensures .0) (c .before .before .before .before .before .before .before .before .before .before .before .read2 .given .1) (c .before .before .before .before .before .before .before .before .if1 .left) (c .before .before .before .before .before .before .before .if2 .left) (c .before .before .before .before .check-read .ensures))
+    let at-check-read = c .before .before .before .before in
+    let at-if2 = at-check-read .before .before .before in
+    let at-if1 = at-if2 .before in
+    let at-read2 = at-if1 .before .before .before in
+    let at-read = at-read2 .before .before in
+    let at-shared-slice-known = at-read .before .before .before in
+    let at-start = at-shared-slice-known .before in
+    with-demands (check-good _ _ _ _ (bytes-of (now (at-start .args .file)) (at-shared-slice-known .shared-slice-known .given)) (at-read .read .ensures .0) (at-read2 .read2 .given .1) (at-if1 .if1 .left) (at-if2 .if2 .left) (at-check-read .check-read .ensures))
 
 pub check-spec : {M : Type 1} → statement M
 check-spec =
