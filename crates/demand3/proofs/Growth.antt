@@ -3,8 +3,8 @@
 use mathlib.Core.Path.{_≡_, refl, ap, sym, _∙_}
 use mathlib.Core.Bool.{Bool, true, false}
 use mathlib.Core.List.{List}
-use mathlib.Core.Logic.{_⊎_, inl, inr, ⊎-elim}
-use Prim.Native.Nat.{ℕ, _≤_, _<_}
+use mathlib.Core.Logic.{inl, inr, ⊎-elim}
+use Prim.Native.Nat.{ℕ, _<_}
 use native.Mathlib.Omega.{arith}
 use lib.Dec.{leb}
 use borrow.Author.Tests.{leb-true, leb-false}
@@ -19,12 +19,9 @@ use Rattle.program_file.specs.Reading.{readingWithin, readingOf}
 use Rattle.program_file.proofs.LawsReading.{reading-in-range}
 use Rattle.program_file.proofs.LawsGrowth.{Goes, same, types, trees, goes}
 use Rattle.program_file.proofs.Theorem.{Bytes, program-of, reading-of, read-tables, refused-numbers}
-use Rattle.typing_rules.specs.Check.{Ran, accepted, refused, answerOf, checkOf}
-use Rattle.typing_rules.proofs.Theorem.{runOf}
-use Rattle.typing_rules.proofs.LawsNumbers.{refused-number}
 use Rattle.demand3.specs.CheckFile.{Outcome, outcome, Checks, unreadable, rows-short, work-short, checked}
 use Rattle.demand3.specs.Growth.{Kept, Deeper, Moves, stays, by-parts, by-depth}
-use Rattle.demand3.proofs.Theorem.{unread, one-outcome}
+use Rattle.demand3.proofs.Theorem.{check-kept, unread, one-outcome}
 
 -- 25 and 1 to 5 are not kept
 not-kept : (limits : Limits) (s : List ℕ) (n : ℕ) → readingOf limits s ≡ Refused n → Kept n → ⊥
@@ -33,18 +30,6 @@ not-kept limits s n e k =
     (λ out. ⊎-elim (λ z. omega (arith, z)) (λ h. omega (arith, h .1)) k)
     (λ low. ⊎-elim (λ z. omega (arith, z, low .0)) (λ h. omega (arith, h .0, low .1)) k)
     (refused-numbers limits s n e)
-
--- the definition of the check accepts, or refuses under 7 to 16
-pub check-kept : (p : Program) → (checkOf p .number ≡ 0) ⊎ ((7 ≤ checkOf p .number) × (checkOf p .number ≤ 16))
-unfolding checkOf
-check-kept p = go (runOf p) refl
-  where
-    go : (a : Ran) → runOf p ≡ a → (answerOf p (runOf p) .number ≡ 0) ⊎ ((7 ≤ answerOf p (runOf p) .number) × (answerOf p (runOf p) .number ≤ 16))
-    go (accepted gs k) e = inl (ap (λ x. answerOf p x .number) e)
-    go (refused m k q) e =
-        let is : answerOf p (runOf p) .number ≡ m = ap (λ x. answerOf p x .number) e in
-        let (low, high) = refused-number p m k q e in
-        inr (omega (arith, is, low), omega (arith, is, high))
 
 module _ (a b : Limits) (range : inRange b ≡ true) (w : Within a b) (bytes rows work : List ℕ) where
   pub grow : (o : Outcome) → Checks a bytes rows work o → Kept (o .number) → Checks b bytes rows work o

@@ -1,8 +1,10 @@
 -- Demand 3 (`demand3`): it holds of the outcome of every readable file under limits in range, with long enough buffers, whatever they hold. And
--- the check on bytes has one outcome for every input (`has-outcome`, `one-outcome`). Assumes nothing.
+-- the check on bytes has one outcome for every input (`has-outcome`, `one-outcome`), which is 25 exactly when a limit is out of its range
+-- (`limits-first`, `limits-alone`). Assumes nothing.
 use mathlib.Core.Path.{_≡_, refl, ap, sym, _∙_, subst}
 use mathlib.Core.Bool.{Bool, true, false}
 use mathlib.Core.List.{List, _++_}
+use mathlib.Core.Logic.{_⊎_, inl, inr, ⊎-elim}
 use Prim.Native.Nat.{ℕ, _+_, _*_, _≤_}
 use native.Mathlib.Omega.{arith}
 use lib.ListN.{length, take, drop, replicate, length-append, length-replicate}
@@ -18,8 +20,8 @@ use Rattle.oat.proofs.LawsLimits.{within-widest, wider}
 use Rattle.file_sections.specs.declared.Reading.{Reading}
 use Rattle.file_sections.specs.declared.Reading.the-variants.{Refused, Good}
 use Rattle.program_file.specs.Reading.{readingOf}
-use Rattle.program_file.proofs.LawsReading.{good-in-range}
-use Rattle.program_file.proofs.Theorem.{Bytes, program-of, one-program, not-refused}
+use Rattle.program_file.proofs.LawsReading.{reading-out-of-range, good-in-range}
+use Rattle.program_file.proofs.Theorem.{Bytes, program-of, one-program, refused-from-1-to-5, not-refused}
 use Rattle.typing_rules.specs.Contexts.{Context}
 use Rattle.typing_rules.specs.Labels.{Labels}
 use Rattle.typing_rules.specs.Steps.{Step, stepsOf, SameOn, same-none, same-step, DerivesFile}
@@ -154,6 +156,18 @@ module _ (limits : Limits) (bytes rows work : List ℕ) where
   pub has-outcome : Bytes bytes → (o : Outcome) × Checks limits bytes rows work o
   has-outcome b = reads b (readingOf limits bytes) refl
 
+-- the definition of the check accepts, or refuses under 7 to 16
+pub check-kept : (p : Program) → (checkOf p .number ≡ 0) ⊎ ((7 ≤ checkOf p .number) × (checkOf p .number ≤ 16))
+unfolding checkOf
+check-kept p = go (runOf p) refl
+  where
+    go : (a : Ran) → runOf p ≡ a → (answerOf p (runOf p) .number ≡ 0) ⊎ ((7 ≤ answerOf p (runOf p) .number) × (answerOf p (runOf p) .number ≤ 16))
+    go (accepted gs k) e = inl (ap (λ x. answerOf p x .number) e)
+    go (refused m k q) e =
+        let is : answerOf p (runOf p) .number ≡ m = ap (λ x. answerOf p x .number) e in
+        let (low, high) = refused-number p m k q e in
+        inr (omega (arith, is, low), omega (arith, is, high))
+
 -- and one alone: that of its reading, or of its program
 outcomeFor : Program → List ℕ → List ℕ → Outcome
 outcomeFor p rows work =
@@ -166,6 +180,23 @@ module _ (limits : Limits) (bytes rows work : List ℕ) where
   unread n o e (rows-short i p f l) = absurd (not-refused limits i bytes n e p f)
   unread n o e (work-short i p f l k) = absurd (not-refused limits i bytes n e p f)
   unread n o e (checked i p f l k) = absurd (not-refused limits i bytes n e p f)
+
+  -- 25 exactly when a limit is out of its range, whatever the bytes and the buffers are
+  pub limits-first : inRange limits ≡ false → (o : Outcome) → Checks limits bytes rows work o → o ≡ outcome 25 0 0 rows
+  limits-first out o c = unread 25 o (reading-out-of-range limits bytes out) c
+
+  pub limits-alone : (o : Outcome) → Checks limits bytes rows work o → o .number ≡ 25 → inRange limits ≡ false
+  limits-alone o c h = go (inRange limits) refl
+    where
+      in-range-not-25 : inRange limits ≡ true → (u : Outcome) → Checks limits bytes rows work u → u .number ≡ 25 → ⊥
+      in-range-not-25 i u (unreadable n e) k = omega (arith, k, refused-from-1-to-5 limits i bytes n e .1)
+      in-range-not-25 i u (rows-short j p f l) k = omega (arith, k)
+      in-range-not-25 i u (work-short j p f l m) k = omega (arith, k)
+      in-range-not-25 i u (checked j p f l m) k = ⊎-elim (λ z. omega (arith, z, k)) (λ h. omega (arith, h .1, k)) (check-kept p)
+
+      go : (b : Bool) → inRange limits ≡ b → inRange limits ≡ false
+      go true i = absurd (in-range-not-25 i o c h)
+      go false out = out
 
   program-outcome : inRange limits ≡ true → (p : Program) (o : Outcome) → IsFile limits bytes p → Checks limits bytes rows work o → o ≡ outcomeFor p rows work
   unfolding outcomeFor outcomeOf

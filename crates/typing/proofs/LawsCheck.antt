@@ -30,8 +30,7 @@ use Rattle.type_index.specs.Index.{Indexed}
 use Rattle.bindings.specs.Bindings.{namesOf}
 use Rattle.bindings.proofs.LawsBindings.{scoped-none}
 use Rattle.demand3.specs.CheckFile.{needed, outcome, Checks, unreadable, rows-short, work-short, checked}
-use Rattle.demand3.proofs.Theorem.{fits, demand3}
-use Rattle.demand3.proofs.Growth.{check-kept}
+use Rattle.demand3.proofs.Theorem.{fits, demand3, check-kept}
 use Rattle.demand3.proofs.LawsPlaces.{refused-fits, accepted-fits}
 use Rattle.steps.specs.declared.context.Context.{Context}
 use Rattle.steps.specs.declared.context.Stepped.{Stepped}

@@ -45,7 +45,7 @@ impl Question {
     }
 
     /// What a mutant prints. A mutant of reading is asked to read only, since
-    /// what it lets pass is no tree that can be typed. The old questions ask
+    /// what it lets pass is no tree that can be typed. The other questions ask
     /// under 200 and 100 alone, so mutants of limits have their own.
     fn show_mutant(self, case: Limited, mutant: Mutant, part: Part) -> Option<String> {
         match (self, part) {
