@@ -20,20 +20,20 @@ use Rattle.program_file.proofs.LawsReading.{reading-in-range}
 use Rattle.program_file.proofs.LawsGrowth.{Goes, same, types, trees, goes}
 use Rattle.program_file.proofs.Theorem.{Bytes, program-of, reading-of, read-tables, refused-numbers}
 use Rattle.demand3.specs.CheckFile.{Outcome, outcome, Checks, unreadable, rows-short, work-short, checked}
-use Rattle.demand3.specs.Growth.{Kept, Deeper, Moves, stays, by-parts, by-depth}
-use Rattle.demand3.proofs.Theorem.{check-kept, unread, one-outcome}
+use Rattle.demand3.specs.Growth.{Lasting, Deeper, Moves, stays, by-parts, by-depth}
+use Rattle.demand3.proofs.Theorem.{check-numbers, unread, one-outcome}
 
--- 25 and 1 to 5 are not kept
-not-kept : (limits : Limits) (s : List ℕ) (n : ℕ) → readingOf limits s ≡ Refused n → Kept n → ⊥
-not-kept limits s n e k =
+-- 25 and 1 to 5 do not last
+not-lasting : (limits : Limits) (s : List ℕ) (n : ℕ) → readingOf limits s ≡ Refused n → Lasting n → ⊥
+not-lasting limits s n e k =
     ⊎-elim
     (λ out. ⊎-elim (λ z. omega (arith, z)) (λ h. omega (arith, h .1)) k)
     (λ low. ⊎-elim (λ z. omega (arith, z, low .0)) (λ h. omega (arith, h .0, low .1)) k)
     (refused-numbers limits s n e)
 
 module _ (a b : Limits) (range : inRange b ≡ true) (w : Within a b) (bytes rows work : List ℕ) where
-  pub grow : (o : Outcome) → Checks a bytes rows work o → Kept (o .number) → Checks b bytes rows work o
-  grow o (unreadable n e) k = absurd (not-kept a bytes n e k)
+  pub grow : (o : Outcome) → Checks a bytes rows work o → Lasting (o .number) → Checks b bytes rows work o
+  grow o (unreadable n e) k = absurd (not-lasting a bytes n e k)
   grow o (rows-short i p f l) k = rows-short range p (wider w f) l
   grow o (work-short i p f l m) k = work-short range p (wider w f) l m
   grow o (checked i p f l m) k = checked range p (wider w f) l m
@@ -62,18 +62,18 @@ module _ (a b : Limits) (narrow : inRange a ≡ true) (range : inRange b ≡ tru
           absurd (let z : _≡_ {A = ℕ} 0 1 = cc in omega arith)
 
   -- the number under b of a file that is read under b
-  kept-under : (S : Sections) → readingOf b bytes ≡ Good S → (u : Outcome) → Checks b bytes rows work u → Kept (u .number)
-  kept-under S good u (unreadable n e) = absurd (let z : _≡_ {A = ℕ} 0 1 = cc in omega arith)
-  kept-under S good u (rows-short i p f l) = inr (omega arith, omega arith)
-  kept-under S good u (work-short i p f l k) = inr (omega arith, omega arith)
-  kept-under S good u (checked i p f l k) = ⊎-elim inl (λ h. inr (omega (arith, h .0), h .1)) (check-kept p)
+  lasting-under : (S : Sections) → readingOf b bytes ≡ Good S → (u : Outcome) → Checks b bytes rows work u → Lasting (u .number)
+  lasting-under S good u (unreadable n e) = absurd (let z : _≡_ {A = ℕ} 0 1 = cc in omega arith)
+  lasting-under S good u (rows-short i p f l) = inr (omega arith, omega arith)
+  lasting-under S good u (work-short i p f l k) = inr (omega arith, omega arith)
+  lasting-under S good u (checked i p f l k) = ⊎-elim inl (λ h. inr (omega (arith, h .0), h .1)) (check-numbers p)
 
   -- 3 is the number of no outcome but that of a reading
   not-three : (readingWithin b bytes ≡ Refused 3 → ⊥) → (u : Outcome) → Checks b bytes rows work u → u .number ≡ 3 → ⊥
   not-three none u (unreadable n e) h = none (sym (reading-in-range b bytes range) ∙ e ∙ ap Refused h)
   not-three none u (rows-short i p f l) h = omega (arith, h)
   not-three none u (work-short i p f l k) h = omega (arith, h)
-  not-three none u (checked i p f l k) h = ⊎-elim (λ z. omega (arith, z, h)) (λ m. omega (arith, m .0, h)) (check-kept p)
+  not-three none u (checked i p f l k) h = ⊎-elim (λ z. omega (arith, z, h)) (λ m. omega (arith, m .0, h)) (check-numbers p)
 
   unread-moves : (n : ℕ) → readingWithin a bytes ≡ Refused n → Goes a b bytes n → (u : Outcome) → Checks b bytes rows work u → Moves a b bytes (outcome n 0 0 rows) u
   unread-moves n e (same second) u d = stays (sym (unread b bytes rows work n u (reading-in-range b bytes range ∙ second) d))
@@ -81,7 +81,7 @@ module _ (a b : Limits) (narrow : inRange a ≡ true) (range : inRange b ≡ tru
       let (i, there, more) = more-parts (a .parts) (b .parts) (tablesOf bytes S) eb ea in
       by-parts three (not-three none u d) (record { sections = S; cut = h; type = i; there = there; more = more; right = eb })
   unread-moves n e (trees five S ea good) u d =
-      by-depth five (kept-under S (reading-in-range b bytes range ∙ good) u d) (deeper n e S ea good)
+      by-depth five (lasting-under S (reading-in-range b bytes range ∙ good) u d) (deeper n e S ea good)
 
   pub moves : (o u : Outcome) → Checks a bytes rows work o → Checks b bytes rows work u → Moves a b bytes o u
   moves o u (unreadable n e) d =

@@ -157,9 +157,9 @@ module _ (limits : Limits) (bytes rows work : List ℕ) where
   has-outcome b = reads b (readingOf limits bytes) refl
 
 -- the definition of the check accepts, or refuses under 7 to 16
-pub check-kept : (p : Program) → (checkOf p .number ≡ 0) ⊎ ((7 ≤ checkOf p .number) × (checkOf p .number ≤ 16))
+pub check-numbers : (p : Program) → (checkOf p .number ≡ 0) ⊎ ((7 ≤ checkOf p .number) × (checkOf p .number ≤ 16))
 unfolding checkOf
-check-kept p = go (runOf p) refl
+check-numbers p = go (runOf p) refl
   where
     go : (a : Ran) → runOf p ≡ a → (answerOf p (runOf p) .number ≡ 0) ⊎ ((7 ≤ answerOf p (runOf p) .number) × (answerOf p (runOf p) .number ≤ 16))
     go (accepted gs k) e = inl (ap (λ x. answerOf p x .number) e)
@@ -192,7 +192,7 @@ module _ (limits : Limits) (bytes rows work : List ℕ) where
       in-range-not-25 i u (unreadable n e) k = omega (arith, k, refused-from-1-to-5 limits i bytes n e .1)
       in-range-not-25 i u (rows-short j p f l) k = omega (arith, k)
       in-range-not-25 i u (work-short j p f l m) k = omega (arith, k)
-      in-range-not-25 i u (checked j p f l m) k = ⊎-elim (λ z. omega (arith, z, k)) (λ h. omega (arith, h .1, k)) (check-kept p)
+      in-range-not-25 i u (checked j p f l m) k = ⊎-elim (λ z. omega (arith, z, k)) (λ h. omega (arith, h .1, k)) (check-numbers p)
 
       go : (b : Bool) → inRange limits ≡ b → inRange limits ≡ false
       go true i = absurd (in-range-not-25 i o c h)

@@ -14,9 +14,9 @@ use Rattle.file_sections.specs.declared.Reading.the-variants.{Good}
 use Rattle.file_sections.specs.Layout.{sectionsOf, tablesOf}
 use Rattle.demand3.specs.CheckFile.{Outcome}
 
--- what growing limits keep: acceptance, 6, and a typing refusal
-abbrev pub Kept : ℕ → Type 0
-Kept n = (n ≡ 0) ⊎ ((6 ≤ n) × (n ≤ 16))
+-- a number that lasts when limits grow: acceptance, 6, and a typing refusal
+abbrev pub Lasting : ℕ → Type 0
+Lasting n = (n ≡ 0) ⊎ ((6 ≤ n) × (n ≤ 16))
 
 -- the sections can be cut, some type has more parts than the limits a let it have, and under b no rule of types is broken
 pub record MoreParts (a b : Limits) (bytes : List ℕ) : Type 0 where
@@ -37,4 +37,4 @@ pub record Deeper (a b : Limits) (bytes : List ℕ) : Type 0 where
 pub data Moves (a b : Limits) (bytes : List ℕ) (o u : Outcome) : Type 0 where
   stays : o ≡ u → Moves a b bytes o u
   by-parts : o .number ≡ 3 → (u .number ≡ 3 → ⊥) → MoreParts a b bytes → Moves a b bytes o u
-  by-depth : o .number ≡ 5 → Kept (u .number) → Deeper a b bytes → Moves a b bytes o u
+  by-depth : o .number ≡ 5 → Lasting (u .number) → Deeper a b bytes → Moves a b bytes o u

@@ -7,14 +7,14 @@ use mathlib.Core.List.{List}
 use Prim.Native.Nat.{ℕ}
 use Rattle.oat.specs.ProgramFile.{Limits, inRange, Within}
 use Rattle.program_file.proofs.Theorem.{Bytes}
-use Rattle.demand3.specs.Growth.{Kept, Moves}
+use Rattle.demand3.specs.Growth.{Lasting, Moves}
 use Rattle.demand3.proofs.Theorem.{one-outcome}
 use Rattle.demand3.proofs.Growth.{grow, moves}
 use Rattle.typing.specs.declared.check.Answer.{Answer}
 use Rattle.typing.specs.Check.{outcomeOf, Checked}
 
 module _ {a b : Limits} {F R W R₁ W₁ R₂ W₂ : List ℕ} {r q : Answer} (range : inRange b ≡ true) (w : Within a b) (first : Checked a F R W R₁ W₁ r) (second : Checked b F R W R₂ W₂ q) where
-  pub check-grows : Kept (r .number) → outcomeOf r R₁ ≡ outcomeOf q R₂
+  pub check-grows : Lasting (r .number) → outcomeOf r R₁ ≡ outcomeOf q R₂
   check-grows k = one-outcome b F R W _ _ (grow a b range w F R W _ (first .checks) k) (second .checks)
 
   pub check-moves : inRange a ≡ true → Bytes F → Moves a b F (outcomeOf r R₁) (outcomeOf q R₂)

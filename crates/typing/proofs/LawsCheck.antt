@@ -30,7 +30,7 @@ use Rattle.type_index.specs.Index.{Indexed}
 use Rattle.bindings.specs.Bindings.{namesOf}
 use Rattle.bindings.proofs.LawsBindings.{scoped-none}
 use Rattle.demand3.specs.CheckFile.{needed, outcome, Checks, unreadable, rows-short, work-short, checked}
-use Rattle.demand3.proofs.Theorem.{fits, demand3, check-kept}
+use Rattle.demand3.proofs.Theorem.{fits, demand3, check-numbers}
 use Rattle.demand3.proofs.LawsPlaces.{refused-fits, accepted-fits}
 use Rattle.steps.specs.declared.context.Context.{Context}
 use Rattle.steps.specs.declared.context.Stepped.{Stepped}
@@ -240,7 +240,7 @@ module _ (l : Limits) (F R W : List ℕ) where
             ⊎-elim
             (λ zero. ⊎-elim (λ x. omega (arith, x, zero, t .number)) (λ x. omega (arith, x .0, zero, t .number)) low)
             (λ typed. ⊎-elim (λ x. omega (arith, x, typed .1, t .number)) (λ x. omega (arith, x .1, typed .0, t .number)) low)
-            (check-kept p)
+            (check-numbers p)
 
 -- demand 3, of any of these
 demands : {l : Limits} {F R W R′ W′ : List ℕ} {r : Answer} → Checked l F R W R′ W′ r → Demands l F R W R′ r
