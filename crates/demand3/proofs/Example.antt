@@ -10,7 +10,7 @@ use Rattle.oat.specs.Basics.{tabulate}
 use Rattle.oat.specs.Tables.{Tables, recordNumbers, numbersOf, bytesOf, fileOf}
 use Rattle.oat.specs.Types.{Ty, bool, written, firstTypes, typeOf}
 use Rattle.oat.specs.Syntax.{name}
-use Rattle.oat.specs.ProgramFile.{widest, IsFile}
+use Rattle.oat.specs.ProgramFile.{limitsOf, fromOneTo, inRange, widest, IsFile}
 use Rattle.oat.proofs.LawsLimits.{widest-in-range}
 use Rattle.typing_rules.specs.Contexts.{empty, hit, miss, find, Context, findName}
 use Rattle.typing_rules.specs.Labels.{Labels}
@@ -48,6 +48,11 @@ example-rows =
 pub example-outcome : (rows work : List ℕ) → 4 ≤ length rows → 4 ≤ length work → Checks widest exampleBytes rows work (outcome 0 1 0 (exampleRows ++ drop 4 rows))
 unfolding computed
 example-outcome rows work r w = checked widest-in-range example example-file r w
+
+-- the least limits that let it pass: types of 1 part, and 2 levels
+pub example-least : (rows work : List ℕ) → 4 ≤ length rows → 4 ≤ length work → Checks (limitsOf 1 2) exampleBytes rows work (outcome 0 1 0 (exampleRows ++ drop 4 rows))
+unfolding computed recordNumbers numbersOf bytesOf isFile inRange fromOneTo
+example-least rows work r w = checked refl example (is-file (limitsOf 1 2) example refl) r w
 
 pub unbound-file : IsFile widest (fileOf (unbound .tables)) unbound
 unfolding isFile
