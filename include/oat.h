@@ -6,7 +6,7 @@
    it may be any pointer, but not a null pointer. The parts of memory that are lent to one call do not overlap.
 
    All else that a call uses is on the stack: local arrays of at most 16,384 bytes together, and the frames of nested calls, whose
-   number no file raises past a bound. The most measured is 84,240 bytes on the stored files and 206,832 on a file made to need much,
+   number no file raises past a bound. The most measured is 92,000 bytes on the stored files and 168,080 on a file made to need much,
    so a thread that calls should have 256 KiB of stack left. No theorem bounds the stack in bytes (docs/BENCHMARKS.md); a call with too
    little fails as any function of C does. */
 #ifndef OAT_H
