@@ -1,17 +1,20 @@
--- Limits that grow (document 02, (xi)): an acceptance, a 6 and a typing refusal stay under larger limits, with the same rows (`grow`); and an
--- outcome that moves is a refusal under 3 or 5 by the smaller limits alone (`moves`). Assumes nothing.
+-- Limits that grow (document 02, (xi)): an acceptance, a 6 and a typing refusal stay under larger limits, with the same rows (`grow`),
+-- acceptances and typing refusals also in other buffers (`grow-anywhere`); and an outcome that moves is a refusal under 3 or 5 by the
+-- smaller limits alone (`moves`). Assumes nothing.
 use mathlib.Core.Path.{_≡_, refl, ap, sym, _∙_}
 use mathlib.Core.Bool.{Bool, true, false}
 use mathlib.Core.List.{List}
 use mathlib.Core.Logic.{inl, inr, ⊎-elim}
-use Prim.Native.Nat.{ℕ, _<_}
+use Prim.Native.Nat.{ℕ, _≤_, _<_}
 use native.Mathlib.Omega.{arith}
+use lib.ListN.{length, take, drop}
 use lib.Dec.{leb}
+use lib.Seq.{take-at}
 use borrow.Author.Tests.{leb-true, leb-false}
 use Rattle.oat.specs.TypeRules.{typesRight}
 use Rattle.oat.specs.Syntax.{depthDecls}
 use Rattle.oat.specs.ProgramFile.{Limits, inRange, Within, Program, IsFile}
-use Rattle.oat.proofs.LawsLimits.{more-parts, wider}
+use Rattle.oat.proofs.LawsLimits.{within-widest, more-parts, wider}
 use Rattle.file_sections.specs.declared.Sections.{Sections}
 use Rattle.file_sections.specs.declared.Reading.the-variants.{Refused, Good}
 use Rattle.file_sections.specs.Layout.{tablesOf}
@@ -19,9 +22,10 @@ use Rattle.program_file.specs.Reading.{readingWithin, readingOf}
 use Rattle.program_file.proofs.LawsReading.{reading-in-range}
 use Rattle.program_file.proofs.LawsGrowth.{Goes, same, types, trees, goes}
 use Rattle.program_file.proofs.Theorem.{Bytes, program-of, reading-of, read-tables, refused-numbers}
-use Rattle.demand3.specs.CheckFile.{Outcome, outcome, Checks, unreadable, rows-short, work-short, checked}
-use Rattle.demand3.specs.Growth.{Lasting, Deeper, Moves, stays, by-parts, by-depth}
-use Rattle.demand3.proofs.Theorem.{check-numbers, unread, one-outcome}
+use Rattle.typing_rules.specs.Check.{checkOf}
+use Rattle.demand3.specs.CheckFile.{needed, Outcome, outcome, Checks, unreadable, rows-short, work-short, checked}
+use Rattle.demand3.specs.Growth.{Lasting, SameAnswer, Deeper, Moves, stays, by-parts, by-depth}
+use Rattle.demand3.proofs.Theorem.{fits, check-numbers, check-long, unread, one-outcome}
 
 -- 25 and 1 to 5 do not last
 not-lasting : (limits : Limits) (s : List ℕ) (n : ℕ) → readingOf limits s ≡ Refused n → Lasting n → ⊥
@@ -37,6 +41,23 @@ module _ (a b : Limits) (range : inRange b ≡ true) (w : Within a b) (bytes row
   grow o (rows-short i p f l) k = rows-short range p (wider w f) l
   grow o (work-short i p f l m) k = work-short range p (wider w f) l m
   grow o (checked i p f l m) k = checked range p (wider w f) l m
+
+-- whatever other buffers are lent under b, as long as they are long enough
+module _ (a b : Limits) (range : inRange b ≡ true) (w : Within a b) (bytes rows work more-rows more-work : List ℕ) (p : Program) (f : IsFile a bytes p) where
+  pub grow-anywhere : inRange a ≡ true → needed p ≤ length rows → needed p ≤ length work → needed p ≤ length more-rows → needed p ≤ length more-work
+      → (o u : Outcome) → Checks a bytes rows work o → Checks b bytes more-rows more-work u → SameAnswer p o u
+  grow-anywhere narrow l k m n o u c d =
+      let first = one-outcome a bytes rows work o _ c (checked narrow p f l k) in
+      let second = one-outcome b bytes more-rows more-work u _ d (checked range p (wider w f) m n) in
+      let long = check-long p (fits bytes p (wider (within-widest a narrow) f)) (f .used-up) in
+      record {
+        number = ap (λ x. x .number) first ∙ sym (ap (λ x. x .number) second);
+        step = ap (λ x. x .step) first ∙ sym (ap (λ x. x .step) second);
+        place = ap (λ x. x .place) first ∙ sym (ap (λ x. x .place) second);
+        rows =
+            ap (λ x. take (needed p) (x .rows)) first ∙ take-at (checkOf p .rows) (drop (needed p) rows) (needed p) long
+            ∙ sym (ap (λ x. take (needed p) (x .rows)) second ∙ take-at (checkOf p .rows) (drop (needed p) more-rows) (needed p) long);
+      }
 
 module _ (a b : Limits) (narrow : inRange a ≡ true) (range : inRange b ≡ true) (w : Within a b) (bytes : List ℕ) (y : Bytes bytes) (rows work : List ℕ) where
   -- a file that a alone refuses under 5 is a program file under b, and deeper than a lets it be

@@ -3,7 +3,7 @@
 -- (`limits-first`, `limits-alone`). Assumes nothing.
 use mathlib.Core.Path.{_≡_, refl, ap, sym, _∙_, subst}
 use mathlib.Core.Bool.{Bool, true, false}
-use mathlib.Core.List.{List, _++_}
+use mathlib.Core.List.{List, [], _++_}
 use mathlib.Core.Logic.{_⊎_, inl, inr, ⊎-elim}
 use Prim.Native.Nat.{ℕ, _+_, _*_, _≤_}
 use native.Mathlib.Omega.{arith}
@@ -167,6 +167,17 @@ check-numbers p = go (runOf p) refl
         let is : answerOf p (runOf p) .number ≡ m = ap (λ x. answerOf p x .number) e in
         let (low, high) = refused-number p m k q e in
         inr (omega (arith, is, low), omega (arith, is, high))
+
+-- its rows have two numbers for each node
+pub check-long : (p : Program) → Fits p → sizeDecls (p .declarations) ≡ length (p .tables .nodes) → length (checkOf p .rows) ≡ needed p
+unfolding checkOf
+check-long p f used = go (runOf p) refl
+  where
+    go : (a : Ran) → runOf p ≡ a → length (answerOf p (runOf p) .rows) ≡ needed p
+    go (accepted gs k) e =
+        let d = derivable p [] f used gs k e in
+        ap (λ x. length (answerOf p x .rows)) e ∙ decls-long (rows-are-derived p f gs k e (d .labels) (d .context) (d .derives)) ∙ ap (λ n. 2 * n) used
+    go (refused m k q) e = ap (λ x. length (answerOf p x .rows)) e ∙ length-replicate (needed p) 65535
 
 -- and one alone: that of its reading, or of its program
 outcomeFor : Program → List ℕ → List ℕ → Outcome

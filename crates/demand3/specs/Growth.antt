@@ -1,22 +1,29 @@
--- Limits that grow (document 02, (xi)): which files move between two settings, of which the second is at least the first in both. Assumes
--- nothing.
+-- Limits that grow (document 02, (xi)): what stays, and which files move, between two settings of which the second is at least the first in
+-- both. Assumes nothing.
 use mathlib.Core.Path.{_≡_}
 use mathlib.Core.Bool.{true}
 use mathlib.Core.List.{List}
 use mathlib.Core.Logic.{_⊎_}
 use Prim.Native.Nat.{ℕ, _≤_, _<_}
-use lib.ListN.{length}
+use lib.ListN.{length, take}
 use Rattle.oat.specs.TypeRules.{partsAt, typesRight}
 use Rattle.oat.specs.Syntax.{depthDecls}
 use Rattle.oat.specs.ProgramFile.{Limits, Program, IsFile}
 use Rattle.file_sections.specs.declared.Sections.{Sections}
 use Rattle.file_sections.specs.declared.Reading.the-variants.{Good}
 use Rattle.file_sections.specs.Layout.{sectionsOf, tablesOf}
-use Rattle.demand3.specs.CheckFile.{Outcome}
+use Rattle.demand3.specs.CheckFile.{needed, Outcome}
 
 -- a number that lasts when limits grow: acceptance, 6, and a typing refusal
 abbrev pub Lasting : ℕ → Type 0
 Lasting n = (n ≡ 0) ⊎ ((6 ≤ n) × (n ≤ 16))
+
+-- the same number, step and place, and the same rows of the nodes
+pub record SameAnswer (p : Program) (o u : Outcome) : Type 0 where
+  pub number : o .number ≡ u .number
+  pub step : o .step ≡ u .step
+  pub place : o .place ≡ u .place
+  pub rows : take (needed p) (o .rows) ≡ take (needed p) (u .rows)
 
 -- the sections can be cut, some type has more parts than the limits a let it have, and under b no rule of types is broken
 pub record MoreParts (a b : Limits) (bytes : List ℕ) : Type 0 where
