@@ -25,6 +25,9 @@ extern "C" {
 #define OAT_MOST_NODES 4096
 #define OAT_MOST_NUMBERS (2 * OAT_MOST_NODES)
 
+/* A file of length 0 is that of a new pan: for every function it is the program of types 0 to 3 and nothing else, readable and accepted with 0 steps and no
+   node, whatever lengths `rows` and `work` have. One byte is OAT_LENGTH. */
+
 /* The two limits, `parts` and `depth` of every function: a type has at most so many parts, and nodes are at most so deep. Each is from 1 to the most named
    here, both ends in; these are document 01's limits. Under larger limits a file that was accepted stays accepted with the same rows, and 6 to 16 stay too,
    with their step and place: no file moves but those that the smaller limits alone refuse under 3 or 5. */

@@ -12,7 +12,8 @@
 static uint8_t file[OAT_MOST_BYTES + 1]; /* one byte more, so that a longer file is refused too */
 static uint16_t rows[OAT_MOST_NUMBERS], work[OAT_MOST_NUMBERS];
 
-/* How many nodes an accepted file has: the count of the last section, after those of five others with records of 4, 1, 2, 3 and 2 numbers. */
+/* How many nodes an accepted file has: the count of the last section, after those of five others with records of 4, 1, 2, 3 and 2 numbers. Of zero
+   bytes the array has nothing but zeros, so there are none. */
 static size_t node_count(void) {
     static const size_t size[5] = {4, 1, 2, 3, 2};
     size_t at = 0;

@@ -72,8 +72,11 @@ mod oat {
     }
 }
 
-/// How many nodes an accepted file has: the count of the last section, after five others with records of these sizes.
+/// How many nodes an accepted file has: the count of the last section, after five others with records of these sizes. Zero bytes have none.
 fn node_count(file: &[u8]) -> usize {
+    if file.is_empty() {
+        return 0;
+    }
     let count = |at: usize| usize::from(u16::from_le_bytes([file[at], file[at + 1]]));
     count([4, 1, 2, 3, 2].iter().fold(0, |at, size| at + 2 + 2 * size * count(at)))
 }

@@ -1,12 +1,15 @@
 #!/usr/bin/env python3
-"""Writes the input and the expected output of crates/buffer_vectors: small files of tests/vectors/check.bin, the first few of each number,
-with the peer's answers from check.txt, and what documents 01 and 02, (xi), say of the buffers under each number."""
+"""Writes the input and the expected output of crates/buffer_vectors: small files of tests/vectors/check.bin, the first few of each number, and
+zero bytes, the 44 bytes that they mean and one byte, with the peer's answers from check.txt, and what documents 01 and 02, (v) and (xi), say of
+the buffers under each number."""
 import os
 
 ROOT = os.path.join(os.path.dirname(os.path.abspath(__file__)), "..", "..")
 SIZES = (4, 1, 2, 3, 2, 4)
 MOST_NODES = 60
 FIRST, LONGEST = 2, 4  # of each number the first files; of the accepted ones those with most nodes
+FOUR_TYPES = b"\4\0" + b"".join(bytes([kind]) + bytes(7) for kind in range(4)) + bytes(10)
+ALWAYS = (b"", FOUR_TYPES, b"\4")  # chosen in any case
 
 
 def vectors():
@@ -20,8 +23,8 @@ def vectors():
 
 
 def nodes(file, number):
-    """How many nodes a readable file has; none of another counts."""
-    if 1 <= number <= 5:
+    """How many nodes a readable file has; none of another counts, and zero bytes have none."""
+    if 1 <= number <= 5 or not file:
         return 0
     at = 0
     for size in SIZES:
@@ -55,14 +58,18 @@ def chosen():
             by_number.setdefault(answer[0], []).append((file, count, answer))
     for number in sorted(by_number):
         some = [s for s in by_number[number] if s[1] > 0 or number <= 5]
-        yield from some[:FIRST]
+        taken = some[:FIRST]
         if number == 0:
-            yield from sorted(some[FIRST:], key=lambda s: -s[1])[:LONGEST]
+            taken += sorted(some[FIRST:], key=lambda s: -s[1])[:LONGEST]
+        asked = {s[0]: s for s in some if s[0] in ALWAYS}
+        yield from taken + [s for s in asked.values() if s not in taken]
 
 
 if __name__ == "__main__":
     packed, text = b"", []
-    for file, count, answer in chosen():
+    files = list(chosen())
+    assert {file for file, _, _ in files}.issuperset(ALWAYS)
+    for file, count, answer in files:
         packed += len(file).to_bytes(4, "little") + file
         text += lines(count, answer)
     folder = os.path.join(ROOT, "crates", "buffer_vectors")

@@ -9,7 +9,8 @@ library=target/staticlib/liboat_c.a
 peer=tests/peer/target/release/oat_peer
 
 # each example with a subtype question, and limits: B below A and not the other way round; C not below A; A? not below A; a type that is not
-# there; refused files; the least limits that let a file pass, one part and one level fewer, limits out of their range, also before 1
+# there; refused files; the least limits that let a file pass, one part and one level fewer, limits out of their range, also before 1; zero bytes,
+# whose types are 0 to 3, also under the least limits and under limits out of their range, and one byte
 cases() {
     cat <<'END'
 pan_levels 0 0
@@ -32,6 +33,12 @@ nested_calls 9 9 0 100
 nested_calls 4 4 201 100
 nested_calls 4 4 200 0
 cut_short 0 0 200 101
+new_pan 2 2
+new_pan 0 1
+new_pan 4 0
+new_pan 0 4 1 1
+new_pan 0 0 0 100
+one_byte 0 0
 END
 }
 

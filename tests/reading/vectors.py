@@ -1,5 +1,6 @@
 #!/usr/bin/env python3
-"""Test vectors for reading program files (document 01, numbers 1 to 5).
+"""Test vectors for reading program files (document 01, numbers 1 to 5, and
+document 02, request (v): zero bytes are types 0 to 3 and nothing else).
 
     vectors.py OUT       write OUT/stdin and OUT/stdout
     vectors.py --list    print "index name expected", one line per case
@@ -294,24 +295,43 @@ def after(index):
 
 
 def documented(c):
-    """What document 01 shows itself."""
+    """What document 01 shows itself, with (v) for zero bytes and one."""
     assert len(SIXTY) == 60
     c.good("document 01: the 60-byte file", SIXTY)
     c.good("document 01: types 0 to 3 and nothing else", TYPES_ONLY)
-    c.bad(1, "document 01: no bytes", b"")
+    c.good("document 02, (v): zero bytes", b"")
+    c.bad(1, "document 02, (v): one byte", b"\4")
     c.bad(2, "document 01: types 513, nothing more", word(513))
     c.bad(3, "document 01: type 0 of kind 1", program(types=[(1, 0, 0, 0)] + base()[1:]))
     c.bad(4, "document 01: field of type 3", program(fields=[(0, 3)], structs=[(0, 0, 1)]))
     c.bad(5, "document 01: kind 99", program(nodes=[(99, 0, 0, 0)]))
 
 
+def nearly_empty(c):
+    """Zero bytes alone mean types 0 to 3 without holding them: every one byte, counts of
+    types with no byte or one behind, and the 44 bytes cut or with a byte more are refused."""
+    for value in range(256):
+        c.bad(1, "a single byte %d" % value, bytes([value]))
+    for count in (0, 1, 3, 4, 5, 44, 255, 256, 511, 512):
+        c.bad(1, "two bytes, a count of %d types" % count, word(count))
+        c.bad(1, "three bytes, a count of %d types and a byte" % count, word(count) + b"\0")
+    for count in (513, 514, 1024, 65535):
+        c.bad(2, "two bytes, a count of %d types" % count, word(count))
+        c.bad(2, "three bytes, a count of %d types and a byte" % count, word(count) + b"\0")
+    assert len(TYPES_ONLY) == 44
+    for size in range(1, 44):
+        c.bad(1, "types 0 to 3: first %d bytes" % size, TYPES_ONLY[:size])
+    c.good("types 0 to 3: all 44 bytes", TYPES_ONLY)
+    c.bad(1, "types 0 to 3: 45 bytes", TYPES_ONLY + b"\4")
+
+
 def length(c):
     for size in (1, 2, 3, 10, 11):
-        c.bad(1, "zero bytes, %d of them" % size, bytes(size))
+        c.bad(1, "bytes 0, %d of them" % size, bytes(size))
     c.bad(3, "F1: six zero counts", bytes(12))
     c.bad(1, "six zero counts and 1 byte", bytes(13))
     c.bad(1, "six zero counts and 2 bytes", bytes(14))
-    c.bad(1, "45,069 zero bytes", bytes(45069))
+    c.bad(1, "45,069 bytes 0", bytes(45069))
     c.bad(1, "one byte 255", b"\xff")
     for size in (2, 3, 12):
         c.bad(2, "bytes 255, %d of them" % size, b"\xff" * size)
@@ -1476,7 +1496,7 @@ def all_cases():
                    fields, structs, builtins, order,
                    roles, child_counts, function_parameters, for_statements,
                    operands, type_operands, whole_tree, depth,
-                   readable_programs, largest):
+                   readable_programs, largest, nearly_empty):
         family(c)
     return c.items
 

@@ -13,7 +13,7 @@ use lib.Seq.{take-at}
 use borrow.Author.Tests.{leb-true, leb-false}
 use Rattle.oat.specs.TypeRules.{typesRight}
 use Rattle.oat.specs.Syntax.{depthDecls}
-use Rattle.oat.specs.ProgramFile.{Limits, inRange, Within, Program, IsFile}
+use Rattle.oat.specs.ProgramFile.{Limits, inRange, Within, Program, meant, IsFile}
 use Rattle.oat.proofs.LawsLimits.{within-widest, more-parts, wider}
 use Rattle.file_sections.specs.declared.Sections.{Sections}
 use Rattle.file_sections.specs.declared.Reading.the-variants.{Refused, Good}
@@ -61,7 +61,7 @@ module _ (a b : Limits) (range : inRange b ≡ true) (w : Within a b) (bytes row
 
 module _ (a b : Limits) (narrow : inRange a ≡ true) (range : inRange b ≡ true) (w : Within a b) (bytes : List ℕ) (y : Bytes bytes) (rows work : List ℕ) where
   -- a file that a alone refuses under 5 is a program file under b, and deeper than a lets it be
-  deeper : (n : ℕ) → readingWithin a bytes ≡ Refused n → (S : Sections) → typesRight (a .parts) (tablesOf bytes S) ≡ true → readingWithin b bytes ≡ Good S → Deeper a b bytes
+  deeper : (n : ℕ) → readingWithin a (meant bytes) ≡ Refused n → (S : Sections) → typesRight (a .parts) (tablesOf (meant bytes) S) ≡ true → readingWithin b (meant bytes) ≡ Good S → Deeper a b bytes
   deeper n e S ea good =
       let (p, f) = program-of b bytes S y good in
       record { program = p; file = f; more = go p f (leb (depthDecls (p .declarations)) (a .depth)) refl }
@@ -69,7 +69,7 @@ module _ (a b : Limits) (narrow : inRange a ≡ true) (range : inRange b ≡ tru
       go : (p : Program) → IsFile b bytes p → (t : Bool) → leb (depthDecls (p .declarations)) (a .depth) ≡ t → a .depth < depthDecls (p .declarations)
       go p f false h = leb-false _ _ h
       go p f true h =
-          let is : p .tables ≡ tablesOf bytes S = read-tables b bytes S p good f in
+          let is : p .tables ≡ tablesOf (meant bytes) S = read-tables b bytes S p good f in
           let g : IsFile a bytes p = record {
             layout = f .layout;
             counts = f .counts;
@@ -90,16 +90,16 @@ module _ (a b : Limits) (narrow : inRange a ≡ true) (range : inRange b ≡ tru
   lasting-under S good u (checked i p f l k) = ⊎-elim inl (λ h. inr (omega (arith, h .0), h .1)) (check-numbers p)
 
   -- 3 is the number of no outcome but that of a reading
-  not-three : (readingWithin b bytes ≡ Refused 3 → ⊥) → (u : Outcome) → Checks b bytes rows work u → u .number ≡ 3 → ⊥
+  not-three : (readingWithin b (meant bytes) ≡ Refused 3 → ⊥) → (u : Outcome) → Checks b bytes rows work u → u .number ≡ 3 → ⊥
   not-three none u (unreadable n e) h = none (sym (reading-in-range b bytes range) ∙ e ∙ ap Refused h)
   not-three none u (rows-short i p f l) h = omega (arith, h)
   not-three none u (work-short i p f l k) h = omega (arith, h)
   not-three none u (checked i p f l k) h = ⊎-elim (λ z. omega (arith, z, h)) (λ m. omega (arith, m .0, h)) (check-numbers p)
 
-  unread-moves : (n : ℕ) → readingWithin a bytes ≡ Refused n → Goes a b bytes n → (u : Outcome) → Checks b bytes rows work u → Moves a b bytes (outcome n 0 0 rows) u
+  unread-moves : (n : ℕ) → readingWithin a (meant bytes) ≡ Refused n → Goes a b (meant bytes) n → (u : Outcome) → Checks b bytes rows work u → Moves a b bytes (outcome n 0 0 rows) u
   unread-moves n e (same second) u d = stays (sym (unread b bytes rows work n u (reading-in-range b bytes range ∙ second) d))
   unread-moves n e (types three S h ea eb none) u d =
-      let (i, there, more) = more-parts (a .parts) (b .parts) (tablesOf bytes S) eb ea in
+      let (i, there, more) = more-parts (a .parts) (b .parts) (tablesOf (meant bytes) S) eb ea in
       by-parts three (not-three none u d) (record { sections = S; cut = h; type = i; there = there; more = more; right = eb })
   unread-moves n e (trees five S ea good) u d =
       by-depth five (lasting-under S (reading-in-range b bytes range ∙ good) u d) (deeper n e S ea good)
@@ -107,7 +107,7 @@ module _ (a b : Limits) (narrow : inRange a ≡ true) (range : inRange b ≡ tru
   pub moves : (o u : Outcome) → Checks a bytes rows work o → Checks b bytes rows work u → Moves a b bytes o u
   moves o u (unreadable n e) d =
       let within = sym (reading-in-range a bytes narrow) ∙ e in
-      unread-moves n within (goes a b w bytes n within) u d
+      unread-moves n within (goes a b w (meant bytes) n within) u d
   moves o u (rows-short i p f l) d = stays (one-outcome b bytes rows work _ u (rows-short range p (wider w f) l) d)
   moves o u (work-short i p f l k) d = stays (one-outcome b bytes rows work _ u (work-short range p (wider w f) l k) d)
   moves o u (checked i p f l k) d = stays (one-outcome b bytes rows work _ u (checked range p (wider w f) l k) d)

@@ -1,3 +1,4 @@
+pub mod Blank
 pub mod Example
 pub mod Growth
 pub mod LawsPlaces

@@ -3,10 +3,10 @@
 use mathlib.Core.Bool.{true}
 use mathlib.Core.List.{List, [], _∷_}
 use Prim.Native.Nat.{ℕ, zero, suc}
-use Rattle.oat.specs.Tables.{Tables, TypeRecord, NodeRecord}
+use Rattle.oat.specs.Tables.{Tables, NodeRecord}
 use Rattle.oat.specs.Types.{Ty, bool}
 use Rattle.oat.specs.Syntax.{literal, truth, name, global}
-use Rattle.oat.specs.ProgramFile.{Program}
+use Rattle.oat.specs.ProgramFile.{Program, baseTypes}
 use Rattle.typing_rules.specs.Contexts.{empty, Context}
 use Rattle.typing_rules.specs.Labels.{gives, Labels, unlabelled}
 use Rattle.typing_rules.specs.Steps.{addName, emptyContext}
@@ -28,13 +28,10 @@ exampleBytes =
     ∷ 11 ∷ 0 ∷ 0 ∷ 0 ∷ 0 ∷ 0 ∷ 0 ∷ 0
     ∷ []
 
-abbrev pub base : ℕ → TypeRecord
-base k = record { kind = k; a = 0; b = 0; c = 0 }
-
 -- a global, named 5, over the node of its value
 abbrev pub exampleTables : NodeRecord → Tables
 exampleTables value = record {
-  types = base 0 ∷ base 1 ∷ base 2 ∷ base 3 ∷ [];
+  types = baseTypes;
   list = [];
   fields = [];
   structs = [];

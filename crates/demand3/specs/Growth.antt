@@ -8,7 +8,7 @@ use Prim.Native.Nat.{ℕ, _≤_, _<_}
 use lib.ListN.{length, take}
 use Rattle.oat.specs.TypeRules.{partsAt, typesRight}
 use Rattle.oat.specs.Syntax.{depthDecls}
-use Rattle.oat.specs.ProgramFile.{Limits, Program, IsFile}
+use Rattle.oat.specs.ProgramFile.{Limits, Program, meant, IsFile}
 use Rattle.file_sections.specs.declared.Sections.{Sections}
 use Rattle.file_sections.specs.declared.Reading.the-variants.{Good}
 use Rattle.file_sections.specs.Layout.{sectionsOf, tablesOf}
@@ -28,11 +28,11 @@ pub record SameAnswer (p : Program) (o u : Outcome) : Type 0 where
 -- the sections can be cut, some type has more parts than the limits a let it have, and under b no rule of types is broken
 pub record MoreParts (a b : Limits) (bytes : List ℕ) : Type 0 where
   pub sections : Sections
-  pub cut : sectionsOf bytes ≡ Good sections
+  pub cut : sectionsOf (meant bytes) ≡ Good sections
   pub type : ℕ
-  pub there : type < length (tablesOf bytes sections .types)
-  pub more : a .parts < partsAt (tablesOf bytes sections) type
-  pub right : typesRight (b .parts) (tablesOf bytes sections) ≡ true
+  pub there : type < length (tablesOf (meant bytes) sections .types)
+  pub more : a .parts < partsAt (tablesOf (meant bytes) sections) type
+  pub right : typesRight (b .parts) (tablesOf (meant bytes) sections) ≡ true
 
 -- the bytes are a program file under b, and its trees are deeper than the limits a let them be
 pub record Deeper (a b : Limits) (bytes : List ℕ) : Type 0 where

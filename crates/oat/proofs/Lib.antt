@@ -1,5 +1,6 @@
 pub mod LawsBasics
 pub mod LawsBelow
+pub mod LawsBlank
 pub mod LawsFormed
 pub mod LawsLimits
 pub mod LawsNodes

@@ -1,12 +1,12 @@
--- Document 01, 'The program file', and document 02, (xi), its limits: what it is for bytes to be a program file. A file can be read exactly
--- when this holds of its bytes and some program (`program_file`, proofs/Theorem.antt). Assumes nothing.
+-- Document 01, 'The program file', and document 02, (xi), its limits, and (v), what zero bytes mean: what it is for bytes to be a program
+-- file. A file can be read exactly when this holds of its bytes and some program (`program_file`, proofs/Theorem.antt). Assumes nothing.
 use mathlib.Core.Path.{_≡_}
 use mathlib.Core.Bool.{Bool, true, _&&_}
-use mathlib.Core.List.{List}
+use mathlib.Core.List.{List, [], _∷_}
 use Prim.Native.Nat.{ℕ, _≤_}
 use lib.ListN.{length}
 use lib.Dec.{leb}
-use Rattle.oat.specs.Tables.{Tables, fileOf}
+use Rattle.oat.specs.Tables.{TypeRecord, Tables, fileOf}
 use Rattle.oat.specs.TypeRules.{typesRight}
 use Rattle.oat.specs.TableRules.{tablesRight}
 use Rattle.oat.specs.Syntax.{Decl, sizeDecls, depthDecls}
@@ -42,6 +42,29 @@ pub record Program : Type 0 where
   pub tables : Tables
   pub declarations : List Decl
 
+-- types 0 to 3: int, bool, string and void
+abbrev pub baseTypes : List TypeRecord
+baseTypes = base 0 ∷ base 1 ∷ base 2 ∷ base 3 ∷ []
+  where
+    base : ℕ → TypeRecord
+    base k = record { kind = k; a = 0; b = 0; c = 0 }
+
+-- types 0 to 3 and nothing else
+abbrev pub blankTables : Tables
+blankTables = record { types = baseTypes; list = []; fields = []; structs = []; builtIns = []; nodes = [] }
+
+abbrev pub blankProgram : Program
+blankProgram = record { tables = blankTables; declarations = [] }
+
+-- the blank file: the 44 bytes which hold types 0 to 3 and nothing else
+abbrev pub blankFile : List ℕ
+blankFile = fileOf blankTables
+
+-- the bytes that are meant: zero bytes mean the blank file, all others themselves
+unfoldable pub meant : List ℕ → List ℕ
+meant [] = blankFile
+meant (b ∷ bytes) = b ∷ bytes
+
 -- each section has at most this many records
 pub record Counts (T : Tables) : Type 0 where
   pub types : length (T .types) ≤ 512
@@ -51,10 +74,10 @@ pub record Counts (T : Tables) : Type 0 where
   pub builtIns : length (T .builtIns) ≤ 128
   pub nodes : length (T .nodes) ≤ 4096
 
--- the bytes are a program file, that of p: the sections stand end to end, every record keeps its rule, and the trees of the
--- declarations stand from node 0 on, use up the nodes and keep to the depth
+-- the bytes are a program file, that of p: in the bytes that are meant the sections stand end to end, every record keeps its rule, and the
+-- trees of the declarations stand from node 0 on, use up the nodes and keep to the depth
 pub record IsFile (limits : Limits) (bytes : List ℕ) (p : Program) : Type 0 where
-  pub layout : bytes ≡ fileOf (p .tables)
+  pub layout : meant bytes ≡ fileOf (p .tables)
   pub counts : Counts (p .tables)
   pub types : typesRight (limits .parts) (p .tables) ≡ true
   pub tables : tablesRight (p .tables) ≡ true

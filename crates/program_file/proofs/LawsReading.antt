@@ -1,5 +1,5 @@
 -- The ways through a reading, the numbers that it refuses under, and 25 before them. Assumes nothing.
-use mathlib.Core.Path.{_≡_, refl, sym, _∙_}
+use mathlib.Core.Path.{_≡_, refl, ap, sym, _∙_}
 use mathlib.Core.Bool.{Bool, true, false, not}
 use mathlib.Core.List.{List}
 use Prim.Native.Nat.{ℕ, _+_, _*_, _≤_, _<_}
@@ -10,7 +10,8 @@ use borrow.Author.Tests.{le-leb, lt-leb, not-true, not-false}
 use Rattle.oat.specs.Basics.{pick}
 use Rattle.oat.specs.TypeRules.{typesRight}
 use Rattle.oat.specs.TableRules.{tablesRight}
-use Rattle.oat.specs.ProgramFile.{Limits, limitsOf, fromOneTo, inRange}
+use Rattle.oat.specs.ProgramFile.{Limits, limitsOf, fromOneTo, inRange, blankFile, meant}
+use Rattle.oat.proofs.LawsBlank.{blank-meant, there-meant}
 use Rattle.oat.proofs.LawsLimits.{in-range}
 use Rattle.file_sections.specs.declared.Sections.{Sections}
 use Rattle.file_sections.specs.declared.Reading.{Reading}
@@ -116,15 +117,15 @@ module _ (limits : Limits) (s : List ℕ) where
   unfolding readingOf
   reading-out-of-range e = rw e
 
-  pub reading-in-range : inRange limits ≡ true → readingOf limits s ≡ readingWithin limits s
+  pub reading-in-range : inRange limits ≡ true → readingOf limits s ≡ readingWithin limits (meant s)
   unfolding readingOf
   reading-in-range e = rw e
 
   -- a file that is read is read within limits in range
-  pub good-in-range : (S : Sections) → readingOf limits s ≡ Good S → (inRange limits ≡ true) × (readingWithin limits s ≡ Good S)
+  pub good-in-range : (S : Sections) → readingOf limits s ≡ Good S → (inRange limits ≡ true) × (readingWithin limits (meant s) ≡ Good S)
   good-in-range S e = go (inRange limits) refl
     where
-      go : (b : Bool) → inRange limits ≡ b → (inRange limits ≡ true) × (readingWithin limits s ≡ Good S)
+      go : (b : Bool) → inRange limits ≡ b → (inRange limits ≡ true) × (readingWithin limits (meant s) ≡ Good S)
       go true r = (r, sym (reading-in-range r) ∙ e)
       go false r = let out = reading-out-of-range r in absurd (let z : _≡_ {A = ℕ} 0 1 = cc in omega arith)
 
@@ -153,5 +154,13 @@ module _ (l : Limits) (s : List ℕ) (b : Bool) (e : b ≡ inRange l) where
   pub tested-out : not b ≡ true → Refused 25 ≡ readingOf l s
   tested-out h = sym (reading-out-of-range l s (sym e ∙ not-true b h))
 
-  pub tested-in : (r : Reading) → not b ≡ false → r ≡ readingWithin l s → r ≡ readingOf l s
-  tested-in r h c = c ∙ sym (reading-in-range l s (sym e ∙ not-false b h))
+  module _ (h : not b ≡ false) (r : Reading) where
+    pub tested-in : r ≡ readingWithin l (meant s) → r ≡ readingOf l s
+    tested-in c = c ∙ sym (reading-in-range l s (sym e ∙ not-false b h))
+
+    -- zero bytes, and bytes that are there
+    pub read-blank : (t : List ℕ) → length s ≡ 0 → t ≡ blankFile → r ≡ readingWithin l t → r ≡ readingOf l s
+    read-blank t none is c = tested-in (c ∙ ap (readingWithin l) (blank-meant s none is))
+
+    pub read-there : (length s ≡ 0 → ⊥) → r ≡ readingWithin l s → r ≡ readingOf l s
+    read-there some c = tested-in (c ∙ ap (readingWithin l) (there-meant s some))

@@ -1,3 +1,4 @@
+pub mod Blank
 pub mod LawsGrowth
 pub mod LawsReading
 pub mod Theorem

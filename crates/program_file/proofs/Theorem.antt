@@ -2,27 +2,30 @@
 -- (`readable`). Its tables are those that the readers of records give (`read-tables`). A refusal is under 1 to 5 (`refused-from-1-to-5`).
 -- So the answer has demand 1 (`demand1`, `with-demand1`). Larger limits read what smaller ones read (`read-grows`). Assumes nothing.
 use mathlib.Core.Path.{_≡_, refl, ap, sym, _∙_, subst}
-use mathlib.Core.Bool.{Bool, true, false}
-use mathlib.Core.List.{List}
+use mathlib.Core.Bool.{Bool, true, false, _&&_}
+use mathlib.Core.List.{List, [], _∷_}
 use mathlib.Core.Logic.{_↔_, _⊎_, inl, inr}
-use Prim.Native.Nat.{ℕ, _≤_, _<_}
+use Prim.Native.Nat.{ℕ, zero, suc, _≤_, _<_}
 use native.Mathlib.Omega.{arith}
 use mir.Syntax.{w8}
 use mir.Val.{Fits}
 use lib.ListN.{length, getD}
+use lib.Dec.{ltb}
+use borrow.Author.Tests.{ltb-true}
 use Rattle.oat.specs.Basics.{pick}
-use Rattle.oat.specs.Tables.{Tables, fileOf}
+use Rattle.oat.specs.Tables.{Tables, recordNumbers, numbersOf, bytesOf, fileOf}
 use Rattle.oat.specs.TypeRules.{typesRight}
 use Rattle.oat.specs.TableRules.{tablesRight}
 use Rattle.oat.specs.Syntax.{Decl, sizeDecls}
 use Rattle.oat.specs.Nodes.{DeclsStand}
-use Rattle.oat.specs.ProgramFile.{Limits, inRange, Within, Program, Counts, IsFile}
+use Rattle.oat.specs.ProgramFile.{Limits, inRange, Within, Program, blankFile, meant, Counts, IsFile}
+use Rattle.oat.proofs.LawsBasics.{and-parts}
 use Rattle.oat.proofs.LawsLimits.{in-range, types-wider, wider}
 use Rattle.oat.proofs.LawsNodes.{same-trees}
 use Rattle.file_sections.specs.declared.Sections.{Sections}
 use Rattle.file_sections.specs.declared.Reading.{Reading}
 use Rattle.file_sections.specs.declared.Reading.the-variants.{Refused, Good}
-use Rattle.file_sections.specs.Layout.{Laid, GoodTables, thenReading, sectionsOf, tablesOf}
+use Rattle.file_sections.specs.Layout.{Laid, GoodTables, sectionOf, thenReading, frontOf, sectionsOf, tablesOf}
 use Rattle.file_sections.proofs.LawsFile.{all-stood, file-is, sectionsFor, file-accepted}
 use Rattle.file_sections.proofs.LawsRecords.{types-long, list-long, fields-long, structs-long, built-ins-long, nodes-long}
 use Rattle.node_tree.specs.Tree.{treesRight}
@@ -38,6 +41,21 @@ pub record Bytes (s : List ℕ) : Type 0 where
 -- a slice of bytes does
 pub bytes-of : (s : List ℕ) → ((i : ℕ) → Fits w8 (getD s i 0)) → Bytes s
 bytes-of s h = record { each = λ i. omega (arith, h i) }
+
+-- and so do the bytes that they mean
+abbrev lowBytes : List ℕ → Bool
+lowBytes [] = true
+lowBytes (b ∷ s) = ltb b 256 && lowBytes s
+
+low-bytes : (s : List ℕ) → lowBytes s ≡ true → (i : ℕ) → getD s i 0 < 256
+low-bytes [] e i = omega arith
+low-bytes (b ∷ s) e zero = ltb-true b 256 (and-parts (ltb b 256) (lowBytes s) e .0)
+low-bytes (b ∷ s) e (suc i) = low-bytes s (and-parts (ltb b 256) (lowBytes s) e .1) i
+
+pub meant-bytes : (s : List ℕ) → Bytes s → Bytes (meant s)
+unfolding recordNumbers numbersOf bytesOf meant
+meant-bytes [] b = record { each = low-bytes blankFile refl }
+meant-bytes (x ∷ s) b = b
 
 -- what an accepted reading says
 pub record Accepted (limits : Limits) (s : List ℕ) (S : Sections) : Type 0 where
@@ -72,11 +90,15 @@ unfolding readingWithin
 accepts limits s S a = rw (← a .sections, a .types, a .tables, a .trees)
 
 -- a file that was read has its sections laid and its tables right
-pub good-tables : (limits : Limits) (s : List ℕ) (r : Reading) (S : Sections) → r ≡ readingOf limits s → r ≡ Good S → GoodTables s S
+pub within-tables : (limits : Limits) (s : List ℕ) (S : Sections) → limits .parts ≤ 200 → readingWithin limits s ≡ Good S → GoodTables s S
+within-tables limits s S few e =
+    let a = accepted limits s S e in
+    record { laid = all-stood s S (a .sections) .laid; types = types-wider (limits .parts) 200 (tablesOf s S) few (a .types); tables = a .tables }
+
+pub good-tables : (limits : Limits) (s : List ℕ) (r : Reading) (S : Sections) → r ≡ readingOf limits s → r ≡ Good S → GoodTables (meant s) S
 good-tables limits s r S e h =
     let (range, good) = good-in-range limits s S (sym e ∙ h) in
-    let a = accepted limits s S good in
-    record { laid = all-stood s S (a .sections) .laid; types = types-wider (limits .parts) 200 (tablesOf s S) (in-range limits range .parts) (a .types); tables = a .tables }
+    within-tables limits (meant s) S (in-range limits range .parts) good
 
 counts : (s : List ℕ) (S : Sections) → Laid s S → Counts (tablesOf s S)
 counts s S l = record {
@@ -89,15 +111,15 @@ counts s S l = record {
 }
 
 -- an accepted file is the file of a program
-pub program-of : (limits : Limits) (s : List ℕ) (S : Sections) → Bytes s → readingWithin limits s ≡ Good S → (p : Program) × IsFile limits s p
+pub program-of : (limits : Limits) (s : List ℕ) (S : Sections) → Bytes s → readingWithin limits (meant s) ≡ Good S → (p : Program) × IsFile limits s p
 program-of limits s S b e =
-    let a = accepted limits s S e in
-    let w = all-stood s S (a .sections) in
-    let (ds, stand, used, deep) = trees-found (limits .depth) (tablesOf s S) (a .trees) in (
-      record { tables = tablesOf s S; declarations = ds },
+    let a = accepted limits (meant s) S e in
+    let w = all-stood (meant s) S (a .sections) in
+    let (ds, stand, used, deep) = trees-found (limits .depth) (tablesOf (meant s) S) (a .trees) in (
+      record { tables = tablesOf (meant s) S; declarations = ds },
       record {
-        layout = file-is s S (b .each) w;
-        counts = counts s S (w .laid);
+        layout = file-is (meant s) S (meant-bytes s b .each) w;
+        counts = counts (meant s) S (w .laid);
         types = a .types;
         tables = a .tables;
         stand = stand;
@@ -107,7 +129,7 @@ program-of limits s S b e =
     )
 
 -- the file of a program is accepted, with the program's tables
-pub reading-of : (limits : Limits) (s : List ℕ) (p : Program) → IsFile limits s p → (readingWithin limits s ≡ Good (sectionsFor (p .tables))) × (tablesOf s (sectionsFor (p .tables)) ≡ p .tables)
+pub reading-of : (limits : Limits) (s : List ℕ) (p : Program) → IsFile limits s p → (readingWithin limits (meant s) ≡ Good (sectionsFor (p .tables))) × (tablesOf (meant s) (sectionsFor (p .tables)) ≡ p .tables)
 reading-of limits s p f =
     let T = p .tables in
     let (good, back) = file-accepted T (f .counts) in
@@ -118,11 +140,22 @@ reading-of limits s p f =
     (accepts limits (fileOf T) (sectionsFor T) a, back)
 
 -- the tables of a program are those that the readers of records give
-pub read-tables : (limits : Limits) (s : List ℕ) (S : Sections) (p : Program) → readingWithin limits s ≡ Good S → IsFile limits s p → p .tables ≡ tablesOf s S
+pub read-tables : (limits : Limits) (s : List ℕ) (S : Sections) (p : Program) → readingWithin limits (meant s) ≡ Good S → IsFile limits s p → p .tables ≡ tablesOf (meant s) S
 read-tables limits s S p e f =
     let (good, back) = reading-of limits s p f in
     let same : sectionsFor (p .tables) ≡ S = cc in
-    sym back ∙ ap (tablesOf s) same
+    sym back ∙ ap (tablesOf (meant s)) same
+
+-- and bytes that are read are there, so they mean themselves
+read-meant : (limits : Limits) (s : List ℕ) (S : Sections) → readingWithin limits s ≡ Good S → meant s ≡ s
+unfolding meant sectionOf frontOf sectionsOf readingWithin
+read-meant limits [] S e = absurd (let z : _≡_ {A = ℕ} 0 1 = cc in omega arith)
+read-meant limits (b ∷ s) S e = refl
+
+pub tables-there : (limits : Limits) (s : List ℕ) (S : Sections) (p : Program) → readingWithin limits s ≡ Good S → IsFile limits s p → p .tables ≡ tablesOf s S
+tables-there limits s S p e f =
+    let is = read-meant limits s S e in
+    read-tables limits s S p (ap (readingWithin limits) is ∙ e) f ∙ ap (λ x. tablesOf x S) is
 
 same-program : (p q : Program) → p .tables ≡ q .tables → p .declarations ≡ q .declarations → p ≡ q
 same-program p q t d = λ i. record { tables = t i; declarations = d i }
@@ -148,7 +181,7 @@ readable limits range s b = (
 
 -- A file that is not read then is refused under 1 to 5.
 pub refused-from-1-to-5 : (limits : Limits) → inRange limits ≡ true → (s : List ℕ) (n : ℕ) → readingOf limits s ≡ Refused n → (1 ≤ n) × (n ≤ 5)
-refused-from-1-to-5 limits range s n e = low-number (low-reading limits s) (sym (reading-in-range limits s range) ∙ e)
+refused-from-1-to-5 limits range s n e = low-number (low-reading limits (meant s)) (sym (reading-in-range limits s range) ∙ e)
 
 -- and with limits in range or not, a refusal is under 25 or under 1 to 5
 pub refused-numbers : (limits : Limits) (s : List ℕ) (n : ℕ) → readingOf limits s ≡ Refused n → (n ≡ 25) ⊎ ((1 ≤ n) × (n ≤ 5))

@@ -1,5 +1,5 @@
--- Document 01, 'Rows and answers': 1 and 2 by section, leftover bytes 1, then 3, 4, 5; before them 25 (document 02, (xi)); and demand 1, on the
--- number of an answer. Assumes nothing.
+-- Document 01, 'Rows and answers': 1 and 2 by section, leftover bytes 1, then 3, 4, 5; before them 25 (document 02, (xi)); zero bytes are read
+-- as the bytes that they mean (document 02, (v)); and demand 1, on the number of an answer. Assumes nothing.
 use mathlib.Core.Path.{_≡_}
 use mathlib.Core.Bool.{true, false}
 use mathlib.Core.List.{List}
@@ -8,7 +8,7 @@ use Prim.Native.Nat.{ℕ, _≤_}
 use Rattle.oat.specs.Basics.{pick}
 use Rattle.oat.specs.TypeRules.{typesRight}
 use Rattle.oat.specs.TableRules.{tablesRight}
-use Rattle.oat.specs.ProgramFile.{Limits, limitsOf, inRange, Program, IsFile}
+use Rattle.oat.specs.ProgramFile.{Limits, limitsOf, inRange, Program, meant, IsFile}
 use Rattle.file_sections.specs.declared.Sections.{Sections}
 use Rattle.file_sections.specs.declared.Reading.{Reading}
 use Rattle.file_sections.specs.declared.Reading.the-variants.{Refused, Good}
@@ -20,7 +20,7 @@ use Rattle.program_file.specs.declared.Limits.{Limits as Given}
 abbrev pub settingOf : Given → Limits
 settingOf limits = limitsOf (limits .parts) (limits .depth)
 
--- the reading of a file within limits
+-- the reading of bytes that are there, within limits
 unfoldable pub readingWithin : Limits → List ℕ → Reading
 readingWithin limits s =
     thenReading (sectionsOf s) λ S.
@@ -30,9 +30,9 @@ readingWithin limits s =
     (Refused 4))
     (Refused 3)
 
--- the reading of a file: a limit out of its range comes before everything else
+-- the reading of a file: a limit out of its range comes before everything else; then the bytes that are meant are read
 unfoldable pub readingOf : Limits → List ℕ → Reading
-readingOf limits s = pick (inRange limits) (readingWithin limits s) (Refused 25)
+readingOf limits s = pick (inRange limits) (readingWithin limits (meant s)) (Refused 25)
 
 -- document 01's number for a reading: 0 where the file is readable
 abbrev pub numberOf : Reading → ℕ
@@ -55,7 +55,7 @@ pub record Reads (limits : Limits) (F : List ℕ) (n : ℕ) : Type 0 where
   -- they are the file of one program alone
   pub one-program : (p q : Program) → IsFile limits F p → IsFile limits F q → p ≡ q
 
--- the same of an answer, whose sections give the tables of the program
+-- the same of an answer, whose sections give the tables of the program, in the bytes that are meant
 pub record ReadsTables (limits : Limits) (F : List ℕ) (r : Reading) : Type 0 where
   pub reads : Reads limits F (numberOf r)
-  pub tables : (S : Sections) → r ≡ Good S → (p : Program) → IsFile limits F p → p .tables ≡ tablesOf F S
+  pub tables : (S : Sections) → r ≡ Good S → (p : Program) → IsFile limits F p → p .tables ≡ tablesOf (meant F) S

@@ -1,9 +1,9 @@
 // Reads a program file (document 01, 'The program file'): the bytes are refused under 1 to 5, or they are the file of one
-// program. Before them comes 25, a limit out of its range (document 02, (xi)).
+// program. Before them comes 25, a limit out of its range (document 02, (xi)). Zero bytes mean the blank file (document 02, (v)).
 use file_sections::Reading;
 ghost use mathlib.Core.Path.{_≡_};
 ghost use Prim.Native.Nat.{_≤_};
-ghost use Rattle.oat.specs.ProgramFile.{fromOneTo, inRange};
+ghost use Rattle.oat.specs.ProgramFile.{fromOneTo, inRange, blankFile};
 ghost use Rattle.program_file.specs.Reading.{settingOf, readingWithin, readingOf, numberOf, ReadsTables};
 
 // The two limits: how many parts a type has at most, from 1 to 200, and how deep nodes are at most, from 1 to 100.
@@ -36,7 +36,25 @@ fn in_range(limits: Limits) -> bool
     from_one_to(200, limits.parts) && from_one_to(100, limits.depth)
 }
 
-// Reads a file; a limit out of its range is refused under 25, before everything else.
+// The blank file: types 0 to 3 and nothing else.
+const BLANK: [u8; 44] = [
+    4, 0, //
+    0, 0, 0, 0, 0, 0, 0, 0, //
+    1, 0, 0, 0, 0, 0, 0, 0, //
+    2, 0, 0, 0, 0, 0, 0, 0, //
+    3, 0, 0, 0, 0, 0, 0, 0, //
+    0, 0, 0, 0, 0, 0, 0, 0, 0, 0,
+];
+
+// The blank file, which zero bytes mean.
+pub fn blank_file() -> [u8; 44]
+    ensures { λ r. ⌜ r ≡ blankFile ⌝ }
+{
+    BLANK
+}
+
+// Reads a file; a limit out of its range is refused under 25, before everything else. The sections say where the records lie in the bytes that
+// are meant: for zero bytes a caller reads them from `blank_file()`.
 pub fn read(file: &[u8], limits: Limits) -> Reading
     ensures { λ r. ⌜ r ≡ readingOf (settingOf limits) (now (file .entry)) ⌝ }
     ensures { λ r. ⌜ ReadsTables (settingOf limits) (now (file .entry)) r ⌝ }
@@ -44,10 +62,14 @@ pub fn read(file: &[u8], limits: Limits) -> Reading
     if !in_range(limits) {
         return Reading::Refused(25);
     }
+    if file.len() == 0 {
+        let blank = blank_file();
+        return read_within(&blank, limits);
+    }
     read_within(file, limits)
 }
 
-// Reads a file within the limits.
+// Reads bytes that are there, within the limits.
 fn read_within(file: &[u8], limits: Limits) -> Reading
     requires { ⌜ limits .parts ≤ 200 ⌝ }
     ensures { λ r. ⌜ r ≡ readingWithin (settingOf limits) (now (file .entry)) ⌝ }

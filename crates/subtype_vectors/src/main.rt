@@ -1,6 +1,6 @@
 // Reads packed files from standard input, each as 4 length bytes, low first, and then the file, and asks for every pair of its types
 // whether the first is below the second. It prints for each file a line for each type, with 1 for yes and 0 for no, and then a
-// line `--`. The types end where the question is refused under 17; any other refusal is printed.
+// line `--`. The types end where the question is refused under 17; of any other refusal the number is a line.
 use subtyping::question::Answer;
 use vector_input::next_length;
 use vector_input::read_one;
@@ -12,6 +12,7 @@ fn pair(file: &[u8], a: usize, b: usize) -> bool {
         Answer::Refused(number) => {
             if number != 17 {
                 io::print_decimal(1, number as u64);
+                io::write_all(1, b"\n");
             }
             false
         }

@@ -14,12 +14,12 @@ use Rattle.oat.specs.Tables.{Tables}
 use Rattle.oat.specs.Types.{typeOf}
 use Rattle.oat.specs.Subtyping.{SubRet}
 use Rattle.oat.specs.Decide.{below}
-use Rattle.oat.specs.ProgramFile.{Limits, inRange, Within, Program, IsFile}
+use Rattle.oat.specs.ProgramFile.{Limits, inRange, Within, Program, meant, IsFile}
 use Rattle.oat.proofs.LawsSubtyping.{below-is}
 use Rattle.file_sections.specs.declared.Sections.{Sections}
 use Rattle.file_sections.specs.declared.Reading.{Reading}
 use Rattle.file_sections.specs.declared.Reading.the-variants as Readings
-use Rattle.file_sections.specs.Layout.{tablesOf}
+use Rattle.file_sections.specs.Layout.{tablesOf, GoodTables}
 use Rattle.file_sections.proofs.LawsRecords.{types-long}
 use Rattle.program_file.specs.Reading.{readingOf, numberOf, IsProgramFile, Reads, ReadsTables}
 use Rattle.program_file.proofs.LawsReading.{reading-in-range}
@@ -31,12 +31,22 @@ use Rattle.subtyping.specs.declared.question.Answer.{Answer}
 use Rattle.subtyping.specs.declared.question.Answer.the-variants.{Refused, Yes, No}
 
 -- yes or no
-module _ (T : Tables) (a b : ℕ) (r : Bool) (e : r ≡ below (declared T) (typeOf T a) (typeOf T b)) where
-  pub says-yes : r ≡ true → Yes ≡ pick (below (declared T) (typeOf T a) (typeOf T b)) Yes No
-  says-yes h = rw (← e, h)
+module _ (s : List ℕ) (S : Sections) (a b : ℕ) (k : a < S .types) (l : b < S .types) (r : Bool) (e : r ≡ belowAt (tablesOf s S) a b) where
+  pub says-yes : r ≡ true → Yes ≡ askOf (tablesOf s S) a b
+  unfolding askOf
+  says-yes h = rw (types-long s S, lt-leb _ _ k, lt-leb _ _ l, ← e, h)
 
-  pub says-no : r ≡ false → No ≡ pick (below (declared T) (typeOf T a) (typeOf T b)) Yes No
-  says-no h = rw (← e, h)
+  pub says-no : r ≡ false → No ≡ askOf (tablesOf s S) a b
+  unfolding askOf
+  says-no h = rw (types-long s S, lt-leb _ _ k, lt-leb _ _ l, ← e, h)
+
+-- on the bytes that are meant
+module _ (s : List ℕ) (S : Sections) {t : List ℕ} (e : t ≡ meant s) where
+  pub meant-tables : GoodTables (meant s) S → GoodTables t S
+  meant-tables g = subst (λ x. GoodTables x S) (sym e) g
+
+  pub meant-asks : (a b : ℕ) (r : Answer) → r ≡ askOf (tablesOf t S) a b → r ≡ askOf (tablesOf (meant s) S) a b
+  meant-asks a b r c = c ∙ ap (λ x. askOf (tablesOf x S) a b) e
 
 module _ (limits : Limits) (s : List ℕ) (a b : ℕ) (r : Reading) (e : r ≡ readingOf limits s) where
   pub not-read : (n k : ℕ) → r ≡ Readings.Refused n → k ≡ numberOf r → Refused k ≡ subtypeOf limits s a b
@@ -46,26 +56,26 @@ module _ (limits : Limits) (s : List ℕ) (a b : ℕ) (r : Reading) (e : r ≡ r
   module _ (S : Sections) (h : r ≡ Readings.Good S) where
     pub first-lacks : S .types ≤ a → Refused 17 ≡ subtypeOf limits s a b
     unfolding subtypeOf askOf
-    first-lacks l = rw (← e, h, types-long s S, le-leb _ _ l)
+    first-lacks l = rw (← e, h, types-long (meant s) S, le-leb _ _ l)
 
     pub second-lacks : a < S .types → S .types ≤ b → Refused 17 ≡ subtypeOf limits s a b
     unfolding subtypeOf askOf
-    second-lacks k l = rw (← e, h, types-long s S, lt-leb _ _ k, le-leb _ _ l)
+    second-lacks k l = rw (← e, h, types-long (meant s) S, lt-leb _ _ k, le-leb _ _ l)
 
-    pub both-there : (q : Answer) → a < S .types → b < S .types → q ≡ pick (below (declared (tablesOf s S)) (typeOf (tablesOf s S) a) (typeOf (tablesOf s S) b)) Yes No → q ≡ subtypeOf limits s a b
-    unfolding subtypeOf askOf
-    both-there q k l c = c ∙ rw (← e, h, types-long s S, lt-leb _ _ k, lt-leb _ _ l)
+    pub both-there : (q : Answer) → q ≡ askOf (tablesOf (meant s) S) a b → q ≡ subtypeOf limits s a b
+    unfolding subtypeOf
+    both-there q c = c ∙ rw (← e, h)
 
 -- For every readable file under limits in range, and two types of it, the answer is yes exactly when the rules derive that the first is below the second.
 picked-yes : (c : Bool) → (pick c Yes No ≡ Yes) ↔ (c ≡ true)
 picked-yes true = (λ e. refl, λ e. refl)
 picked-yes false = (λ e. absurd (let z : _≡_ {A = ℕ} 0 1 = cc in omega arith), λ e. absurd (let z : _≡_ {A = ℕ} 0 1 = cc in omega arith))
 
-asked-yes : (T : Tables) (a b : ℕ) → a < length (T .types) → b < length (T .types) → askOf T a b ≡ pick (below (declared T) (typeOf T a) (typeOf T b)) Yes No
+pub asked-yes : (T : Tables) (a b : ℕ) → a < length (T .types) → b < length (T .types) → askOf T a b ≡ pick (below (declared T) (typeOf T a) (typeOf T b)) Yes No
 unfolding askOf
 asked-yes T a b h k = rw (lt-leb _ _ h, lt-leb _ _ k)
 
-question-asks : (limits : Limits) → inRange limits ≡ true → (s : List ℕ) (p : Program) (a b : ℕ) → IsFile limits s p → subtypeOf limits s a b ≡ askOf (p .tables) a b
+pub question-asks : (limits : Limits) → inRange limits ≡ true → (s : List ℕ) (p : Program) (a b : ℕ) → IsFile limits s p → subtypeOf limits s a b ≡ askOf (p .tables) a b
 unfolding subtypeOf
 question-asks limits range s p a b f =
     let (good, back) = reading-of limits s p f in

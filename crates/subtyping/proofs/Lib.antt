@@ -1,3 +1,4 @@
+pub mod Blank
 pub mod LawsQuestion
 pub mod LawsStructs
 pub mod LawsTypesBelow

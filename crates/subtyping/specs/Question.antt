@@ -12,7 +12,7 @@ use Rattle.oat.specs.Tables.{Tables}
 use Rattle.oat.specs.Types.{typeOf, structsOf}
 use Rattle.oat.specs.Subtyping.{SubRet}
 use Rattle.oat.specs.Decide.{below}
-use Rattle.oat.specs.ProgramFile.{Limits, inRange, Program, IsFile}
+use Rattle.oat.specs.ProgramFile.{Limits, inRange, Program, meant, IsFile}
 use Rattle.file_sections.specs.declared.Sections.{Sections}
 use Rattle.file_sections.specs.declared.Reading.{Reading}
 use Rattle.file_sections.specs.declared.Reading.the-variants.{Good}
@@ -37,7 +37,7 @@ onReading (Good S) k = k S
 
 -- is the type a below the type b?
 unfoldable pub subtypeOf : Limits → List ℕ → ℕ → ℕ → Answer
-subtypeOf limits s a b = onReading (readingOf limits s) λ S. askOf (tablesOf s S) a b
+subtypeOf limits s a b = onReading (readingOf limits s) λ S. askOf (tablesOf (meant s) S) a b
 
 -- document 01's number for an answer; yes and no are no refusals
 abbrev pub refusalNumber : Answer → ℕ

@@ -3,16 +3,14 @@ use crate::below::below;
 use file_sections::Reading;
 use file_sections::Sections;
 use program_file::Limits;
+use program_file::blank_file;
 use type_index::index::index_types;
 ghost use mathlib.Core.Path.{_≡_};
 ghost use Prim.Native.Nat.{ℕ, _<_};
-ghost use Rattle.oat.specs.Basics.{pick};
-ghost use Rattle.oat.specs.Types.{typeOf};
-ghost use Rattle.oat.specs.Decide.{below};
+ghost use Rattle.oat.specs.ProgramFile.{meant};
 ghost use Rattle.file_sections.specs.Layout.{tablesOf, GoodTables};
 ghost use Rattle.program_file.specs.Reading.{settingOf};
-ghost use Rattle.type_index.specs.Index.{declared};
-ghost use Rattle.subtyping.specs.Question.{subtypeOf, refusalNumber, yesAfter, Answers};
+ghost use Rattle.subtyping.specs.Question.{askOf, subtypeOf, refusalNumber, yesAfter, Answers};
 
 pub enum Answer {
     Refused(u16),
@@ -23,7 +21,7 @@ pub enum Answer {
 // The question on a file that was read and has both types.
 fn ask(file: &[u8], sections: Sections, a: usize, b: usize) -> Answer
     requires { ⌜ GoodTables (now file) sections × (a < sections .types) × (b < sections .types) ⌝ }
-    ensures { λ r. ⌜ r ≡ pick (below (declared (tablesOf (now (file .entry)) sections)) (typeOf (tablesOf (now (file .entry)) sections) a) (typeOf (tablesOf (now (file .entry)) sections) b)) Answer.Yes Answer.No ⌝ }
+    ensures { λ r. ⌜ r ≡ askOf (tablesOf (now (file .entry)) sections) a b ⌝ }
 {
     let mut index = [0u16; 2112];
     index_types(file, sections, &mut index);
@@ -31,6 +29,18 @@ fn ask(file: &[u8], sections: Sections, a: usize, b: usize) -> Answer
         return Answer::Yes;
     }
     Answer::No
+}
+
+// The question on the bytes that are meant.
+fn ask_meant(file: &[u8], sections: Sections, a: usize, b: usize) -> Answer
+    requires { ⌜ GoodTables (meant (now file)) sections × (a < sections .types) × (b < sections .types) ⌝ }
+    ensures { λ r. ⌜ r ≡ askOf (tablesOf (meant (now (file .entry))) sections) a b ⌝ }
+{
+    if file.len() == 0 {
+        let blank = blank_file();
+        return ask(&blank, sections, a, b);
+    }
+    ask(file, sections, a, b)
 }
 
 // Is the type a below the type b? Whatever value a caller holds before, the answer's number and `yesAfter` give what `Answers` says.
@@ -48,5 +58,5 @@ pub fn subtype(file: &[u8], limits: Limits, a: usize, b: usize) -> Answer
     if sections.types <= b {
         return Answer::Refused(17);
     }
-    ask(file, sections, a, b)
+    ask_meant(file, sections, a, b)
 }

@@ -12,7 +12,8 @@ use Rattle.oat.specs.Tables.{Tables}
 use Rattle.oat.specs.Types.{structsOf}
 use Rattle.oat.specs.Syntax.{sizeDecls}
 use Rattle.oat.specs.Nodes.{DeclsStand}
-use Rattle.oat.specs.ProgramFile.{Limits, inRange, widest, Program, IsFile}
+use Rattle.oat.specs.ProgramFile.{Limits, inRange, widest, Program, meant, IsFile}
+use Rattle.oat.proofs.LawsBlank.{meant-is-file}
 use Rattle.oat.proofs.LawsLimits.{widest-in-range, within-widest, wider}
 use Rattle.typing_rules.specs.Steps.{Step, stepsOf, emptyContext}
 use Rattle.typing_rules.specs.Check.{Segment, Ran, accepted, refused, withSegment, run, answerOf as programAnswer, checkOf}
@@ -25,7 +26,7 @@ use Rattle.file_sections.specs.Layout.{tablesOf, GoodTables}
 use Rattle.file_sections.proofs.LawsRecords.{nodes-long}
 use Rattle.program_file.specs.Reading.{readingWithin, readingOf, numberOf}
 use Rattle.program_file.proofs.LawsReading.{reading-in-range, good-in-range}
-use Rattle.program_file.proofs.Theorem.{Bytes, program-of, read-tables, good-tables, read-grows}
+use Rattle.program_file.proofs.Theorem.{Bytes, within-tables, good-tables, program-of, tables-there, read-grows}
 use Rattle.type_index.specs.Index.{Indexed}
 use Rattle.bindings.specs.Bindings.{namesOf}
 use Rattle.bindings.proofs.LawsBindings.{scoped-none}
@@ -54,7 +55,7 @@ empty-start T W = refl
 -- a file's program, and its sections
 module _ {F : List ℕ} {S : Sections} (p : Program) (f : IsFile widest F p) (e : readingWithin widest F ≡ Good S) where
   tables-are : p .tables ≡ tablesOf F S
-  tables-are = read-tables widest F S p e f
+  tables-are = tables-there widest F S p e f
 
   nodes-are : length (p .tables .nodes) ≡ S .nodes
   nodes-are = ap (λ T. length (T .nodes)) tables-are ∙ nodes-long F S
@@ -125,7 +126,7 @@ ends-answer {F} {S} {R′} p f e l (ends-refused n s u q h) =
 -- the check of a readable file
 module _ {F : List ℕ} {S : Sections} {R W : List ℕ} (z : ReadyCheck F S R W) where
   pub check-tables : GoodTables F S
-  check-tables = good-tables widest F (Good S) S (sym (reading-in-range widest F widest-in-range ∙ z .reads)) refl
+  check-tables = within-tables widest F S (omega arith) (z .reads)
 
   pub check-run : {X N K : List ℕ} → Indexed X (tablesOf F S) (S .types) → 1024 ≤ length N → 4736 ≤ length K → ((h : ℕ) → h < 512 → getD K h 0 ≡ 0) → ReadyRun F S X N W K
   check-run {X} {N} {K} x n k h = record {
@@ -150,6 +151,14 @@ module _ {F : List ℕ} {S : Sections} {R W : List ℕ} (z : ReadyCheck F S R W)
       work-long = w ∙ z .work-long;
     }
 
+-- the check of the bytes that are meant
+module _ (F : List ℕ) {S : Sections} {G : List ℕ} (e : G ≡ meant F) where
+  pub meant-ready : {R W : List ℕ} → ReadyCheck (meant F) S R W → ReadyCheck G S R W
+  meant-ready {R} {W} z = subst (λ x. ReadyCheck x S R W) (sym e) z
+
+  pub meant-told : {R′ W′ : List ℕ} {r : Answer} → ToldCheck G S R′ W′ r → ToldCheck (meant F) S R′ W′ r
+  meant-told {R′} {W′} {r} t = subst (λ x. ToldCheck x S R′ W′ r) e t
+
 -- a readable file has few nodes
 pub nodes-few : (l : Limits) (F : List ℕ) {S : Sections} {g : Reading} → g ≡ readingOf l F → g ≡ Good S → S .nodes ≤ 4096
 nodes-few l F {S} {g} i j = good-tables l F g S i j .laid .nodes-most
@@ -159,8 +168,8 @@ record Door (l : Limits) (F : List ℕ) (S : Sections) : Type 0 where
   range : inRange l ≡ true
   program : Program
   file : IsFile l F program
-  wide : IsFile widest F program
-  reads : readingWithin widest F ≡ Good S
+  wide : IsFile widest (meant F) program
+  reads : readingWithin widest (meant F) ≡ Good S
 
 door : (l : Limits) (F : List ℕ) (S : Sections) → Bytes F → readingOf l F ≡ Good S → Door l F S
 door l F S b e =
@@ -170,7 +179,7 @@ door l F S b e =
       range = range;
       program = p;
       file = f;
-      wide = wider (within-widest l range) f;
+      wide = meant-is-file F (wider (within-widest l range) f);
       reads = sym (reading-in-range widest F widest-in-range) ∙ read-grows l widest widest-in-range (within-widest l range) F b S e;
     }
 
@@ -211,12 +220,12 @@ module _ {l : Limits} {F R W : List ℕ} where
 -- the check itself, on the parts that are lent
 module _ (l : Limits) (F R W : List ℕ) where
   module _ {S : Sections} {g : Reading} (b : Bytes F) (i : g ≡ readingOf l F) (j : g ≡ Good S) (m : S .nodes * 2 ≤ length R) (k : S .nodes * 2 ≤ length W) where
-    pub check-ready : ReadyCheck F S (take (S .nodes * 2) R) (take (S .nodes * 2) W)
+    pub check-ready : ReadyCheck (meant F) S (take (S .nodes * 2) R) (take (S .nodes * 2) W)
     check-ready =
         let d = door l F S b (sym i ∙ j) in
         record { reads = d .reads; program = d .program; file = d .wide; rows-long = length-take-le (S .nodes * 2) R m; work-long = length-take-le (S .nodes * 2) W k }
 
-    pub check-good : {R₁ W₁ : List ℕ} {a : Answer} → ToldCheck F S R₁ W₁ a → Checked l F R W (R₁ ++ drop (S .nodes * 2) R) (W₁ ++ drop (S .nodes * 2) W) a
+    pub check-good : {R₁ W₁ : List ℕ} {a : Answer} → ToldCheck (meant F) S R₁ W₁ a → Checked l F R W (R₁ ++ drop (S .nodes * 2) R) (W₁ ++ drop (S .nodes * 2) W) a
     check-good {R₁} {W₁} {a} told =
         let d = door l F S b (sym i ∙ j) in
         let p = d .program in
@@ -226,7 +235,7 @@ module _ (l : Limits) (F R W : List ℕ) where
         record {
           checks = same-checks (t .number) (t .step) (t .place) (ap₂ (λ x m. x ++ drop m R) (t .rows) (sym n)) c;
           unchanged = λ low. absurd (not-low p t low);
-          rest = λ q h. rest-stays (needed q) (needed-is q (wider (within-widest l (d .range)) h) (d .reads) ∙ sym (told .work-long));
+          rest = λ q h. rest-stays (needed q) (needed-is q (meant-is-file F (wider (within-widest l (d .range)) h)) (d .reads) ∙ sym (told .work-long));
         }
       where
         same-checks : {n s q n′ s′ q′ : ℕ} {A B : List ℕ} → n ≡ n′ → s ≡ s′ → q ≡ q′ → A ≡ B → Checks l F R W (outcome n′ s′ q′ B) → Checks l F R W (outcome n s q A)

@@ -1,3 +1,4 @@
+pub mod Blank
 pub mod LawsRuns
 pub mod LawsCounts
 pub mod LawsAnswers

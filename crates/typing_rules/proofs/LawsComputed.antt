@@ -17,6 +17,7 @@ use Rattle.oat.specs.Decide.{sameTy, beginsWith, structBelow, tests, below, for
 use Rattle.oat.specs.Syntax.{Literal, truth, falsity, integer, text, Expr, null, literal, name, arrayLiteral, defaultArray, arrayWith, index, lengthOf, structLiteral, field, call, unary, binary, Exprs, none, also, Inits, noInit, init, targetExpr, Vars, noVar, nextVar, Condition, noCondition, condition, Stmt, assign, var, returnValue, returnVoid, callStmt, ifElse, ifNull, for, while, Step, noStep, step, Block, block, Stmts, empty, then, Decl, global, function, size, sizeTarget, sizeVars, sizeCondition, sizeStep, sizeBlock, sizeStmt, sizeDecl, sizeDecls, count, countInits, countVars, countStmts, depthDecls, isConstant}
 use Rattle.oat.specs.Nodes.{Node, hasReferenceKind, LiteralStands, Stands, StandAll, InitsStand, VarsStand, ConditionStands, StmtStands, StepStands, BlockStands, StmtsStand, ParametersStand, DeclStands, DeclsStand}
 use Rattle.oat.specs.ProgramFile.{Limits, Program, Counts, IsFile}
+use Rattle.oat.proofs.LawsBlank.{meant-file}
 use Rattle.typing_rules.specs.Contexts.{find, isFresh, findName, isFixed}
 use Rattle.typing_rules.specs.Rules.{namesFit, eachOnce, namedTimes, declaredTimes, member}
 use Rattle.typing_rules.specs.Judge.{eachBelow, argumentsBelow, fieldAmong, fieldOf, initsBelow, judge, executeVars, judgeCondition, execute, assignsTo}
@@ -216,7 +217,7 @@ fileTried limits p =
     try (declsTried (p .tables) 0 (p .declarations)) λ s.
     try (equal (sizeDecls (p .declarations)) (length (p .tables .nodes))) λ u.
     try (atMost (depthDecls (p .declarations)) (limits .depth)) λ d.
-    proved (record { layout = refl; counts = c; types = y; tables = t; stand = s; used-up = u; deep = d })
+    proved (record { layout = meant-file (p .tables); counts = c; types = y; tables = t; stand = s; used-up = u; deep = d })
 
 -- to unfold this is to unfold all that it computes with
 unfoldable pub isFile : Limits → Program → Bool

@@ -11,7 +11,7 @@ use Rattle.oat.specs.Subtyping.{SubRet}
 use Rattle.oat.specs.Decide.{below}
 use Rattle.oat.specs.Syntax.{literal, truth, returnVoid, ifElse, Block, block, empty, then}
 use Rattle.oat.specs.Syntax as Syntax
-use Rattle.oat.specs.ProgramFile.{widest, Program, IsFile}
+use Rattle.oat.specs.ProgramFile.{widest, Program, baseTypes, IsFile}
 use Rattle.typing_rules.specs.Contexts.{Context}
 use Rattle.typing_rules.specs.Labels.{Labels}
 use Rattle.typing_rules.specs.Steps.{DerivesFile}
@@ -85,15 +85,12 @@ intRecord x = record { name = x; type = 0 }
 abbrev pub structRecord : ℕ → ℕ → ℕ → StructRecord
 structRecord x first n = record { name = x; first = first; count = n }
 
-abbrev pub fixedTypes : List TypeRecord → List TypeRecord
-fixedTypes ts = typeRecord 0 0 0 0 ∷ typeRecord 1 0 0 0 ∷ typeRecord 2 0 0 0 ∷ typeRecord 3 0 0 0 ∷ ts
-
 -- the file of the pan types: it has no declarations
 abbrev pub panTables : Tables
 panTables = record {
   types =
-      fixedTypes
-      (typeRecord 4 1 0 0 ∷ typeRecord 4 2 0 0 ∷ typeRecord 4 3 0 0 ∷ typeRecord 7 4 0 0 ∷ typeRecord 5 4 0 0 ∷ typeRecord 5 5 0 0 ∷ typeRecord 6 5 0 1 ∷ typeRecord 6 4 1 1 ∷ []);
+      baseTypes
+      ++ (typeRecord 4 1 0 0 ∷ typeRecord 4 2 0 0 ∷ typeRecord 4 3 0 0 ∷ typeRecord 7 4 0 0 ∷ typeRecord 5 4 0 0 ∷ typeRecord 5 5 0 0 ∷ typeRecord 6 5 0 1 ∷ typeRecord 6 4 1 1 ∷ []);
   list = 4 ∷ 5 ∷ [];
   fields = intRecord 1 ∷ intRecord 2 ∷ intRecord 1 ∷ intRecord 2 ∷ intRecord 3 ∷ intRecord 1 ∷ intRecord 3 ∷ [];
   structs = structRecord 1 0 2 ∷ structRecord 2 2 3 ∷ structRecord 3 5 2 ∷ [];
@@ -108,7 +105,7 @@ panTypes = record { tables = panTables; declarations = [] }
 abbrev pub withBody : Body → Program
 withBody b = record {
   tables = record {
-    types = fixedTypes (typeRecord 6 3 0 0 ∷ []);
+    types = baseTypes ++ (typeRecord 6 3 0 0 ∷ []);
     list = [];
     fields = [];
     structs = [];

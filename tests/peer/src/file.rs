@@ -1,6 +1,7 @@
 //! Reading a program file: document 01, "The program file", and the order of
 //! the numbers 1 to 4 in "Rows and answers". Number 5 is in `tree`.
 
+use crate::empty::meant;
 use crate::limits::Limits;
 use crate::mutants::{Mutant::*, Rules};
 
@@ -130,9 +131,9 @@ pub fn listed(record: &[u8; 2]) -> u16 {
     u16::from_le_bytes(*record)
 }
 
-/// Cuts the sections: numbers 1 and 2.
+/// Cuts the sections of what the bytes mean: numbers 1 and 2.
 pub fn sections<R: Rules>(bytes: &[u8], rules: R) -> Result<File<'_>, u16> {
-    let mut rest = bytes;
+    let mut rest = meant(bytes, rules);
     let mut most = MOST;
     for (k, (over, under)) in SECTION_MUTANTS.iter().enumerate() {
         most[k] += usize::from(rules.breaks(*over));

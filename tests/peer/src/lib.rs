@@ -1,8 +1,9 @@
 //! An independent checker for Oat v.2 program files, after document 01 ("The
 //! Oat v.2 checker for pan programs"), document 001 (the specification) and
-//! document 02's request (xi), limits as parameters.
+//! document 02's requests (v), zero bytes, and (xi), limits as parameters.
 
 pub mod cases;
+mod empty;
 mod expressions;
 mod file;
 pub mod generator;
@@ -18,8 +19,9 @@ pub mod vectors;
 
 pub use limits::{Limits, measures};
 
+use empty::with_types;
 use file::{File, records_broken, sections, types_broken};
-use mutants::{Exact, Mutant::*, Rules};
+use mutants::{Exact, Mutant, Mutant::*, Rules};
 use tree::{Declarations, tree_fits};
 use types::Types;
 use typing::Checker;
@@ -47,15 +49,15 @@ pub fn check(file: &[u8], limits: Limits, rows: &mut [u16], work: &mut [u16]) ->
 }
 
 /// The check under rules that a mutant may break.
-pub fn check_under<R: Rules>(file: &[u8], limits: Limits, rows: &mut [u16], work: &mut [u16], rules: R) -> Answer {
+pub fn check_under<R: Rules>(bytes: &[u8], limits: Limits, rows: &mut [u16], work: &mut [u16], rules: R) -> Answer {
     let refused = |number| Answer { number, step: 0, place: 0 };
     let mut declarations = Declarations::new();
     let handed_on = limits.handed_on(CheckIgnoresLimits, Some(RangeAfterShort), rules);
-    let file = match readable(file, handed_on, &mut declarations, rules) {
+    let file = match readable(bytes, handed_on, CheckRefusesEmpty, &mut declarations, rules) {
         Ok(file) => file,
         Err(number) => return refused(number),
     };
-    let needed = 2 * file.nodes.len();
+    let needed = 2 * file.nodes.len() + usize::from(rules.breaks(EmptyNeedsBuffers) && bytes.is_empty());
     if rows.len() < needed || work.len() < needed {
         return refused(6);
     }
@@ -75,7 +77,7 @@ pub fn read(file: &[u8], limits: Limits) -> u16 {
 /// Reading under rules that a mutant may break.
 pub fn read_under<R: Rules>(file: &[u8], limits: Limits, rules: R) -> u16 {
     let handed_on = limits.handed_on(ReadIgnoresLimits, None, rules);
-    readable(file, handed_on, &mut Declarations::new(), rules).err().unwrap_or(0)
+    readable(file, handed_on, ReadRefusesEmpty, &mut Declarations::new(), rules).err().unwrap_or(0)
 }
 
 /// The subtype question: 25, 1 to 5, then 17, then yes or no.
@@ -86,7 +88,7 @@ pub fn subtype(file: &[u8], limits: Limits, a: usize, b: usize) -> Below {
 /// The subtype question under rules that a mutant may break.
 pub fn subtype_under<R: Rules>(file: &[u8], limits: Limits, a: usize, b: usize, rules: R) -> Below {
     let handed_on = limits.handed_on(SubtypeIgnoresLimits, Some(RangeAfterType), rules);
-    let file = match readable(file, handed_on, &mut Declarations::new(), rules) {
+    let file = match readable(file, handed_on, SubtypeRefusesEmpty, &mut Declarations::new(), rules) {
         Ok(file) => file,
         Err(number) => return Below::Refused(number),
     };
@@ -103,7 +105,7 @@ pub fn subtype_under<R: Rules>(file: &[u8], limits: Limits, a: usize, b: usize, 
 
 /// The subtype question for all pairs of a file's types, row by row.
 pub fn subtypes<R: Rules>(file: &[u8], limits: Limits, rules: R) -> Result<Vec<Vec<bool>>, u16> {
-    let file = readable(file, limits, &mut Declarations::new(), rules)?;
+    let file = readable(file, limits, SubtypeRefusesEmpty, &mut Declarations::new(), rules)?;
     let mut types = Types::new(&file, rules);
     types.learn_all();
     let all = 0..file.types.len() as u16;
@@ -115,15 +117,22 @@ pub fn node_count(file: &[u8]) -> usize {
     sections(file, Exact).map_or(0, |f| f.nodes.len())
 }
 
-/// The numbers 25 and 1 to 5, in order; notes the declarations.
+/// The numbers 25 and 1 to 5, in order; notes the declarations. `alone` is the
+/// mutant under which the operation that asks refuses zero bytes.
 fn readable<'a, R: Rules>(
     bytes: &'a [u8],
     limits: Limits,
+    alone: Mutant,
     declarations: &mut Declarations,
     rules: R,
 ) -> Result<File<'a>, u16> {
-    if !rules.breaks(RangeAfterReading) && !limits.pass(rules) {
+    let late = rules.breaks(RangeAfterReading) || rules.breaks(EmptyBeforeRange) && bytes.is_empty();
+    if !late && !limits.pass(rules) {
         return Err(25);
+    }
+    let narrow = rules.breaks(EmptyAtWidestOnly) && limits != Limits::WIDEST;
+    if (rules.breaks(alone) || narrow) && bytes.is_empty() {
+        return Err(1);
     }
     let file = sections(bytes, rules)?;
     if rules.breaks(DepthLimitFirst) && measures(bytes).depth > limits.depth {
@@ -147,5 +156,8 @@ fn readable<'a, R: Rules>(
     if rules.breaks(PartsLimitLast) && measures(bytes).parts > limits.parts {
         return Err(3);
     }
-    if rules.breaks(RangeAfterReading) && !limits.pass(rules) { Err(25) } else { Ok(file) }
+    if rules.breaks(RangeAfterReading) && !limits.pass(rules) {
+        return Err(25);
+    }
+    Ok(with_types(bytes, file, rules))
 }

@@ -29,7 +29,8 @@ impl Rules for Mutant {
     }
 }
 
-/// The part of document 01 that a mutant breaks, or document 02's limits.
+/// The part of document 01 that a mutant breaks, or document 02's limits or
+/// its empty file, zero bytes.
 #[derive(Clone, Copy, PartialEq, Eq, Debug)]
 pub enum Part {
     Reading,
@@ -38,6 +39,7 @@ pub enum Part {
     Statements,
     Declarations,
     Limits,
+    Empty,
 }
 
 macro_rules! mutants {
@@ -323,5 +325,25 @@ mutants! {
         ReadIgnoresLimits: "reading alone ignores the limits",
         CheckIgnoresLimits: "the check alone ignores the limits",
         SubtypeIgnoresLimits: "the subtype question ignores the limits",
+    }
+    Empty {
+        EmptyIsOne: "zero bytes are 1",
+        EmptyIsThree: "zero bytes mean six counts of 0 and are 3",
+        ReadRefusesEmpty: "zero bytes are 1 to reading alone",
+        CheckRefusesEmpty: "zero bytes are 1 to the check alone",
+        SubtypeRefusesEmpty: "zero bytes are 1 to the subtype question alone",
+        EmptyNeedsBuffers: "zero bytes are 6 where rows or work have no number",
+        EmptyHasNoTypes: "zero bytes have no types, every subtype question is 17",
+        EmptyHasThreeTypes: "zero bytes have types 0 to 2 alone",
+        EmptyHasFiveTypes: "zero bytes have a type 4",
+        EmptyHasStruct: "zero bytes have a struct, 2 steps",
+        EmptyHasGlobal: "zero bytes have a global, 1 step and 2 rows",
+        OneByteIsEmpty: "one byte is taken for zero bytes",
+        ZeroByteIsEmpty: "one byte 0 is taken for zero bytes",
+        ZerosAreEmpty: "any number of bytes 0 is taken for zero bytes",
+        ZeroCountsAreEmpty: "six counts of 0 are taken for zero bytes",
+        WrongLengthIsEmpty: "every file under 1 is taken for zero bytes",
+        EmptyBeforeRange: "zero bytes are accepted before 25 is tested",
+        EmptyAtWidestOnly: "zero bytes are 1 unless the limits are 200 and 100",
     }
 }

@@ -46,15 +46,16 @@ impl Question {
 
     /// What a mutant prints. A mutant of reading is asked to read only, since
     /// what it lets pass is no tree that can be typed. The other questions ask
-    /// under 200 and 100 alone, so mutants of limits have their own.
+    /// under 200 and 100 alone, so mutants of limits have their own. Those of
+    /// the empty file are asked everything.
     fn show_mutant(self, case: Limited, mutant: Mutant, part: Part) -> Option<String> {
         match (self, part) {
-            (Question::Limits, Part::Limits) => Some(print::limits_with(case, mutant) + "--\n"),
+            (Question::Limits, Part::Limits | Part::Empty) => Some(print::limits_with(case, mutant) + "--\n"),
             (Question::Limits, _) | (_, Part::Limits) => None,
-            (Question::Read, Part::Reading) => Some(print::read_with(case, mutant)),
+            (Question::Read, Part::Reading | Part::Empty) => Some(print::read_with(case, mutant)),
             (Question::Check, Part::Reading) => None,
             (Question::Check, _) => Some(print::check_with(case, mutant) + "--\n"),
-            (Question::Sub, Part::Subtyping) => Some(print::subs_with(case, mutant) + "--\n"),
+            (Question::Sub, Part::Subtyping | Part::Empty) => Some(print::subs_with(case, mutant) + "--\n"),
             _ => None,
         }
     }
@@ -153,7 +154,8 @@ const CATCHING: usize = 4;
 fn add_catching(files: &mut Vec<Vec<u8>>) {
     let pool = small(&generator::programs(5, 6000), 2000);
     let right: Vec<String> = pool.iter().map(|f| Question::Check.show(Limited::widest(f))).collect();
-    for &(mutant, part, _) in ALL.iter().filter(|m| !matches!(m.1, Part::Reading | Part::Subtyping | Part::Limits)) {
+    let of_typing = |part| matches!(part, Part::Expressions | Part::Statements | Part::Declarations);
+    for &(mutant, part, _) in ALL.iter().filter(|m| of_typing(m.1)) {
         let own: Vec<Limited> = files.iter().map(|f| Limited::widest(f)).collect();
         let own_right: Vec<String> = own.iter().map(|&f| Question::Check.show(f)).collect();
         let missing = CATCHING.saturating_sub(caught(Question::Check, &own, &own_right, (mutant, part)));
@@ -173,8 +175,15 @@ pub fn table(packed: &[Vec<u8>; 4]) -> Vec<(Mutant, Part, [usize; 4])> {
     ALL.iter().map(|&(m, part, _)| (m, part, count(m, part))).collect()
 }
 
-const PARTS: [Part; 6] =
-    [Part::Reading, Part::Subtyping, Part::Expressions, Part::Statements, Part::Declarations, Part::Limits];
+const PARTS: [Part; 7] = [
+    Part::Reading,
+    Part::Subtyping,
+    Part::Expressions,
+    Part::Statements,
+    Part::Declarations,
+    Part::Limits,
+    Part::Empty,
+];
 
 /// What `mutants` prints: a line for each part, as docs/TESTING.md has it, and a line for each mutant.
 pub fn mutant_tables(stored: &[Vec<u8>; 4]) -> String {

@@ -35,7 +35,7 @@ fn typing_cases() {
 fn subtyping_cases() {
     for q in subtyping() {
         let [a, b] = q.pair.map(usize::from);
-        assert_eq!(subtype(&q.file, Limits::WIDEST, a, b), if q.yes { Below::Yes } else { Below::No }, "{}", q.name);
+        assert_eq!(subtype(&q.file, Limits::WIDEST, a, b), q.answer, "{}, {a} below {b}", q.name);
     }
 }
 
@@ -46,7 +46,8 @@ fn types_not_in_the_file() {
     assert_eq!(subtype(&four, Limits::WIDEST, 4, 0), Below::Refused(17));
     assert_eq!(subtype(&four, Limits::WIDEST, 0, 4), Below::Refused(17));
     assert_eq!(subtype(&four, Limits::WIDEST, 3, 3), Below::Yes);
-    assert_eq!(subtype(&[], Limits::WIDEST, 4, 4), Below::Refused(1));
+    assert_eq!(subtype(&[], Limits::WIDEST, 4, 4), Below::Refused(17));
+    assert_eq!(subtype(&[4], Limits::WIDEST, 4, 4), Below::Refused(1));
     for (name, file, number) in reading().into_iter().filter(|c| c.2 > 0) {
         assert_eq!(subtype(&file, Limits::WIDEST, 9999, 0), Below::Refused(number), "{name}");
     }

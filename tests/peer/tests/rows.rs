@@ -170,9 +170,11 @@ fn printed() {
     assert_eq!(example.len(), 60);
     assert_eq!(print::check(&example), "0 1 0\n0 1 65535\n1 1 65535\n");
     assert_eq!(print::check(&Program::new().bytes()), "0 0 0\n");
-    assert_eq!(print::check(&[]), "1 0 0\n");
+    assert_eq!(print::check(&[]), "0 0 0\n");
+    assert_eq!(print::check(&[4]), "1 0 0\n");
     assert_eq!(print::sub(print::Limited::widest(&example), [0, 0]), "yes\n");
     assert_eq!(print::sub(print::Limited::widest(&example), [0, 1]), "no\n");
     assert_eq!(print::sub(print::Limited::widest(&example), [4, 0]), "17\n");
-    assert_eq!(print::sub(print::Limited::widest(&[]), [4, 0]), "1\n");
+    assert_eq!(print::sub(print::Limited::widest(&[]), [4, 0]), "17\n");
+    assert_eq!(print::sub(print::Limited::widest(&[4]), [4, 0]), "1\n");
 }

@@ -72,6 +72,7 @@ fn every_mutant_is_caught() {
     assert!(ALL.len() >= 80);
     assert!(ALL.iter().filter(|m| m.1 == Part::Reading).count() >= 20);
     assert!(ALL.iter().filter(|m| m.1 == Part::Limits).count() >= 20);
+    assert!(ALL.iter().filter(|m| m.1 == Part::Empty).count() >= 15);
     assert_eq!(ALL.iter().filter(|m| m.2.starts_with("slip: ")).count(), 5);
 }
 

@@ -1,4 +1,5 @@
-//! Cases of document 02's request (xi): number 25, and 3 and 5 under limits.
+//! Cases of document 02's request (xi): number 25, and 3 and 5 under limits;
+//! with its request (v), zero bytes under limits.
 
 use super::*;
 use crate::Limits;
@@ -22,6 +23,7 @@ pub fn limits() -> Vec<LimitCase> {
     depths(&mut cases);
     orders(&mut cases);
     turned(&mut cases);
+    nearly_empty(&mut cases);
     cases
 }
 
@@ -40,6 +42,11 @@ struct Measured {
 impl Measured {
     fn of(name: &'static str, p: &Program, [parts, depth]: [usize; 2], answer: [u16; 3]) -> Measured {
         Measured { name, file: p.bytes(), parts, depth, answer }
+    }
+
+    /// A file that has no measures of its own.
+    fn bytes(name: &'static str, file: &[u8], number: u16) -> Measured {
+        Measured { name, file: file.to_vec(), parts: 1, depth: 0, answer: [number, 0, 0] }
     }
 
     /// The answer under a setting: 25, 1 and 2, then 3, 4, 5, then the rest.
@@ -88,10 +95,7 @@ fn settings(cases: &mut Cases) {
 }
 
 fn short_files() -> Vec<Measured> {
-    let bytes = |name, file: &[u8], number| {
-        let file = file.to_vec();
-        Measured { name, file, parts: 1, depth: 0, answer: [number, 0, 0] }
-    };
+    let bytes = Measured::bytes;
     let four = Program::new();
     let mut broken_type = Program::new();
     broken_type.types[0][0] = 1;
@@ -103,7 +107,7 @@ fn short_files() -> Vec<Measured> {
         p.with([func(F, f, &[], body)])
     };
     vec![
-        bytes("no bytes", &[], 1),
+        bytes("zero bytes", &[], 0),
         bytes("one byte", &[4], 1),
         bytes("1: a byte cut off", &four.bytes()[..43], 1),
         bytes("1: a byte left over", &[four.bytes(), vec![0]].concat(), 1),
@@ -401,6 +405,24 @@ fn turned(cases: &mut Cases) {
             file.put(cases, parts, depth);
             file.put(cases, depth, parts);
             file.put(cases, parts.max(depth), parts.max(depth));
+        }
+    }
+}
+
+/// Zero bytes under more settings, and bytes 0, which are something else.
+fn nearly_empty(cases: &mut Cases) {
+    for (parts, depth) in [(1, 50), (3, 4), (37, 12), (100, 50), (150, 1), (200, 3), (100, 200), (0, 50), (37, 101)] {
+        Measured::bytes("zero bytes", &[], 0).put(cases, parts, depth);
+    }
+    let files = [
+        Measured::bytes("a byte 0", &[0], 1),
+        Measured::bytes("two bytes 0", &[0; 2], 1),
+        Measured::bytes("six zero counts", &[0; 12], 3),
+        Measured::bytes("six zero counts and a byte", &[0; 13], 1),
+    ];
+    for file in files {
+        for (parts, depth) in [(1, 1), (200, 100), (37, 12), (0, 1), (1, 0), (201, 100), (200, 101)] {
+            file.put(cases, parts, depth);
         }
     }
 }

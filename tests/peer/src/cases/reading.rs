@@ -19,6 +19,7 @@ pub fn reading() -> Vec<(&'static str, Vec<u8>, u16)> {
     expressions(&mut cases);
     globals(&mut cases);
     statements(&mut cases);
+    nearly_empty(&mut cases);
     cases
 }
 
@@ -41,9 +42,9 @@ fn example() -> Vec<u8> {
     Program::new().with([global(5, tru())]).bytes()
 }
 
-/// Number 1.
+/// Number 1, and document 02's request (v): zero bytes are a file.
 fn lengths(cases: &mut Cases) {
-    cases.push(("no bytes", vec![], 1));
+    cases.push(("zero bytes", vec![], 0));
     cases.push(("one byte", vec![4], 1));
     cases.push(("the example", example(), 0));
     cases.push(("P1 a leftover byte", [example(), vec![0]].concat(), 1));
@@ -557,6 +558,27 @@ fn statements(cases: &mut Cases) {
     for kind in [0, 1, 2, 3, 15, 22, 24, 29, 39, 40, 41, 65535] {
         put_statement(5, "no statement", node(kind, 0, 0, vec![]));
     }
+}
+
+/// Request (v): nothing but zero bytes means types 0 to 3 without holding them.
+fn nearly_empty(cases: &mut Cases) {
+    let four = Program::new().bytes();
+    for byte in [0, 1, 2, 44, 255] {
+        cases.push(("one byte", vec![byte], 1));
+    }
+    for number in [0u16, 1, 4, 512] {
+        cases.push(("two bytes, a count of types", number.to_le_bytes().to_vec(), 1));
+        cases.push(("three bytes, a count of types and a byte", [&number.to_le_bytes()[..], &[0]].concat(), 1));
+    }
+    for number in [513u16, 65_535] {
+        cases.push(("two bytes, too large a count", number.to_le_bytes().to_vec(), 2));
+        cases.push(("three bytes, too large a count and a byte", [&number.to_le_bytes()[..], &[0]].concat(), 2));
+    }
+    cases.push(("eleven bytes 0", vec![0; 11], 1));
+    cases.push(("six zero counts and a byte", vec![0; 13], 1));
+    cases.push(("types 0 to 3, 43 bytes", four[..43].to_vec(), 1));
+    cases.push(("types 0 to 3, 44 bytes", four.clone(), 0));
+    cases.push(("types 0 to 3, 45 bytes", [four, vec![0]].concat(), 1));
 }
 
 fn with_more(tree: &Tree, kid: Tree) -> Tree {

@@ -1,26 +1,32 @@
 //! Cases of "Subtyping and well-formed types".
 
 use super::*;
+use crate::Below;
 
 /// A subtype question with its answer.
 pub struct Question {
     pub name: &'static str,
     pub file: Vec<u8>,
     pub pair: [u16; 2],
-    pub yes: bool,
+    pub answer: Below,
+}
+
+fn asked(name: &'static str, file: Vec<u8>, pair: [u16; 2], yes: bool) -> Question {
+    Question { name, file, pair, answer: if yes { Below::Yes } else { Below::No } }
 }
 
 pub fn subtyping() -> Vec<Question> {
     let mut all = Vec::new();
     for (name, a, b, yes) in pan_pairs() {
-        all.push(Question { name, file: pans().bytes(), pair: [a, b], yes });
+        all.push(asked(name, pans().bytes(), [a, b], yes));
     }
     for (name, a, b, yes) in undeclared_pairs() {
-        all.push(Question { name, file: bare().bytes(), pair: [a, b], yes });
+        all.push(asked(name, bare().bytes(), [a, b], yes));
     }
     prefixes(&mut all);
     functions(&mut all);
     doubled(&mut all);
+    zero_bytes(&mut all);
     all
 }
 
@@ -100,7 +106,7 @@ fn two(first: &[[u16; 2]], second: &[[u16; 2]]) -> Vec<u8> {
 
 fn prefixes(all: &mut Vec<Question>) {
     let mut put = |name, pair, yes, first: &[[u16; 2]], second: &[[u16; 2]]| {
-        all.push(Question { name, file: two(first, second), pair, yes });
+        all.push(asked(name, two(first, second), pair, yes));
     };
     put("S7 S below T with equal fields", [4, 5], true, &[[1, 0]], &[[1, 0]]);
     put("S7 T below S with equal fields", [5, 4], true, &[[1, 0]], &[[1, 0]]);
@@ -134,7 +140,7 @@ fn functions(all: &mut Vec<Question>) {
     let to_higher_b = p.function(a_b, &[]);
     let arrays = [p.array(to_a), p.array(to_b)];
     let file = p.bytes();
-    let mut put = |name, a, b, yes| all.push(Question { name, file: file.clone(), pair: [a, b], yes });
+    let mut put = |name, a, b, yes| all.push(asked(name, file.clone(), [a, b], yes));
     put("()->B below ()->A", to_b, to_a, true);
     put("()->A not below ()->B", to_a, to_b, false);
     put("()->B below ()->A?", to_b, to_null, true);
@@ -153,9 +159,27 @@ fn doubled(all: &mut Vec<Question>) {
     p.declare(1, &[[P, INT], [DRY, INT], [WET, INT], [9, INT]]);
     p.declare(2, &[[9, INT]]);
     let file = p.bytes();
-    all.push(Question { name: "S4 the first A", file: file.clone(), pair: [B, A], yes: true });
-    all.push(Question { name: "S4 the first B", file: file.clone(), pair: [A, B], yes: false });
-    all.push(Question { name: "S4 A below itself", file, pair: [A, A_AGAIN], yes: true });
+    all.push(asked("S4 the first A", file.clone(), [B, A], true));
+    all.push(asked("S4 the first B", file.clone(), [A, B], false));
+    all.push(asked("S4 A below itself", file, [A, A_AGAIN], true));
     let broken = pans().with([crate::program::global(G, crate::program::name(Y))]);
-    all.push(Question { name: "S6 no typing is asked", file: broken.bytes(), pair: [B, A], yes: true });
+    all.push(asked("S6 no typing is asked", broken.bytes(), [B, A], true));
+}
+
+/// Document 02's request (v): the four types of zero bytes are those of the 44
+/// bytes, each below itself alone; one byte is refused.
+fn zero_bytes(all: &mut Vec<Question>) {
+    let refused =
+        |name, file: &[u8], pair, number| Question { name, file: file.to_vec(), pair, answer: Below::Refused(number) };
+    for (name, file) in [("zero bytes", vec![]), ("types 0 to 3 and nothing else", Program::new().bytes())] {
+        for pair in (0..4).flat_map(|a| (0..4).map(move |b| [a, b])) {
+            all.push(asked(name, file.clone(), pair, pair[0] == pair[1]));
+        }
+        for pair in [[4, 0], [0, 4], [3, 4], [4, 4], [65_535, 0], [0, 65_535]] {
+            all.push(refused(name, &file, pair, 17));
+        }
+    }
+    for pair in [[0, 0], [3, 3], [0, 1], [4, 4]] {
+        all.push(refused("one byte", &[4], pair, 1));
+    }
 }

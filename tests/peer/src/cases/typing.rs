@@ -25,6 +25,7 @@ pub fn typing() -> Vec<Case> {
     parameters(&mut cases);
     limits(&mut cases);
     row_programs(&mut cases);
+    zero_bytes(&mut cases);
     cases
 }
 
@@ -563,6 +564,11 @@ fn row_programs(cases: &mut Cases) {
     put(cases, [0, 4, 0], "R1 a field's number", rows::projected());
     put(cases, [0, 2, 0], "R4 a parameter's number", rows::parameter());
     put(cases, [0, 8, 0], "R3 an if? name's number", rows::null_test());
+}
+
+/// Document 02's request (v).
+fn zero_bytes(cases: &mut Cases) {
+    cases.push(Case { name: "zero bytes", file: vec![], answer: [0, 0, 0] });
 }
 
 /// The largest parts, depths and names.

@@ -59,14 +59,15 @@ fn number(file: &[u8]) -> u16 {
     check(file, Limits::WIDEST, &mut vec![0; size], &mut vec![0; size]).number
 }
 
-/// One file, with the number asked for if it can be had in some tries.
+/// One file, with the number asked for if it can be had in some tries. A file
+/// for 1 that is cut down to zero bytes is kept, though it is accepted.
 fn program(rng: &mut Rng, wanted: u16) -> Vec<u8> {
     if rng.below(250) == 0 {
         return large::file(rng, wanted);
     }
     for _ in 0..TRIES {
         let file = attempt(rng, wanted);
-        if number(&file) == wanted {
+        if number(&file) == wanted || file.is_empty() {
             return file;
         }
     }
