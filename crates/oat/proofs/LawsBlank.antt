@@ -15,7 +15,7 @@ use Rattle.oat.specs.ProgramFile.{Limits, limitsOf, inRange, Program, bl
 use Rattle.oat.proofs.LawsLimits.{in-range, wider}
 
 -- its 44 bytes, computed
-pub blank-bytes : blankFile ≡ 
+pub blank-bytes : blankFile ≡
     4 ∷ 0
     ∷ 0 ∷ 0 ∷ 0 ∷ 0 ∷ 0 ∷ 0 ∷ 0 ∷ 0
     ∷ 1 ∷ 0 ∷ 0 ∷ 0 ∷ 0 ∷ 0 ∷ 0 ∷ 0

@@ -10,8 +10,7 @@ use borrow.Author.Tests.{le-leb, lt-leb, not-true, not-false}
 use Rattle.oat.specs.Basics.{pick}
 use Rattle.oat.specs.TypeRules.{typesRight}
 use Rattle.oat.specs.TableRules.{tablesRight}
-use Rattle.oat.specs.ProgramFile.{Limits, limitsOf, fromOneTo, inRange, blankFile, meant}
-use Rattle.oat.proofs.LawsBlank.{blank-meant, there-meant}
+use Rattle.oat.specs.ProgramFile.{Limits, limitsOf, fromOneTo, inRange, meant}
 use Rattle.oat.proofs.LawsLimits.{in-range}
 use Rattle.file_sections.specs.declared.Sections.{Sections}
 use Rattle.file_sections.specs.declared.Reading.{Reading}
@@ -154,13 +153,5 @@ module _ (l : Limits) (s : List ℕ) (b : Bool) (e : b ≡ inRange l) where
   pub tested-out : not b ≡ true → Refused 25 ≡ readingOf l s
   tested-out h = sym (reading-out-of-range l s (sym e ∙ not-true b h))
 
-  module _ (h : not b ≡ false) (r : Reading) where
-    pub tested-in : r ≡ readingWithin l (meant s) → r ≡ readingOf l s
-    tested-in c = c ∙ sym (reading-in-range l s (sym e ∙ not-false b h))
-
-    -- zero bytes, and bytes that are there
-    pub read-blank : (t : List ℕ) → length s ≡ 0 → t ≡ blankFile → r ≡ readingWithin l t → r ≡ readingOf l s
-    read-blank t none is c = tested-in (c ∙ ap (readingWithin l) (blank-meant s none is))
-
-    pub read-there : (length s ≡ 0 → ⊥) → r ≡ readingWithin l s → r ≡ readingOf l s
-    read-there some c = tested-in (c ∙ ap (readingWithin l) (there-meant s some))
+  pub tested-in : (t : List ℕ) (r : Reading) → not b ≡ false → t ≡ meant s → r ≡ readingWithin l t → r ≡ readingOf l s
+  tested-in t r h is c = c ∙ ap (readingWithin l) is ∙ sym (reading-in-range l s (sym e ∙ not-false b h))

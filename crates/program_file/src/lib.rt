@@ -3,7 +3,7 @@
 use file_sections::Reading;
 ghost use mathlib.Core.Path.{_≡_};
 ghost use Prim.Native.Nat.{_≤_};
-ghost use Rattle.oat.specs.ProgramFile.{fromOneTo, inRange, blankFile};
+ghost use Rattle.oat.specs.ProgramFile.{fromOneTo, inRange, blankFile, meant};
 ghost use Rattle.program_file.specs.Reading.{settingOf, readingWithin, readingOf, numberOf, ReadsTables};
 
 // The two limits: how many parts a type has at most, from 1 to 200, and how deep nodes are at most, from 1 to 100.
@@ -38,12 +38,50 @@ fn in_range(limits: Limits) -> bool
 
 // The blank file: types 0 to 3 and nothing else.
 const BLANK: [u8; 44] = [
-    4, 0, //
-    0, 0, 0, 0, 0, 0, 0, 0, //
-    1, 0, 0, 0, 0, 0, 0, 0, //
-    2, 0, 0, 0, 0, 0, 0, 0, //
-    3, 0, 0, 0, 0, 0, 0, 0, //
-    0, 0, 0, 0, 0, 0, 0, 0, 0, 0,
+    4,
+    0, //
+    0,
+    0,
+    0,
+    0,
+    0,
+    0,
+    0,
+    0, //
+    1,
+    0,
+    0,
+    0,
+    0,
+    0,
+    0,
+    0, //
+    2,
+    0,
+    0,
+    0,
+    0,
+    0,
+    0,
+    0, //
+    3,
+    0,
+    0,
+    0,
+    0,
+    0,
+    0,
+    0, //
+    0,
+    0,
+    0,
+    0,
+    0,
+    0,
+    0,
+    0,
+    0,
+    0,
 ];
 
 // The blank file, which zero bytes mean.
@@ -53,8 +91,18 @@ pub fn blank_file() -> [u8; 44]
     BLANK
 }
 
-// Reads a file; a limit out of its range is refused under 25, before everything else. The sections say where the records lie in the bytes that
-// are meant: for zero bytes a caller reads them from `blank_file()`.
+// The bytes that a file means: for zero bytes those of the blank file, which the caller lends, else its own.
+pub fn meant<'a>(file: &'a [u8], blank: &'a [u8; 44]) -> &'a [u8]
+    ensures { λ r. ⌜ (now (blank .entry) ≡ blankFile → now r ≡ meant (now (file .entry))) ⌝ }
+{
+    if file.len() == 0 {
+        return blank;
+    }
+    file
+}
+
+// Reads a file; a limit out of its range is refused under 25, before everything else. The sections say where the records stand in the bytes that
+// are meant.
 pub fn read(file: &[u8], limits: Limits) -> Reading
     ensures { λ r. ⌜ r ≡ readingOf (settingOf limits) (now (file .entry)) ⌝ }
     ensures { λ r. ⌜ ReadsTables (settingOf limits) (now (file .entry)) r ⌝ }
@@ -62,11 +110,8 @@ pub fn read(file: &[u8], limits: Limits) -> Reading
     if !in_range(limits) {
         return Reading::Refused(25);
     }
-    if file.len() == 0 {
-        let blank = blank_file();
-        return read_within(&blank, limits);
-    }
-    read_within(file, limits)
+    let blank = blank_file();
+    read_within(meant(file, &blank), limits)
 }
 
 // Reads bytes that are there, within the limits.

@@ -23,7 +23,7 @@ use Rattle.file_sections.specs.Layout.{tablesOf, GoodTables}
 use Rattle.file_sections.proofs.LawsRecords.{types-long}
 use Rattle.program_file.specs.Reading.{readingOf, numberOf, IsProgramFile, Reads, ReadsTables}
 use Rattle.program_file.proofs.LawsReading.{reading-in-range}
-use Rattle.program_file.proofs.Theorem.{Bytes, reading-of, refused-numbers, read-grows}
+use Rattle.program_file.proofs.Theorem.{Bytes, good-tables, reading-of, refused-numbers, read-grows}
 use Rattle.type_index.specs.Index.{declared}
 use Rattle.subtyping.specs.Numbered.{belowAt}
 use Rattle.subtyping.specs.Question.{askOf, subtypeOf, refusalNumber, yesAfter, HasBoth, Below, AnswersOn, Answers}
@@ -40,14 +40,6 @@ module _ (s : List ℕ) (S : Sections) (a b : ℕ) (k : a < S .types) (l : b < S
   unfolding askOf
   says-no h = rw (types-long s S, lt-leb _ _ k, lt-leb _ _ l, ← e, h)
 
--- on the bytes that are meant
-module _ (s : List ℕ) (S : Sections) {t : List ℕ} (e : t ≡ meant s) where
-  pub meant-tables : GoodTables (meant s) S → GoodTables t S
-  meant-tables g = subst (λ x. GoodTables x S) (sym e) g
-
-  pub meant-asks : (a b : ℕ) (r : Answer) → r ≡ askOf (tablesOf t S) a b → r ≡ askOf (tablesOf (meant s) S) a b
-  meant-asks a b r c = c ∙ ap (λ x. askOf (tablesOf x S) a b) e
-
 module _ (limits : Limits) (s : List ℕ) (a b : ℕ) (r : Reading) (e : r ≡ readingOf limits s) where
   pub not-read : (n k : ℕ) → r ≡ Readings.Refused n → k ≡ numberOf r → Refused k ≡ subtypeOf limits s a b
   unfolding subtypeOf
@@ -62,9 +54,14 @@ module _ (limits : Limits) (s : List ℕ) (a b : ℕ) (r : Reading) (e : r ≡ r
     unfolding subtypeOf askOf
     second-lacks k l = rw (← e, h, types-long (meant s) S, lt-leb _ _ k, le-leb _ _ l)
 
-    pub both-there : (q : Answer) → q ≡ askOf (tablesOf (meant s) S) a b → q ≡ subtypeOf limits s a b
-    unfolding subtypeOf
-    both-there q c = c ∙ rw (← e, h)
+    -- in the bytes that are meant
+    module _ (t : List ℕ) (is : t ≡ meant s) where
+      pub tables-there : GoodTables t S
+      tables-there = subst (λ x. GoodTables x S) (sym is) (good-tables limits s r S e h)
+
+      pub both-there : (q : Answer) → q ≡ askOf (tablesOf t S) a b → q ≡ subtypeOf limits s a b
+      unfolding subtypeOf
+      both-there q c = c ∙ rw (← e, h, is)
 
 -- For every readable file under limits in range, and two types of it, the answer is yes exactly when the rules derive that the first is below the second.
 picked-yes : (c : Bool) → (pick c Yes No ≡ Yes) ↔ (c ≡ true)

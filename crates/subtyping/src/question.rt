@@ -4,10 +4,10 @@ use file_sections::Reading;
 use file_sections::Sections;
 use program_file::Limits;
 use program_file::blank_file;
+use program_file::meant;
 use type_index::index::index_types;
 ghost use mathlib.Core.Path.{_≡_};
 ghost use Prim.Native.Nat.{ℕ, _<_};
-ghost use Rattle.oat.specs.ProgramFile.{meant};
 ghost use Rattle.file_sections.specs.Layout.{tablesOf, GoodTables};
 ghost use Rattle.program_file.specs.Reading.{settingOf};
 ghost use Rattle.subtyping.specs.Question.{askOf, subtypeOf, refusalNumber, yesAfter, Answers};
@@ -31,18 +31,6 @@ fn ask(file: &[u8], sections: Sections, a: usize, b: usize) -> Answer
     Answer::No
 }
 
-// The question on the bytes that are meant.
-fn ask_meant(file: &[u8], sections: Sections, a: usize, b: usize) -> Answer
-    requires { ⌜ GoodTables (meant (now file)) sections × (a < sections .types) × (b < sections .types) ⌝ }
-    ensures { λ r. ⌜ r ≡ askOf (tablesOf (meant (now (file .entry))) sections) a b ⌝ }
-{
-    if file.len() == 0 {
-        let blank = blank_file();
-        return ask(&blank, sections, a, b);
-    }
-    ask(file, sections, a, b)
-}
-
 // Is the type a below the type b? Whatever value a caller holds before, the answer's number and `yesAfter` give what `Answers` says.
 pub fn subtype(file: &[u8], limits: Limits, a: usize, b: usize) -> Answer
     ensures { λ r. ⌜ r ≡ subtypeOf (settingOf limits) (now (file .entry)) a b ⌝ }
@@ -58,5 +46,6 @@ pub fn subtype(file: &[u8], limits: Limits, a: usize, b: usize) -> Answer
     if sections.types <= b {
         return Answer::Refused(17);
     }
-    ask_meant(file, sections, a, b)
+    let blank = blank_file();
+    ask(meant(file, &blank), sections, a, b)
 }

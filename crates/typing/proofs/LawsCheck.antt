@@ -151,14 +151,6 @@ module _ {F : List ℕ} {S : Sections} {R W : List ℕ} (z : ReadyCheck F S R W)
       work-long = w ∙ z .work-long;
     }
 
--- the check of the bytes that are meant
-module _ (F : List ℕ) {S : Sections} {G : List ℕ} (e : G ≡ meant F) where
-  pub meant-ready : {R W : List ℕ} → ReadyCheck (meant F) S R W → ReadyCheck G S R W
-  meant-ready {R} {W} z = subst (λ x. ReadyCheck x S R W) (sym e) z
-
-  pub meant-told : {R′ W′ : List ℕ} {r : Answer} → ToldCheck G S R′ W′ r → ToldCheck (meant F) S R′ W′ r
-  meant-told {R′} {W′} {r} t = subst (λ x. ToldCheck x S R′ W′ r) e t
-
 -- a readable file has few nodes
 pub nodes-few : (l : Limits) (F : List ℕ) {S : Sections} {g : Reading} → g ≡ readingOf l F → g ≡ Good S → S .nodes ≤ 4096
 nodes-few l F {S} {g} i j = good-tables l F g S i j .laid .nodes-most
@@ -217,20 +209,20 @@ module _ {l : Limits} {F R W : List ℕ} where
         rest = λ p f. refl;
       }
 
--- the check itself, on the parts that are lent
+-- the check itself, of the bytes G that are meant, on the parts that are lent
 module _ (l : Limits) (F R W : List ℕ) where
-  module _ {S : Sections} {g : Reading} (b : Bytes F) (i : g ≡ readingOf l F) (j : g ≡ Good S) (m : S .nodes * 2 ≤ length R) (k : S .nodes * 2 ≤ length W) where
-    pub check-ready : ReadyCheck (meant F) S (take (S .nodes * 2) R) (take (S .nodes * 2) W)
+  module _ {S : Sections} {g : Reading} {G : List ℕ} (b : Bytes F) (i : g ≡ readingOf l F) (j : g ≡ Good S) (is : G ≡ meant F) (m : S .nodes * 2 ≤ length R) (k : S .nodes * 2 ≤ length W) where
+    pub check-ready : ReadyCheck G S (take (S .nodes * 2) R) (take (S .nodes * 2) W)
     check-ready =
         let d = door l F S b (sym i ∙ j) in
-        record { reads = d .reads; program = d .program; file = d .wide; rows-long = length-take-le (S .nodes * 2) R m; work-long = length-take-le (S .nodes * 2) W k }
+        subst (λ x. ReadyCheck x S (take (S .nodes * 2) R) (take (S .nodes * 2) W)) (sym is) (record { reads = d .reads; program = d .program; file = d .wide; rows-long = length-take-le (S .nodes * 2) R m; work-long = length-take-le (S .nodes * 2) W k })
 
-    pub check-good : {R₁ W₁ : List ℕ} {a : Answer} → ToldCheck (meant F) S R₁ W₁ a → Checked l F R W (R₁ ++ drop (S .nodes * 2) R) (W₁ ++ drop (S .nodes * 2) W) a
+    pub check-good : {R₁ W₁ : List ℕ} {a : Answer} → ToldCheck G S R₁ W₁ a → Checked l F R W (R₁ ++ drop (S .nodes * 2) R) (W₁ ++ drop (S .nodes * 2) W) a
     check-good {R₁} {W₁} {a} told =
         let d = door l F S b (sym i ∙ j) in
         let p = d .program in
         let n : needed p ≡ S .nodes * 2 = needed-is p (d .wide) (d .reads) in
-        let t = told .tells p (d .wide) in
+        let t = subst (λ x. ToldCheck x S R₁ W₁ a) is told .tells p (d .wide) in
         let c : Checks l F R W (outcome (checkOf p .number) (checkOf p .step) (checkOf p .place) (checkOf p .rows ++ drop (needed p) R)) = checked (d .range) p (d .file) (omega arith) (omega arith) in
         record {
           checks = same-checks (t .number) (t .step) (t .place) (ap₂ (λ x m. x ++ drop m R) (t .rows) (sym n)) c;

@@ -10,12 +10,12 @@ use file_sections::Reading;
 use file_sections::Sections;
 use program_file::Limits;
 use program_file::blank_file;
+use program_file::meant;
 use steps::context::Stepped;
 use type_index::index::index_types;
 ghost use mathlib.Core.Path.{_≡_};
 ghost use Prim.Native.Nat.{_*_, _≤_, _<_};
 ghost use lib.ListN.{length, replicate};
-ghost use Rattle.oat.specs.ProgramFile.{meant};
 ghost use Rattle.program_file.specs.Reading.{settingOf};
 ghost use Rattle.typing.specs.Runs.{ReadyRun, ToldFirst, ToldRun};
 ghost use Rattle.typing.specs.Check.{Checked, Demands, answerOf, rowsAfter, Small, ReadyCheck, ToldCheck};
@@ -152,18 +152,6 @@ fn check_read(file: &[u8], sections: Sections, rows: &mut [u16], work: &mut [u16
     finish(stepped, rows)
 }
 
-// The check of the bytes that are meant.
-fn check_meant(file: &[u8], sections: Sections, rows: &mut [u16], work: &mut [u16]) -> Answer
-    requires { ⌜ ReadyCheck (meant (now file)) sections (now rows) (now work) ⌝ }
-    ensures { λ r. ⌜ ToldCheck (meant (now (file .entry))) sections (now (rows .exit)) (now (work .exit)) r ⌝ }
-{
-    if file.len() == 0 {
-        let blank = blank_file();
-        return check_read(&blank, sections, rows, work);
-    }
-    check_read(file, sections, rows, work)
-}
-
 // Checks a program file: tests the limits, reads it, tests the buffers, and answers; `rows` gets two numbers for each node, and `work` lends as
 // many.
 pub fn check(file: &[u8], limits: Limits, rows: &mut [u16], work: &mut [u16]) -> Answer
@@ -181,5 +169,11 @@ pub fn check(file: &[u8], limits: Limits, rows: &mut [u16], work: &mut [u16]) ->
     if work.len() < needed {
         return bare(6);
     }
-    check_meant(file, sections, &mut rows[..needed], &mut work[..needed])
+    let blank = blank_file();
+    check_read(
+        meant(file, &blank),
+        sections,
+        &mut rows[..needed],
+        &mut work[..needed],
+    )
 }

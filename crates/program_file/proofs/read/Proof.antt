@@ -1,6 +1,6 @@
 -- `read` meets its contract, which has demand 1 in it. Assumes nothing.
 use borrow.Author.Needs.{needs}
-use Rattle.program_file.proofs.LawsReading.{parts-few, tested-out, read-blank, read-there}
+use Rattle.program_file.proofs.LawsReading.{parts-few, tested-out, tested-in}
 use Rattle.program_file.proofs.Theorem.{bytes-of, with-demand1}
 use Rattle.program_file.proofs.read.Statement.{statement}
 use Rattle.program_file.proofs.read.Tie as tie
@@ -17,25 +17,12 @@ read-within-requires c κs =
 
 returns-2 : tie.Need-returns-2
 returns-2 c =
-    let at-blank-file = c .before .before in
-    let at-if2 = at-blank-file .before in
-    let at-if1 = at-if2 .before in
+    let at-meant = c .before in
+    let at-blank-file = at-meant .before .before in
+    let at-if1 = at-blank-file .before in
     let at-in-range = at-if1 .before in
     with-demand1 _ _ (bytes-of _ (at-in-range .before .shared-slice-known .given)) _
-    (read-blank _ _ _ (at-in-range .in-range .ensures) (at-if1 .if1 .left) _ _ (at-if2 .if2 .taken) (at-blank-file .blank-file .ensures) (c .read-within .ensures))
-
-read-within-requires-2 : tie.Need-read-within-requires-2
-read-within-requires-2 c κs =
-    let at-if1 = c .before in
-    parts-few _ _ (at-if1 .before .in-range .ensures) (at-if1 .if1 .left)
-
-returns-3 : tie.Need-returns-3
-returns-3 c =
-    let at-if2 = c .before in
-    let at-if1 = at-if2 .before in
-    let at-in-range = at-if1 .before in
-    with-demand1 _ _ (bytes-of _ (at-in-range .before .shared-slice-known .given)) _
-    (read-there _ _ _ (at-in-range .in-range .ensures) (at-if1 .if1 .left) _ (at-if2 .if2 .left) (c .read-within2 .ensures))
+    (tested-in _ _ _ (at-in-range .in-range .ensures) _ _ (at-if1 .if1 .left) (at-meant .meant .ensures (at-blank-file .blank-file .ensures)) (c .read-within .ensures))
 
 pub read-spec : {M : Type 1} → statement M
 read-spec =
@@ -44,8 +31,6 @@ read-spec =
     (λ c κs. search needs)
     returns
     (λ c κs. search needs)
-    (λ c. search needs)
+    (λ c κs. search needs)
     read-within-requires
-    returns-2
-    read-within-requires-2
-    returns-3)
+    returns-2)

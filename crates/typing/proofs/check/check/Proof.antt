@@ -38,32 +38,40 @@ returns-3 c =
     let at-start = at-shared-slice-known .before in
     with-demands (check-work-short (bytes-of (now (at-start .args .file)) (at-shared-slice-known .shared-slice-known .given)) (at-read .read .ensures .0) (at-read2 .read2 .given .1) (at-if1 .if1 .left) (omega (arith, c .before .if2 .taken)) (c .bare3 .ensures))
 
-slice-aggregate-check-meant : tie.Need-slice-aggregate-check-meant
-slice-aggregate-check-meant c = sym (length-take-le _ _ (c .before .before .if1 .left))
+slice-aggregate-check-read : tie.Need-slice-aggregate-check-read
+slice-aggregate-check-read c =
+    let at-if2 = c .before .before .before .before in
+    sym (length-take-le _ _ (at-if2 .before .if1 .left))
 
-slice-aggregate-check-meant-2 : tie.Need-slice-aggregate-check-meant-2
-slice-aggregate-check-meant-2 c = sym (length-take-le _ _ (c .before .before .if2 .left))
+slice-aggregate-check-read-2 : tie.Need-slice-aggregate-check-read-2
+slice-aggregate-check-read-2 c =
+    let at-if2 = c .before .before .before .before .before in
+    sym (length-take-le _ _ (at-if2 .if2 .left))
 
-check-meant-requires : tie.Need-check-meant-requires
-check-meant-requires c κs =
-    let at-if2 = c .before .before in
+check-read-requires : tie.Need-check-read-requires
+check-read-requires c κs =
+    let at-meant = c .before .before in
+    let at-blank-file = at-meant .before .before in
+    let at-if2 = at-blank-file .before in
     let at-if1 = at-if2 .before in
     let at-read2 = at-if1 .before .before .before in
     let at-read = at-read2 .before .before in
     let at-shared-slice-known = at-read .before .before .before in
     let at-start = at-shared-slice-known .before in
-    check-ready _ _ _ _ (bytes-of (now (at-start .args .file)) (at-shared-slice-known .shared-slice-known .given)) (at-read .read .ensures .0) (at-read2 .read2 .given .1) (at-if1 .if1 .left) (at-if2 .if2 .left)
+    check-ready _ _ _ _ (bytes-of (now (at-start .args .file)) (at-shared-slice-known .shared-slice-known .given)) (at-read .read .ensures .0) (at-read2 .read2 .given .1) (at-meant .meant .ensures (at-blank-file .blank-file .ensures)) (at-if1 .if1 .left) (at-if2 .if2 .left)
 
 returns-4 : tie.Need-returns-4
 returns-4 c =
-    let at-check-meant = c .before .before .before .before in
-    let at-if2 = at-check-meant .before .before .before in
+    let at-check-read = c .before .before .before .before in
+    let at-meant = at-check-read .before .before .before in
+    let at-blank-file = at-meant .before .before in
+    let at-if2 = at-blank-file .before in
     let at-if1 = at-if2 .before in
     let at-read2 = at-if1 .before .before .before in
     let at-read = at-read2 .before .before in
     let at-shared-slice-known = at-read .before .before .before in
     let at-start = at-shared-slice-known .before in
-    with-demands (check-good _ _ _ _ (bytes-of (now (at-start .args .file)) (at-shared-slice-known .shared-slice-known .given)) (at-read .read .ensures .0) (at-read2 .read2 .given .1) (at-if1 .if1 .left) (at-if2 .if2 .left) (at-check-meant .check-meant .ensures))
+    with-demands (check-good _ _ _ _ (bytes-of (now (at-start .args .file)) (at-shared-slice-known .shared-slice-known .given)) (at-read .read .ensures .0) (at-read2 .read2 .given .1) (at-meant .meant .ensures (at-blank-file .blank-file .ensures)) (at-if1 .if1 .left) (at-if2 .if2 .left) (at-check-read .check-read .ensures))
 
 pub check-spec : {M : Type 1} → statement M
 check-spec =
@@ -80,11 +88,13 @@ check-spec =
     returns-2
     (λ c κs. search needs)
     returns-3
+    (λ c κs. search needs)
+    (λ c κs. search needs)
     (λ c. search needs)
-    slice-aggregate-check-meant
+    slice-aggregate-check-read
     (λ c. search needs)
-    slice-aggregate-check-meant-2
-    check-meant-requires
+    slice-aggregate-check-read-2
+    check-read-requires
     (λ c. search needs)
     (λ c. search needs)
     returns-4)
