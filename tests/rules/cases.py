@@ -251,7 +251,8 @@ def chosen(cases):
 
 
 def main():
-    typed = ((f, lines) for f, lines in vectors() if not 1 <= int(lines[0].split()[0]) <= 6)
+    # zero bytes are left out: their program is that of the 44 bytes, which are among the files
+    typed = ((f, lines) for f, lines in vectors() if f and not 1 <= int(lines[0].split()[0]) <= 6)
     most = int(sys.argv[1]) if len(sys.argv) == 4 else 90
     cases = [Case(f, lines) for f, lines in typed if len(sections(f)[5]) <= most]
     small = [case for case in cases if len(case.sections[0]) <= 80]

@@ -12,12 +12,11 @@ use Rattle.oat.specs.Basics.{tabulate}
 use Rattle.oat.specs.Types.{Ty}
 use Rattle.oat.specs.ProgramFile.{Limits, inRange, Program, blankProgram, blankFile, meant, IsFile}
 use Rattle.oat.proofs.LawsBlank.{meant-twice, same-meaning, blank-file, blank-is-file}
-use Rattle.file_sections.specs.declared.Reading.the-variants.{Refused}
 use Rattle.program_file.specs.Reading.{readingOf}
 use Rattle.program_file.proofs.Blank.{reading-meant, blank-program, one-byte}
 use Rattle.typing_rules.specs.Contexts.{Context}
 use Rattle.typing_rules.specs.Labels.{Labels, unlabelled}
-use Rattle.typing_rules.specs.Steps.{headings, globals, bodies, stepsOf, emptyContext, StepsRule, no-step, SameOn, same-none, OneFirst}
+use Rattle.typing_rules.specs.Steps.{headings, globals, bodies, stepsOf, emptyContext, StepsRule, no-step, same-none, OneFirst}
 use Rattle.typing_rules.proofs.LawsComputed.{computed}
 use Rattle.demand3.specs.CheckFile.{Outcome, outcome, Checks, unreadable, rows-short, work-short, checked}
 use Rattle.demand3.proofs.Theorem.{unread, one-outcome}

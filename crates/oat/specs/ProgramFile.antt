@@ -60,10 +60,14 @@ blankProgram = record { tables = blankTables; declarations = [] }
 abbrev pub blankFile : List ℕ
 blankFile = fileOf blankTables
 
+-- the bytes, or others where there are none
+unfoldable pub orElse : List ℕ → List ℕ → List ℕ
+orElse others [] = others
+orElse others (b ∷ bytes) = b ∷ bytes
+
 -- the bytes that are meant: zero bytes mean the blank file, all others themselves
-unfoldable pub meant : List ℕ → List ℕ
-meant [] = blankFile
-meant (b ∷ bytes) = b ∷ bytes
+abbrev pub meant : List ℕ → List ℕ
+meant bytes = orElse blankFile bytes
 
 -- each section has at most this many records
 pub record Counts (T : Tables) : Type 0 where

@@ -4,7 +4,7 @@ use mathlib.Core.Path.{_≡_, refl, _∙_}
 use mathlib.Core.Bool.{true}
 use mathlib.Core.List.{List, [], _∷_}
 use Prim.Native.Nat.{ℕ}
-use Rattle.oat.specs.ProgramFile.{Limits, inRange, Program, blankTables, blankProgram, meant, IsFile}
+use Rattle.oat.specs.ProgramFile.{Limits, inRange, Program, blankTables, blankProgram, orElse, meant, IsFile}
 use Rattle.oat.proofs.LawsBlank.{meant-twice, blank-is-file}
 use Rattle.file_sections.specs.declared.Reading.the-variants.{Refused, Good}
 use Rattle.file_sections.specs.Layout.{sectionOf, frontOf, sectionsOf}
@@ -25,5 +25,5 @@ module _ (limits : Limits) (range : inRange limits ≡ true) where
   blank-program p f = one-program limits [] p blankProgram f (blank-is-file limits range)
 
   pub one-byte : (b : ℕ) → readingOf limits (b ∷ []) ≡ Refused 1
-  unfolding meant sectionOf frontOf sectionsOf readingWithin
+  unfolding orElse sectionOf frontOf sectionsOf readingWithin
   one-byte b = reading-in-range limits (b ∷ []) range ∙ refl

@@ -18,7 +18,7 @@ use Rattle.oat.specs.TypeRules.{typesRight}
 use Rattle.oat.specs.TableRules.{tablesRight}
 use Rattle.oat.specs.Syntax.{Decl, sizeDecls}
 use Rattle.oat.specs.Nodes.{DeclsStand}
-use Rattle.oat.specs.ProgramFile.{Limits, inRange, Within, Program, blankFile, meant, Counts, IsFile}
+use Rattle.oat.specs.ProgramFile.{Limits, inRange, Within, Program, blankFile, orElse, meant, Counts, IsFile}
 use Rattle.oat.proofs.LawsBasics.{and-parts}
 use Rattle.oat.proofs.LawsLimits.{in-range, types-wider, wider}
 use Rattle.oat.proofs.LawsNodes.{same-trees}
@@ -53,7 +53,7 @@ low-bytes (b ∷ s) e zero = ltb-true b 256 (and-parts (ltb b 256) (lowBytes s) 
 low-bytes (b ∷ s) e (suc i) = low-bytes s (and-parts (ltb b 256) (lowBytes s) e .1) i
 
 pub meant-bytes : (s : List ℕ) → Bytes s → Bytes (meant s)
-unfolding recordNumbers numbersOf bytesOf meant
+unfolding recordNumbers numbersOf bytesOf orElse
 meant-bytes [] b = record { each = low-bytes blankFile refl }
 meant-bytes (x ∷ s) b = b
 
@@ -148,7 +148,7 @@ read-tables limits s S p e f =
 
 -- and bytes that are read are there, so they mean themselves
 read-meant : (limits : Limits) (s : List ℕ) (S : Sections) → readingWithin limits s ≡ Good S → meant s ≡ s
-unfolding meant sectionOf frontOf sectionsOf readingWithin
+unfolding orElse sectionOf frontOf sectionsOf readingWithin
 read-meant limits [] S e = absurd (let z : _≡_ {A = ℕ} 0 1 = cc in omega arith)
 read-meant limits (b ∷ s) S e = refl
 

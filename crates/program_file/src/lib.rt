@@ -3,7 +3,7 @@
 use file_sections::Reading;
 ghost use mathlib.Core.Path.{_≡_};
 ghost use Prim.Native.Nat.{_≤_};
-ghost use Rattle.oat.specs.ProgramFile.{fromOneTo, inRange, blankFile, meant};
+ghost use Rattle.oat.specs.ProgramFile.{fromOneTo, inRange, blankFile, orElse};
 ghost use Rattle.program_file.specs.Reading.{settingOf, readingWithin, readingOf, numberOf, ReadsTables};
 
 // The two limits: how many parts a type has at most, from 1 to 200, and how deep nodes are at most, from 1 to 100.
@@ -36,64 +36,21 @@ fn in_range(limits: Limits) -> bool
     from_one_to(200, limits.parts) && from_one_to(100, limits.depth)
 }
 
-// The blank file: types 0 to 3 and nothing else.
-const BLANK: [u8; 44] = [
-    4,
-    0, //
-    0,
-    0,
-    0,
-    0,
-    0,
-    0,
-    0,
-    0, //
-    1,
-    0,
-    0,
-    0,
-    0,
-    0,
-    0,
-    0, //
-    2,
-    0,
-    0,
-    0,
-    0,
-    0,
-    0,
-    0, //
-    3,
-    0,
-    0,
-    0,
-    0,
-    0,
-    0,
-    0, //
-    0,
-    0,
-    0,
-    0,
-    0,
-    0,
-    0,
-    0,
-    0,
-    0,
-];
-
-// The blank file, which zero bytes mean.
+// The blank file, which zero bytes mean: four types, of kinds 0 to 3, and nothing else.
 pub fn blank_file() -> [u8; 44]
     ensures { λ r. ⌜ r ≡ blankFile ⌝ }
 {
-    BLANK
+    let mut file = [0u8; 44];
+    file[0] = 4;
+    file[10] = 1;
+    file[18] = 2;
+    file[26] = 3;
+    file
 }
 
-// The bytes that a file means: for zero bytes those of the blank file, which the caller lends, else its own.
+// The bytes that a file means, where `blank` is the blank file: its own, or for zero bytes those of `blank`.
 pub fn meant<'a>(file: &'a [u8], blank: &'a [u8; 44]) -> &'a [u8]
-    ensures { λ r. ⌜ (now (blank .entry) ≡ blankFile → now r ≡ meant (now (file .entry))) ⌝ }
+    ensures { λ r. ⌜ now r ≡ orElse (now (blank .entry)) (now (file .entry)) ⌝ }
 {
     if file.len() == 0 {
         return blank;

@@ -1,5 +1,6 @@
 -- `read` meets its contract, which has demand 1 in it. Assumes nothing.
 use borrow.Author.Needs.{needs}
+use Rattle.oat.proofs.LawsBlank.{these-meant}
 use Rattle.program_file.proofs.LawsReading.{parts-few, tested-out, tested-in}
 use Rattle.program_file.proofs.Theorem.{bytes-of, with-demand1}
 use Rattle.program_file.proofs.read.Statement.{statement}
@@ -22,7 +23,7 @@ returns-2 c =
     let at-if1 = at-blank-file .before in
     let at-in-range = at-if1 .before in
     with-demand1 _ _ (bytes-of _ (at-in-range .before .shared-slice-known .given)) _
-    (tested-in _ _ _ (at-in-range .in-range .ensures) _ _ (at-if1 .if1 .left) (at-meant .meant .ensures (at-blank-file .blank-file .ensures)) (c .read-within .ensures))
+    (tested-in _ _ _ (at-in-range .in-range .ensures) _ _ (at-if1 .if1 .left) (these-meant _ _ (at-meant .meant .ensures) (at-blank-file .blank-file .ensures)) (c .read-within .ensures))
 
 pub read-spec : {M : Type 1} → statement M
 read-spec =

@@ -1,5 +1,6 @@
 -- `question::subtype` meets its contract, in which its number and its yes speak of programs and of the rules. Assumes nothing.
 use borrow.Author.Needs.{needs}
+use Rattle.oat.proofs.LawsBlank.{these-meant}
 use Rattle.subtyping.proofs.LawsQuestion.{not-read, first-lacks, second-lacks, tables-there, both-there, with-answers}
 use Rattle.subtyping.proofs.question.subtype.Statement.{statement}
 use Rattle.subtyping.proofs.question.subtype.Tie as tie
@@ -11,7 +12,7 @@ ask-requires c κs =
     let at-if1 = at-if2 .before .before in
     let at-read2 = at-if1 .before .before .before in
     let at-read = at-read2 .before .before in
-    (tables-there _ _ 0 0 _ (at-read .read .ensures .0) _ (at-read2 .read2 .given .1) _ (c .meant .ensures (at-blank-file .blank-file .ensures)), search needs, search needs)
+    (tables-there _ _ 0 0 _ (at-read .read .ensures .0) _ (at-read2 .read2 .given .1) _ (these-meant _ _ (c .meant .ensures) (at-blank-file .blank-file .ensures)), search needs, search needs)
 
 returns-4 : tie.Need-returns-4
 returns-4 c =
@@ -20,7 +21,7 @@ returns-4 c =
     let at-read2 = at-blank-file .before .before .before .before .before .before in
     let at-read = at-read2 .before .before in
     with-answers _ _ _ _ _ (at-read .read .ensures) _
-    (both-there _ _ _ _ _ (at-read .read .ensures .0) _ (at-read2 .read2 .given .1) _ (at-meant .meant .ensures (at-blank-file .blank-file .ensures)) _ (c .ask .ensures))
+    (both-there _ _ _ _ _ (at-read .read .ensures .0) _ (at-read2 .read2 .given .1) _ (these-meant _ _ (at-meant .meant .ensures) (at-blank-file .blank-file .ensures)) _ (c .ask .ensures))
 
 pub subtype-spec : {M : Type 1} → statement M
 subtype-spec =

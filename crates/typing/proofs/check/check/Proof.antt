@@ -4,6 +4,7 @@ use lib.Seq.{length-take-le}
 use mathlib.Core.Path.{sym}
 use denote.Ref.{now}
 use borrow.Author.Needs.{needs}
+use Rattle.oat.proofs.LawsBlank.{these-meant}
 use Rattle.program_file.proofs.Theorem.{bytes-of}
 use Rattle.typing.proofs.LawsCheck.{nodes-few, check-unread, check-rows-short, check-work-short, check-ready, check-good, with-demands}
 use Rattle.typing.proofs.check.check.Statement.{statement}
@@ -58,7 +59,7 @@ check-read-requires c κs =
     let at-read = at-read2 .before .before in
     let at-shared-slice-known = at-read .before .before .before in
     let at-start = at-shared-slice-known .before in
-    check-ready _ _ _ _ (bytes-of (now (at-start .args .file)) (at-shared-slice-known .shared-slice-known .given)) (at-read .read .ensures .0) (at-read2 .read2 .given .1) (at-meant .meant .ensures (at-blank-file .blank-file .ensures)) (at-if1 .if1 .left) (at-if2 .if2 .left)
+    check-ready _ _ _ _ (bytes-of (now (at-start .args .file)) (at-shared-slice-known .shared-slice-known .given)) (at-read .read .ensures .0) (at-read2 .read2 .given .1) (these-meant _ _ (at-meant .meant .ensures) (at-blank-file .blank-file .ensures)) (at-if1 .if1 .left) (at-if2 .if2 .left)
 
 returns-4 : tie.Need-returns-4
 returns-4 c =
@@ -71,7 +72,7 @@ returns-4 c =
     let at-read = at-read2 .before .before in
     let at-shared-slice-known = at-read .before .before .before in
     let at-start = at-shared-slice-known .before in
-    with-demands (check-good _ _ _ _ (bytes-of (now (at-start .args .file)) (at-shared-slice-known .shared-slice-known .given)) (at-read .read .ensures .0) (at-read2 .read2 .given .1) (at-meant .meant .ensures (at-blank-file .blank-file .ensures)) (at-if1 .if1 .left) (at-if2 .if2 .left) (at-check-read .check-read .ensures))
+    with-demands (check-good _ _ _ _ (bytes-of (now (at-start .args .file)) (at-shared-slice-known .shared-slice-known .given)) (at-read .read .ensures .0) (at-read2 .read2 .given .1) (these-meant _ _ (at-meant .meant .ensures) (at-blank-file .blank-file .ensures)) (at-if1 .if1 .left) (at-if2 .if2 .left) (at-check-read .check-read .ensures))
 
 pub check-spec : {M : Type 1} → statement M
 check-spec =
