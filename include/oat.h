@@ -5,8 +5,8 @@
    time as long as no buffer is lent to two of them. A pointer points to as many elements as the length after it says; with the length 0
    it may be any pointer, but not a null pointer. The parts of memory that are lent to one call do not overlap.
 
-   All else that a call uses is on the stack: local arrays of at most 16,384 bytes together, and the frames of nested calls, whose
-   number no file raises past a bound. The most measured is 92,000 bytes on the stored files and 168,080 on a file made to need much,
+   All else that a call uses is on the stack: local arrays of at most 16,428 bytes together, and the frames of nested calls, whose
+   number no file raises past a bound. The most measured is 92,048 bytes on the stored files and 168,128 on a file made to need much,
    so a thread that calls should have 256 KiB of stack left. No theorem bounds the stack in bytes (docs/BENCHMARKS.md); a call with too
    little fails as any function of C does. */
 #ifndef OAT_H
