@@ -25,7 +25,7 @@ pub record SameAnswer (p : Program) (o u : Outcome) : Type 0 where
   pub place : o .place ≡ u .place
   pub rows : take (needed p) (o .rows) ≡ take (needed p) (u .rows)
 
--- the sections can be cut, some type has more parts than the limits a let it have, and under b no rule of types is broken
+-- the sections of the bytes that are meant can be cut, some type has more parts than the limits a let it have, and under b no rule of types is broken
 pub record MoreParts (a b : Limits) (bytes : List ℕ) : Type 0 where
   pub sections : Sections
   pub cut : sectionsOf (meant bytes) ≡ Good sections

@@ -53,6 +53,7 @@ baseTypes = base 0 ∷ base 1 ∷ base 2 ∷ base 3 ∷ []
 abbrev pub blankTables : Tables
 blankTables = record { types = baseTypes; list = []; fields = []; structs = []; builtIns = []; nodes = [] }
 
+-- its program: no declarations
 abbrev pub blankProgram : Program
 blankProgram = record { tables = blankTables; declarations = [] }
 

@@ -1,5 +1,5 @@
--- The subtype question (document 01, 'Rows and answers'; document 02, (xi)): 25, then 1 to 5, then 17, then yes or no; and what its number and
--- its yes say of the limits, the file and the rules. Assumes nothing.
+-- The subtype question (document 01, 'Rows and answers'; document 02, (xi)): 25, then 1 to 5, then 17, then yes or no, of the types in the bytes
+-- that are meant (document 02, (v)); and what its number and its yes say of the limits, the file and the rules. Assumes nothing.
 use mathlib.Core.Path.{_≡_}
 use mathlib.Core.Bool.{true, false}
 use mathlib.Core.List.{List}
