@@ -57,21 +57,10 @@ module _ (R : List ℕ) (n a b : ℕ) where
     row-binder = getD-set-same (set R (n * 2) a) (n * 2 + 1) b 0 (simp length-set (omega arith))
 
 module _ {F : List ℕ} {S : Sections} {X : List ℕ} {base : ℕ} where
-  -- rows, or a stack, of another length or contents
+  -- other rows of the same length
   pub fine-rows : {R R′ W K : List ℕ} {s : ℕ} → Fine F S X R W K base s → length R′ ≡ length R → Fine F S X R′ W K base s
   fine-rows {R} {R′} f e =
       record { good-tables = f .good-tables; indexed = f .indexed; rows-long = subst (λ k. S .nodes * 2 ≤ k) (sym e) (f .rows-long); scoped = f .scoped; low = f .low; above = f .above }
-
-  pub fine-stack : {R W W′ K : List ℕ} {s : ℕ} → Fine F S X R W K base s → Same (entryOf (tablesOf F S) s) W W′ → length W′ ≡ length W → Fine F S X R W′ K base s
-  fine-stack {R} {W} {W′} f m e =
-      record {
-        good-tables = f .good-tables;
-        indexed = f .indexed;
-        rows-long = f .rows-long;
-        scoped = scoped-same (f .scoped) m (subst (λ k. S .nodes * 2 ≤ k) (sym e) (f .scoped .long));
-        low = f .low;
-        above = f .above;
-      }
 
   -- nothing written yet
   pub after-none : {R W K : List ℕ} {s : ℕ} (n : ℕ) → Fine F S X R W K base s → After F S X base [] n 0 s s R W R W K

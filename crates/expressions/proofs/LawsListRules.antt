@@ -14,6 +14,7 @@ use Rattle.oat.specs.Syntax.{Expr, arrayLiteral, structLiteral, call, size, Exp
 use Rattle.oat.specs.Nodes.{Stands, StandAll, InitsStand}
 use Rattle.oat.proofs.LawsTables.{has-kind}
 use Rattle.typing_rules.specs.Labels.{Label}
+use Rattle.typing_rules.specs.Rules.{namesFit}
 use Rattle.typing_rules.specs.Judge.{Out, ok, andThen, onDeclared, plain, isKind, referred, formed, eachBelow, argumentsBelow, judge}
 use Rattle.file_sections.specs.declared.Sections.{Sections}
 use Rattle.file_sections.specs.Layout.{Has, tablesOf}
@@ -24,7 +25,7 @@ use Rattle.type_index.specs.Index.{declared, recordOf, structNamed, structEntry
 use Rattle.type_index.proofs.LawsIndex.{lookup-is}
 use Rattle.bindings.specs.Bindings.{entryOf, scopeOf}
 use Rattle.bindings.proofs.LawsBindings.{scope-same, names-same}
-use Rattle.fields.specs.Literal.{Named, Fitting}
+use Rattle.fields.specs.Literal.{Initializers, OfInitializers}
 use Rattle.answers.specs.declared.answer.Judgement.the-variants.{Typed, GoesOn, Refused}
 use Rattle.answers.specs.declared.answer.Judged.{Judged}
 use Rattle.answers.specs.declared.leaves.Expected.{Expected}
@@ -32,7 +33,7 @@ use Rattle.answers.specs.declared.leaves.Expected.the-variants.{Each, Run}
 use Rattle.answers.specs.Answers.{withRow}
 use Rattle.expressions.specs.Contract.{contextOf, Fine, After, Typing, Listing, Meets, accepts, refuses, Answers, Ready, Told, expectedBelow, listed, ReadyList, ToldList, initialized, ReadyInits, ToldInits}
 use Rattle.expressions.proofs.LawsMeets.{Untyped, Unlisted, stops, passes, child-ok, list-no, list-ok, then-tested}
-use Rattle.expressions.proofs.LawsAfter.{fine-stack, typing-of, after-append, rule-typed}
+use Rattle.expressions.proofs.LawsAfter.{typing-of, after-append, rule-typed}
 use Rattle.expressions.proofs.LawsChild.{child-within, has-type, kind-within, element-within, returned-within, type-entered, formed-is, parameters-within}
 use Rattle.expressions.proofs.LawsList.{exprIn, judgedIn, listedIn, listed-fine}
 use Rattle.expressions.proofs.LawsInits.{initsIn, fitsIn, initializedIn, initialized-fine}
@@ -47,10 +48,6 @@ module _ {F : List ℕ} {S : Sections} {X : List ℕ} {base : ℕ} where
       let laid = f .good-tables .laid in
       (omega (arith, f .rows-long, h), omega (arith, h, laid .nodes-most), omega (arith, k, laid .types-most))
 
-  -- a stack that had changed above the scope before
-  pub after-since : {L : List (Label ℕ)} {n k s : ℕ} {R W W₀ R₁ W₁ K₁ : List ℕ} → Same (entryOf (tablesOf F S) s) W W₀ → After F S X base L n k s s R W₀ R₁ W₁ K₁ → After F S X base L n k s s R W R₁ W₁ K₁
-  after-since m a = record { rows = a .rows; kept = a .kept; same = same-more m (a .same); fine = a .fine }
-
   -- a later list sees the scope and the names of the part before it
   pub retell-list : {W R₁ W₁ R₂ W₂ K₂ : List ℕ} {s m i q left : ℕ} {x : Expected} {parent : ℕ} {r : Judged} → Same (entryOf (tablesOf F S) s) W W₁ → base ≤ s → m ≡ i → q ≡ s
       → ToldList F S X R₁ W₁ base m q left x parent R₂ W₂ K₂ r → (es : Exprs) → StandAll (tablesOf F S) i es → count es ≡ left
@@ -60,16 +57,6 @@ module _ {F : List ℕ} {S : Sections} {X : List ℕ} {base : ℕ} where
       (subst (λ N. Meets (Listing F S X base i (sizes es) s R₁ W₁ R₂ W₂ K₂ r) r (listed (tablesOf F S) (record { structs = declared (tablesOf F S); names = N }) es i (scopeOf (tablesOf F S) W₁ base s) x parent))
       (names-same (tablesOf F S) s a base l)
       (subst (λ j. ToldList F S X R₁ W₁ base j s left x parent R₂ W₂ K₂ r) e (subst (λ j. ToldList F S X R₁ W₁ base m j left x parent R₂ W₂ K₂ r) f told) .tells es h c))
-
-  pub retell-inits : {W R₁ W₁ R₂ W₂ K₂ : List ℕ} {s m left owner parent : ℕ} {r : Judged} → Same (entryOf (tablesOf F S) s) W W₁ → base ≤ s
-      → ToldInits F S X R₁ W₁ base m s left owner parent R₂ W₂ K₂ r → (is : Inits) → InitsStand (tablesOf F S) m is → countInits is ≡ left
-      → Meets (Listing F S X base m (sizeInits is) s R₁ W₁ R₂ W₂ K₂ r) r
-      (initializedIn F S W base s owner is m parent)
-  retell-inits {W} {R₁} {W₁} {R₂} {W₂} {K₂} {s} {m} {left} {owner} {parent} {r} a l told is h c =
-      subst (λ Γ. Meets (Listing F S X base m (sizeInits is) s R₁ W₁ R₂ W₂ K₂ r) r (initialized (tablesOf F S) (contextOf (tablesOf F S) W base) (structOf (tablesOf F S) owner .fields) is m Γ parent)) (scope-same (tablesOf F S) s a base)
-      (subst (λ N. Meets (Listing F S X base m (sizeInits is) s R₁ W₁ R₂ W₂ K₂ r) r (initialized (tablesOf F S) (record { structs = declared (tablesOf F S); names = N }) (structOf (tablesOf F S) owner .fields) is m (scopeOf (tablesOf F S) W₁ base s) parent))
-      (names-same (tablesOf F S) s a base l)
-      (told .tells is h c))
 
 -- array literal
 array-at : {T : Tables} {n t : ℕ} → t ≡ nodeAt T n .t → (P : Expr → Type 0) → ((es : Exprs) → Stands T n (arrayLiteral t es) → P (arrayLiteral t es))
@@ -278,10 +265,6 @@ struct-at : {T : Tables} {n t : ℕ} → t ≡ nodeAt T n .t → (P : Expr → T
     → nodeAt T n .kind ≡ 21 → (e : Expr) → Stands T n e → P e
 struct-at {T} {n} et P f = on-struct P (λ u is h. subst (λ v. Stands T n (structLiteral v is) → P (structLiteral v is)) (et ∙ h .0 .t-is) (f is) h)
 
-inits-few : (is : Inits) → countInits is ≤ sizeInits is
-inits-few noInit = omega arith
-inits-few (init x a is) = omega (arith, inits-few is)
-
 -- the struct that a type of kind 4 names
 struct-record : (T : Tables) (t : ℕ) → typeAt T t .kind ≡ 4 → structNamed T t ≡ recordOf T (referred T t)
 unfolding structNamed
@@ -312,10 +295,6 @@ module _ {F : List ℕ} {S : Sections} {X R W K : List ℕ} {base n s : ℕ} (g 
   pub struct-within : t < S .types
   struct-within = struct-kind .0
 
-  -- names are kept above the scope's entries
-  pub struct-low : S .«built_ins» ≤ s
-  struct-low = omega (arith, g .fine .low, g .fine .above)
-
   module _ {o : ℕ} (eo : o ≡ structEntry X t) where
     owner-is : o ≡ recordOf (tablesOf F S) (referred (tablesOf F S) t)
     owner-is = eo ∙ g .fine .indexed .named t struct-within ∙ struct-record (tablesOf F S) t (struct-kind .1)
@@ -332,51 +311,39 @@ module _ {F : List ℕ} {S : Sections} {X R W K : List ℕ} {base n s : ℕ} (g 
       owner-found : lookup (declared (tablesOf F S)) (referred (tablesOf F S) t) ≡ found (structOf (tablesOf F S) o .fields)
       owner-found = struct-found-is (tablesOf F S) _ o owner-is (subst (λ i. o < i) (sym (structs-long F S)) low)
 
-      pub struct-named : Named F S W ((s - S .«built_ins») * 2) n o
+      pub struct-named : Initializers F S (n + 1) (nodeAt (tablesOf F S) n .children)
       struct-named =
-          struct-at et (λ e. s + size e ≤ S .«built_ins» + S .nodes → Named F S W ((s - S .«built_ins») * 2) n o)
+          struct-at et (λ e. Initializers F S (n + 1) (nodeAt (tablesOf F S) n .children))
+          (λ is h. record { laid = g .fine .good-tables .laid; inits = is; stand = h .2; counted = sym (h .0 .children-is) }) kind (g .tree) (g .stands)
+
+      pub struct-inits : {c : ℕ} → c ≡ nodeAt (tablesOf F S) n .children → ReadyInits F S X R W K base (n + 1) s c o
+      struct-inits {c} ec =
+          struct-at et (λ e. s + size e ≤ S .«built_ins» + S .nodes → ReadyInits F S X R W K base (n + 1) s c o)
           (λ is h l. record {
-            good-tables = g .fine .good-tables;
-            within = g .within;
-            declared = low;
+            fine = g .fine;
+            within = omega (arith, g .within);
+            declared-there = low;
             inits = is;
             stand = h .2;
-            counted = h .0 .children-is;
-            room = omega (arith, l, inits-few is, struct-low, g .fine .scoped .long);
+            counted = sym (ec ∙ h .0 .children-is);
+            room = omega arith;
           })
           kind (g .tree) (g .stands) (g .room)
 
-      module _ {W₀ : List ℕ} {b : Bool} (fit : Fitting F S W ((s - S .«built_ins») * 2) n o W₀ b) where
-        pub struct-names : {r : Judged} → not b ≡ true → r .judgement ≡ Refused 12 n → Told F S X R W base n s R W₀ K r
+      module _ {b : Bool} (fit : OfInitializers F S (n + 1) (nodeAt (tablesOf F S) n .children) (λ is. b ≡ namesFit (structOf (tablesOf F S) o .fields) is)) where
+        pub struct-names : {r : Judged} → not b ≡ true → r .judgement ≡ Refused 12 n → Told F S X R W base n s R W K r
         unfolding judge
         struct-names {r} f e =
             record {
-              tells = struct-at et (Answers F S X R W base n s R W₀ K r)
-                  (λ is h. on-found _ n _ _ owner-found (stops _ 12 n _ (sym (fit .tells is (h .2) (h .0 .children-is)) ∙ not-true b f) e)) kind;
+              tells = struct-at et (Answers F S X R W base n s R W K r)
+                  (λ is h. on-found _ n _ _ owner-found (stops _ 12 n _ (sym (fit .holds is (h .2) (sym (h .0 .children-is))) ∙ not-true b f) e)) kind;
             }
 
-        stack-same : Same (entryOf (tablesOf F S) s) W W₀
-        stack-same = record { at = λ i h. fit .kept .before i (subst (λ k. i < (s - k) * 2) (built-ins-long F S) h) }
-
-        pub struct-inits : {c : ℕ} → length W₀ ≡ length W → c ≡ nodeAt (tablesOf F S) n .children → ReadyInits F S X R W₀ K base (n + 1) s c o
-        struct-inits {c} el ec =
-            struct-at et (λ e. s + size e ≤ S .«built_ins» + S .nodes → ReadyInits F S X R W₀ K base (n + 1) s c o)
-            (λ is h l. record {
-              fine = fine-stack (g .fine) stack-same el;
-              within = omega (arith, g .within);
-              declared-there = low;
-              inits = is;
-              stand = h .2;
-              counted = sym (ec ∙ h .0 .children-is);
-              room = omega arith;
-            })
-            kind (g .tree) (g .stands) (g .room)
-
         module _ (fb : not b ≡ false) {c : ℕ} (ec : c ≡ nodeAt (tablesOf F S) n .children) {R₁ W₁ K₁ : List ℕ} {r₁ : Judged}
-            (m₁ : ToldInits F S X R W₀ base (n + 1) s c o n R₁ W₁ K₁ r₁) where
+            (m₁ : ToldInits F S X R W base (n + 1) s c o n R₁ W₁ K₁ r₁) where
           struct-told : {r : Judged} {R′ W′ K′ : List ℕ}
               → ((is : Inits)
-              → Meets (Listing F S X base (n + 1) (sizeInits is) s R W₀ R₁ W₁ K₁ r₁) r₁
+              → Meets (Listing F S X base (n + 1) (sizeInits is) s R W R₁ W₁ K₁ r₁) r₁
               (initializedIn F S W base s o is (n + 1) n)
               → Meets (Typing F S X base n (size (structLiteral t is)) s R W R′ W′ K′ r) r
               (andThen (initializedIn F S W base s o is (n + 1) n)
@@ -388,18 +355,18 @@ module _ {F : List ℕ} {S : Sections} {X R W K : List ℕ} {base n s : ℕ} (g 
                 tells = struct-at et (Answers F S X R W base n s R′ W′ K′ r)
                     (λ is h.
                     on-found _ n _ _ owner-found
-                    (passes _ 12 n _ (sym (fit .tells is (h .2) (h .0 .children-is)) ∙ not-false b fb)
+                    (passes _ 12 n _ (sym (fit .holds is (h .2) (sym (h .0 .children-is))) ∙ not-false b fb)
                     (then-tested (initsIn F S W base s is (n + 1))
                     (fitsIn F S W base o is) 11 n
                     (λ ts L. plain t (scopeOf (tablesOf F S) W base s) L)
-                    (go is (retell-inits stack-same (g .fine .above) m₁ is (h .2) (sym (ec ∙ h .0 .children-is))))))) kind;
+                    (go is (m₁ .tells is (h .2) (sym (ec ∙ h .0 .children-is))))))) kind;
               }
 
           pub struct-no : Unlisted r₁ → Told F S X R W base n s R₁ W₁ K₁ r₁
           struct-no z = struct-told (λ is v. list-no _ _ z v)
 
-          pub struct-row : length W₀ ≡ length W → r₁ .judgement ≡ GoesOn → (n * 2 + 1 < length R₁) × (n < 65536) × (t < 65536)
-          struct-row el y = row-fits (initialized-fine (struct-inits el ec) m₁ y) (g .within) struct-within
+          pub struct-row : r₁ .judgement ≡ GoesOn → (n * 2 + 1 < length R₁) × (n < 65536) × (t < 65536)
+          struct-row y = row-fits (initialized-fine (struct-inits ec) m₁ y) (g .within) struct-within
 
           pub struct-ok : {r : Judged} {R′ : List ℕ} → r₁ .judgement ≡ GoesOn → r ≡ record { judgement = Typed t; at = r₁ .at } → R′ ≡ withRow R₁ n t 65535
               → Told F S X R W base n s R′ W₁ K₁ r
@@ -407,4 +374,4 @@ module _ {F : List ℕ} {S : Sections} {X R W K : List ℕ} {base n s : ℕ} (g 
               struct-told
               (λ is v.
               list-ok _ _ y v λ ts L q p.
-              accepts _ _ (rule-typed (g .within) struct-within (after-since stack-same (p .after)) er (p .next) (p .scope) refl eR))
+              accepts _ _ (rule-typed (g .within) struct-within (p .after) er (p .next) (p .scope) refl eR))

@@ -449,14 +449,7 @@ fn struct_literal(
     if frame.sections.structs <= owner {
         return refused(9, at.node, at);
     }
-    if !names_fit(
-        file,
-        frame.sections,
-        work,
-        (at.scope - frame.sections.built_ins) * 2,
-        at.node,
-        owner,
-    ) {
+    if !names_fit(file, frame.sections, at.node, owner) {
         return refused(12, at.node, at);
     }
     let all = inits(

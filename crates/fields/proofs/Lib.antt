@@ -1,4 +1,4 @@
-pub mod LawsTimes
-pub mod LawsCopies
 pub mod LawsLookup
+pub mod LawsDistinct
+pub mod LawsInitializers
 pub mod LawsFitting

@@ -1,5 +1,6 @@
-// The names of a struct literal: every field once, in any order. They are copied, with those of the fields, to the free part of
-// `work`, and each field's name is counted in both.
+// The names of a struct literal: every field once, in any order. Names are compared where they stand in the file. With as many
+// initializers as fields it is enough that fields are distinct and each of them is named.
+use crate::distinct::are_distinct;
 use file_sections::Sections;
 use file_sections::records::field_name;
 use file_sections::records::node_children;
@@ -8,111 +9,61 @@ use file_sections::records::struct_count;
 use file_sections::records::struct_first;
 use file_sections::trees::past;
 ghost use mathlib.Core.Path.{_≡_};
-ghost use Prim.Native.Nat.{_+_, _*_, _≤_, _<_};
-ghost use lib.ListN.{length};
-ghost use Rattle.file_sections.specs.Layout.{Laid};
-ghost use Rattle.fields.specs.Literal.{timesIn, onceEach, Initializers, Copied, CopiedFields, Named, Fitting};
+ghost use Prim.Native.Nat.{_+_, _<_};
+ghost use Rattle.oat.specs.Tables.{nodeAt, structAt};
+ghost use Rattle.oat.specs.Types.{structOf};
+ghost use Rattle.typing_rules.specs.Rules.{namesFit};
+ghost use Rattle.file_sections.specs.Layout.{tablesOf, GoodTables};
+ghost use Rattle.fields.specs.Literal.{isNamed, allNamed, Initializers, OfInitializers};
 
-// Copies the names of `count` field initializers, the first at `node`, to `work` from `top` on.
-fn initializer_names(
-    file: &[u8],
-    sections: Sections,
-    work: &mut [u16],
-    top: usize,
-    node: usize,
-    count: usize,
-)
-    requires { ⌜ Initializers (now file) sections (now work) top node count ⌝ }
-    ensures { λ _. ⌜ Copied (now (file .entry)) sections (now (work .entry)) top node count (now (work .exit)) ⌝ }
+// One of `count` initializers, the first at `node`, has the name.
+fn is_named(file: &[u8], sections: Sections, node: usize, count: usize, name: usize) -> bool
+    requires { ⌜ Initializers (now file) sections node count ⌝ }
+    ensures { λ r. ⌜ OfInitializers (now (file .entry)) sections node count (λ is. r ≡ isNamed name is) ⌝ }
 {
     let mut at = node;
     let mut i = 0;
     while i < count {
-        work[top + i] = node_x(file, sections, at) as u16;
-        at = past(file, sections, at);
-        i += 1;
-    }
-}
-
-// Copies the names of `count` fields from `first` on to `work` from `top` on.
-pub fn field_names(
-    file: &[u8],
-    sections: Sections,
-    work: &mut [u16],
-    top: usize,
-    first: usize,
-    count: usize,
-)
-    requires { ⌜ Laid (now file) sections × (first + count ≤ sections .fields) × (top + count ≤ length (now work)) ⌝ }
-    ensures { λ _. ⌜ CopiedFields (now (file .entry)) sections (now (work .entry)) top first count (now (work .exit)) ⌝ }
-{
-    let mut i = 0;
-    while i < count {
-        work[top + i] = field_name(file, sections, first + i) as u16;
-        i += 1;
-    }
-}
-
-// How often the name stands among `count` numbers from `from` on.
-pub fn times(names: &[u16], from: usize, count: usize, name: u16) -> u16
-    requires { ⌜ (from + count ≤ length (now names)) × (count < 65536) ⌝ }
-    ensures { λ r. ⌜ r ≡ timesIn (now (names .entry)) from count name ⌝ }
-{
-    let mut found = 0u16;
-    let mut i = 0;
-    while i < count {
-        if names[from + i] == name {
-            found += 1;
+        if node_x(file, sections, at) == name {
+            return true;
         }
+        at = past(file, sections, at + 1);
         i += 1;
     }
-    found
+    false
 }
 
-// Of twice `count` names from `top` on, each of the second half stands once in that half, and once in the first.
-fn each_once(names: &[u16], top: usize, count: usize) -> bool
-    requires { ⌜ (top + count * 2 ≤ length (now names)) × (count < 65536) ⌝ }
-    ensures { λ r. ⌜ r ≡ onceEach (now (names .entry)) top count ⌝ }
+// Each of the `count` fields of the struct record `owner` is named by one of as many initializers, the first at `node`: by that in its
+// own place, or by another.
+fn all_named(file: &[u8], sections: Sections, node: usize, count: usize, owner: usize) -> bool
+    requires { ⌜ GoodTables (now file) sections × (owner < sections .structs) × (count ≡ structAt (tablesOf (now file) sections) owner .count) × Initializers (now file) sections node count ⌝ }
+    ensures { λ r. ⌜ OfInitializers (now (file .entry)) sections node count (λ is. r ≡ allNamed (structOf (tablesOf (now (file .entry)) sections) owner .fields) is) ⌝ }
 {
+    let first = struct_first(file, sections, owner);
+    let mut at = node;
     let mut i = 0;
     while i < count {
-        let name = names[top + count + i];
-        if times(names, top + count, count, name) != 1 {
+        let name = field_name(file, sections, first + i);
+        if node_x(file, sections, at) != name && !is_named(file, sections, node, count, name) {
             return false;
         }
-        if times(names, top, count, name) != 1 {
-            return false;
-        }
+        at = past(file, sections, at + 1);
         i += 1;
     }
     true
 }
 
-// The literal at `node` names every field of the struct record `owner` once. Uses `work` from `top` on, twice as many numbers as there
-// are initializers.
-pub fn names_fit(
-    file: &[u8],
-    sections: Sections,
-    work: &mut [u16],
-    top: usize,
-    node: usize,
-    owner: usize,
-) -> bool
-    requires { ⌜ Named (now file) sections (now work) top node owner ⌝ }
-    ensures { λ r. ⌜ Fitting (now (file .entry)) sections (now (work .entry)) top node owner (now (work .exit)) r ⌝ }
+// The literal at `node` names every field of the struct record `owner` once.
+pub fn names_fit(file: &[u8], sections: Sections, node: usize, owner: usize) -> bool
+    requires { ⌜ GoodTables (now file) sections × (node < sections .nodes) × (owner < sections .structs) × Initializers (now file) sections (node + 1) (nodeAt (tablesOf (now file) sections) node .children) ⌝ }
+    ensures { λ r. ⌜ OfInitializers (now (file .entry)) sections (node + 1) (nodeAt (tablesOf (now (file .entry)) sections) node .children) (λ is. r ≡ namesFit (structOf (tablesOf (now (file .entry)) sections) owner .fields) is) ⌝ }
 {
     let count = node_children(file, sections, node);
     if count != struct_count(file, sections, owner) {
         return false;
     }
-    initializer_names(file, sections, work, top, node + 1, count);
-    field_names(
-        file,
-        sections,
-        work,
-        top + count,
-        struct_first(file, sections, owner),
-        count,
-    );
-    each_once(&*work, top, count)
+    if !are_distinct(file, sections, owner) {
+        return false;
+    }
+    all_named(file, sections, node + 1, count, owner)
 }

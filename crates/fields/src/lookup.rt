@@ -17,7 +17,7 @@ pub enum FieldType {
 }
 
 // The type of the field `name` among `count` fields from `first` on; the first of that name.
-fn field_among(
+pub fn field_among(
     file: &[u8],
     sections: Sections,
     name: usize,

@@ -4,7 +4,7 @@ use mathlib.Core.Path.{_≡_, refl, ap, ap₂, sym, subst, _∙_}
 use mathlib.Core.Bool.{Bool, true, false, not, false≢true}
 use mathlib.Core.List.{List, [], _∷_, _++_}
 use Prim.Native.Nat.{ℕ, zero, suc, _+_, _%_, _≤_, _<_}
-use native.Mathlib.Nat.{zero-add, not-suc-le-zero, le-of-suc-le-suc}
+use native.Mathlib.Nat.{not-suc-le-zero, le-of-suc-le-suc}
 use native.Mathlib.Omega.{arith}
 use lib.ListN.{length, getD, set, length-set}
 use lib.Seq.{getD-set-same, getD-set-other}
@@ -29,7 +29,6 @@ use Rattle.type_index.specs.Index.{formedEntry, Entered, Indexed}
 use Rattle.type_index.proofs.LawsIndex.{entered}
 use Rattle.bindings.specs.Bindings.{namesOf, Bindable, Bound}
 use Rattle.bindings.proofs.LawsBindings.{scoped-linked, names-linked, names-declared}
-use Rattle.fields.specs.Literal.{timesIn, CopiedFields}
 use Rattle.fields.proofs.LawsLookup.{record-fields}
 use Rattle.answers.specs.declared.answer.Judgement.{Judgement}
 use Rattle.answers.specs.declared.answer.Judgement.the-variants.{Typed, GoesOn, Returns}
@@ -38,9 +37,9 @@ use Rattle.expressions.proofs.LawsChild.{kind-within}
 use Rattle.steps.specs.declared.context.Context.{Context}
 use Rattle.steps.specs.declared.context.Stepped.{Stepped}
 use Rattle.steps.specs.declared.context.Stepped.the-variants.{Next, Refused}
-use Rattle.steps.specs.Contract.{contextAt, withStruct, withName, withStep, handedUp, Held, answers-next, Answered, Copied, Newness, Whole, Rowless, ReadyStruct, ToldStruct, ReadyBuiltIn, ReadyHeading, ToldHeading, ReadyFields, typesFormed, allNew}
+use Rattle.steps.specs.Contract.{contextAt, withStruct, withName, withStep, handedUp, Held, answers-next, Answered, Copied, Newness, Whole, Rowless, ReadyStruct, ToldStruct, ReadyBuiltIn, ReadyHeading, ToldHeading, ReadyFields, typesFormed, timesIn}
 use Rattle.steps.proofs.LawsStepping.{stops, passes, answer-stops, answer-passes, rowless}
-use Rattle.steps.proofs.LawsNames.{times-none-of, times-absent, types-formed-are, names-distinct}
+use Rattle.steps.proofs.LawsNames.{times-none-of, times-absent, types-formed-are}
 
 -- the refusal of a judgement
 module _ (j : Judgement) (step : ℕ) where
@@ -77,7 +76,7 @@ unfolding structsOf
 structs-more T n = sym (tabulate-more n (structOf T))
 
 -- the name of a struct, among those of the structs before it
-struct-new-is : (F : List ℕ) (S : Sections) (N : List ℕ) (i x n : ℕ) → Copied F S N i → x ≡ structAt (tablesOf F S) i .name → n ≡ timesIn N 0 i x
+struct-new-is : (F : List ℕ) (S : Sections) (N : List ℕ) (i x n : ℕ) → Copied F S N i → x ≡ structAt (tablesOf F S) i .name → n ≡ timesIn N i x
     → isMissing (lookup (structsOf (tablesOf F S) i) (structAt (tablesOf F S) i .name)) ≡ eqb n 0
 unfolding structsOf structOf
 struct-new-is F S N i x n copied ex en =
@@ -85,14 +84,11 @@ struct-new-is F S N i x n copied ex en =
     ∙ both-true
     (isMissing (lookup (tabulate i (structOf (tablesOf F S))) x))
     (eqb n 0) (
-      λ m. eq-eqb n 0 (en ∙ times-none-of N 0 i x (λ j h z. missing-apart x i (structOf (tablesOf F S)) m j h (sym (copied .names j h) ∙ front j ∙ z))),
-      λ t. missing-of x i (structOf (tablesOf F S)) (λ j h z. times-absent N 0 i x (sym en ∙ eqb-true n 0 t) j h (sym (front j) ∙ copied .names j h ∙ z)),
+      λ m. eq-eqb n 0 (en ∙ times-none-of N x i (λ j h z. missing-apart x i (structOf (tablesOf F S)) m j h (sym (copied .names j h) ∙ z))),
+      λ t. missing-of x i (structOf (tablesOf F S)) (λ j h z. times-absent N x i (sym en ∙ eqb-true n 0 t) j h (copied .names j h ∙ z)),
     )
-  where
-    front : (j : ℕ) → getD N j 0 ≡ getD N (0 + j) 0
-    front j = ap (λ k. getD N k 0) (sym (zero-add j))
 
-module _ {F : List ℕ} {S : Sections} {N : List ℕ} {c : Context} {i : ℕ} (ready : ReadyStruct F S N c i) (x n : ℕ) (ex : x ≡ structAt (tablesOf F S) i .name) (en : n ≡ timesIn N 0 i x) where
+module _ {F : List ℕ} {S : Sections} {N : List ℕ} {c : Context} {i : ℕ} (ready : ReadyStruct F S N c i) (x n : ℕ) (ex : x ≡ structAt (tablesOf F S) i .name) (en : n ≡ timesIn N i x) where
   struct-tested : isMissing (lookup (structsOf (tablesOf F S) (c .structs)) (structAt (tablesOf F S) i .name)) ≡ eqb n 0
   struct-tested =
       ap (λ k. isMissing (lookup (structsOf (tablesOf F S) k) (structAt (tablesOf F S) i .name))) (ready .next)
@@ -257,15 +253,9 @@ module _ {F : List ℕ} {S : Sections} {X W K : List ℕ} {c : Context} {n : ℕ
           })
 
 -- struct fields
-module _ {F : List ℕ} {S : Sections} {X N : List ℕ} {c : Context} {i : ℕ} (ready : ReadyFields F S X N c i) (first count : ℕ) (ef : first ≡ structAt (tablesOf F S) i .first) (ec : count ≡ structAt (tablesOf F S) i .count) where
+module _ {F : List ℕ} {S : Sections} {X : List ℕ} {c : Context} {i : ℕ} (ready : ReadyFields F S X c i) (first count : ℕ) (ef : first ≡ structAt (tablesOf F S) i .first) (ec : count ≡ structAt (tablesOf F S) i .count) where
   pub fields-listed : first + count ≤ S .fields
   fields-listed = omega (arith, record-fields F S (ready .good-tables) i (ready .there))
-
-  pub fields-room : 0 + count ≤ length N
-  fields-room = omega (arith, fields-listed, ready .good-tables .laid .fields-most, ready .long)
-
-  pub fields-fit : (N′ : List ℕ) → length N′ ≡ length N → count ≤ length N′
-  fields-fit N′ e = omega (arith, fields-room)
 
   module _ (b : Bool) (eb : b ≡ typesFormed X (tablesOf F S) first count) where
     fields-tested : (W : List ℕ) → fieldsFormed (contextAt (tablesOf F S) W c) (structOf (tablesOf F S) i .fields) ≡ b
@@ -288,23 +278,16 @@ module _ {F : List ℕ} {S : Sections} {X N : List ℕ} {c : Context} {i : ℕ} 
     unfolding runStep
     fields-unformed f = record { tells = λ W. answer-stops _ 9 i _ (fields-tested W ∙ not-true b f) refl }
 
-    module _ (f : not b ≡ false) {N′ : List ℕ} (copied : CopiedFields F S N 0 first count N′) (n : Bool) (en : n ≡ allNew N′ count) where
-      fields-compared : distinctFields (structOf (tablesOf F S) i .fields) ≡ n
-      fields-compared =
-          sym
-          (en
-          ∙ ap (allNew N′) ec
-          ∙ names-distinct F S N′ i (λ j h. copied .names j (subst (λ k. j < k) (sym ec) h) ∙ ap (λ k. fieldAt (tablesOf F S) (k + j) .name) ef))
-
+    module _ (f : not b ≡ false) (n : Bool) (en : n ≡ distinctFields (structOf (tablesOf F S) i .fields)) where
       pub fields-again : not n ≡ true → Answered F S c (structFields i) (Refused 7 (c .steps) i)
       unfolding runStep
       fields-again g = record {
-        tells = λ W. answer-passes _ 9 i _ (fields-tested W ∙ not-false b f) (answer-stops _ 7 i _ (fields-compared ∙ not-true n g) refl);
+        tells = λ W. answer-passes _ 9 i _ (fields-tested W ∙ not-false b f) (answer-stops _ 7 i _ (sym en ∙ not-true n g) refl);
       }
 
       pub fields-distinct : (d : Context) → not n ≡ false → d ≡ withStep c → Answered F S c (structFields i) (Next d)
       unfolding runStep
       fields-distinct d g e = record {
         tells = λ W. answer-passes _ 9 i _ (fields-tested W ∙ not-false b f)
-            (answer-passes _ 7 i _ (fields-compared ∙ not-false n g) (answers-next _ (ap Next e) refl));
+            (answer-passes _ 7 i _ (sym en ∙ not-false n g) (answers-next _ (ap Next e) refl));
       }

@@ -7,7 +7,7 @@ use mathlib.Core.List.{List, []}
 use Prim.Native.Nat.{ℕ, _+_, _*_, _≤_, _<_}
 use lib.ListN.{length, getD}
 use lib.Dec.{eqb}
-use Rattle.oat.specs.Basics.{allBelow}
+use Rattle.oat.specs.Basics.{pick, allBelow, sumBelow}
 use Rattle.oat.specs.Tables.{Tables, entryAt, structAt, fieldAt}
 use Rattle.oat.specs.Types.{structsOf}
 use Rattle.oat.specs.Syntax.{Expr, Block, global, function, size, sizeBlock}
@@ -27,7 +27,6 @@ use Rattle.answers.specs.declared.answer.Judgement.{Judgement}
 use Rattle.answers.specs.declared.answer.Judgement.the-variants.{Typed, GoesOn, Returns}
 use Rattle.answers.specs.declared.answer.Judgement.the-variants as judgement
 use Rattle.expressions.specs.Contract.{Fine}
-use Rattle.fields.specs.Literal.{timesIn}
 use Rattle.steps.specs.declared.context.Context.{Context}
 use Rattle.steps.specs.declared.context.Stepped.{Stepped}
 use Rattle.steps.specs.declared.context.Stepped.the-variants.{Next, Refused}
@@ -108,10 +107,14 @@ pub record Whole (S : Sections) (c : Context) : Type 0 where
 pub record Rowless (F : List ℕ) (S : Sections) (X : List ℕ) (c : Context) (s : Step) (W W′ K′ : List ℕ) (r : Stepped) : Type 0 where
   pub tells : (R : List ℕ) → Steps F S X c s R W R W′ K′ r
 
+-- how often x stands among the first `count` numbers
+unfoldable pub timesIn : List ℕ → ℕ → ℕ → ℕ
+timesIn l count x = sumBelow count (λ i. pick (eqb (getD l i 0) x) 1 0)
+
 -- struct names: those of the structs before i stand in N
 pub record Copied (F : List ℕ) (S : Sections) (N : List ℕ) (i : ℕ) : Type 0 where
   pub laid : Laid F S
-  pub long : 1024 ≤ length N
+  pub long : 256 ≤ length N
   pub names : (j : ℕ) → j < i → getD N j 0 ≡ structAt (tablesOf F S) j .name
 
 pub record ReadyStruct (F : List ℕ) (S : Sections) (N : List ℕ) (c : Context) (i : ℕ) : Type 0 where
@@ -161,20 +164,15 @@ pub record ToldGlobal (F : List ℕ) (S : Sections) (X R W : List ℕ) (c : Cont
   pub tells : (x : ℕ) (a : Expr) → DeclStands (tablesOf F S) n (global x a) → Steps F S X c (globalValue n x a) R W R′ W′ K′ r
 
 -- struct fields
-pub record ReadyFields (F : List ℕ) (S : Sections) (X N : List ℕ) (c : Context) (i : ℕ) : Type 0 where
+pub record ReadyFields (F : List ℕ) (S : Sections) (X : List ℕ) (c : Context) (i : ℕ) : Type 0 where
   pub good-tables : GoodTables F S
   pub indexed : Indexed X (tablesOf F S) (S .types)
-  pub long : 1024 ≤ length N
   pub whole : Whole S c
   pub there : i < S .structs
 
 -- the types of `count` fields from `first` on are well-formed, as the index has it
 unfoldable pub typesFormed : List ℕ → Tables → ℕ → ℕ → Bool
 typesFormed X T first count = allBelow count (λ j. formedEntry X (fieldAt T (first + j) .type))
-
--- none of the first `count` numbers stands before itself
-unfoldable pub allNew : List ℕ → ℕ → Bool
-allNew N count = allBelow count (λ i. eqb (timesIn N 0 i (getD N i 0)) 0)
 
 -- parameters: those of the function at n, whose types stand in the type list from `first` on, are to be bound from the height `base` on
 pub record ReadyParameters (F : List ℕ) (S : Sections) (X R W K : List ℕ) (base n first count : ℕ) : Type 0 where

@@ -1,6 +1,6 @@
 // The context, by value, and its steps.
-use crate::names::all_new;
 use crate::names::is_new;
+use crate::names::times;
 use crate::names::types_formed;
 use crate::parameters::parameters;
 use answers::answer::At;
@@ -12,8 +12,7 @@ use bindings::bind;
 use bindings::leave;
 use bindings::link;
 use expressions::cycle::expression;
-use fields::literal::field_names;
-use fields::literal::times;
+use fields::distinct::are_distinct;
 use file_sections::Sections;
 use file_sections::records::built_in_name;
 use file_sections::records::built_in_type;
@@ -114,7 +113,7 @@ impl Context {
         ensures { λ r. ⌜ ToldStruct (now (file .entry)) sections self i (now (names .exit)) r ⌝ }
     {
         let name = struct_name(file, sections, i) as u16;
-        if times(&*names, 0, i, name) != 0 {
+        if times(&*names, i, name) != 0 {
             return Stepped::Refused(7, self.steps, i);
         }
         names[i] = name;
@@ -213,16 +212,9 @@ impl Context {
         Stepped::Next(self.with_name())
     }
 
-    // The fields of the struct i; their names are copied to `names`.
-    pub fn fields_step(
-        self,
-        file: &[u8],
-        sections: Sections,
-        index: &[u16],
-        names: &mut [u16],
-        i: usize,
-    ) -> Stepped
-        requires { ⌜ ReadyFields (now file) sections (now index) (now names) self i ⌝ }
+    // The fields of the struct i.
+    pub fn fields_step(self, file: &[u8], sections: Sections, index: &[u16], i: usize) -> Stepped
+        requires { ⌜ ReadyFields (now file) sections (now index) self i ⌝ }
         ensures { λ r. ⌜ Answered (now (file .entry)) sections self (structFields i) r ⌝ }
     {
         let first = struct_first(file, sections, i);
@@ -230,8 +222,7 @@ impl Context {
         if !types_formed(file, sections, index, first, count) {
             return Stepped::Refused(9, self.steps, i);
         }
-        field_names(file, sections, names, 0, first, count);
-        if !all_new(&*names, count) {
+        if !are_distinct(file, sections, i) {
             return Stepped::Refused(7, self.steps, i);
         }
         Stepped::Next(self.with_step())

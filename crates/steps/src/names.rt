@@ -1,8 +1,7 @@
-// Names that are new, and names that are distinct.
+// Names that are new, and types of fields.
 use bindings::Chains;
 use bindings::Found;
 use bindings::find;
-use fields::literal::times;
 use file_sections::Sections;
 use file_sections::records::field_type;
 use type_index::formed::is_formed;
@@ -12,7 +11,7 @@ ghost use lib.ListN.{length};
 ghost use Rattle.file_sections.specs.Layout.{tablesOf, GoodTables};
 ghost use Rattle.type_index.specs.Index.{Indexed};
 ghost use Rattle.bindings.specs.Bindings.{Some};
-ghost use Rattle.steps.specs.Contract.{Newness, typesFormed, allNew};
+ghost use Rattle.steps.specs.Contract.{Newness, typesFormed, timesIn};
 
 // The name is that of no built-in, function or global.
 pub fn is_new(file: &[u8], sections: Sections, work: &[u16], chains: &Chains, name: usize) -> bool
@@ -47,17 +46,18 @@ pub fn types_formed(
     true
 }
 
-// None of the first `count` names stands before itself.
-pub fn all_new(names: &[u16], count: usize) -> bool
+// How often the name stands among the first `count` names.
+pub fn times(names: &[u16], count: usize, name: u16) -> u16
     requires { ⌜ (count ≤ length (now names)) × (count < 65536) ⌝ }
-    ensures { λ r. ⌜ r ≡ allNew (now (names .entry)) count ⌝ }
+    ensures { λ r. ⌜ r ≡ timesIn (now (names .entry)) count name ⌝ }
 {
+    let mut found = 0u16;
     let mut i = 0;
     while i < count {
-        if times(names, 0, i, names[i]) != 0 {
-            return false;
+        if names[i] == name {
+            found += 1;
         }
         i += 1;
     }
-    true
+    found
 }

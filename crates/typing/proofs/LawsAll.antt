@@ -66,9 +66,9 @@ each-one n (global x a ∷ ds) = omega (arith, each-one (n + sizeDecl (global x 
 each-one n (function x t ps b ∷ ds) = omega (arith, each-one (n + sizeDecl (function x t ps b)) ds)
 
 -- the first groups
-module _ {F : List ℕ} {S : Sections} {X N W K : List ℕ} (z : ReadyRun F S X N W K) where
-  pub first-structs : Laid F S × (1024 ≤ length N)
-  first-structs = (z .held .good-tables .laid, z .long)
+module _ {F : List ℕ} {S : Sections} {X W K : List ℕ} (z : ReadyRun F S X W K) where
+  pub first-structs : Laid F S
+  first-structs = z .held .good-tables .laid
 
   structs-run : {r : Stepped} → AnsweredAll F S start (tabulate (S .structs) structName) r → (R : List ℕ) → Runs F S X start (tabulate (S .structs) structName) R W R W K r
   structs-run told R = answers-run (z .held) (structs-alike (S .structs)) told R
@@ -204,14 +204,13 @@ module _ {F : List ℕ} {S : Sections} {X N W K : List ℕ} (z : ReadyRun F S X 
               steps-are = ap (λ x. x .steps) e ∙ m .steps-are;
             }
 
-        pub all-fields : {N₂ : List ℕ} → length N₂ ≡ length N → ReadyStructs F S X N₂ d
-        all-fields q =
+        pub all-fields : ReadyStructs F S X d
+        all-fields =
             let ds = z .declarations in
             let D = z .declares in
             record {
               good-tables = z .held .good-tables;
               indexed = z .held .indexed;
-              long = omega (arith, z .long);
               structs = omega (arith, first-counted ds D .structs-are, second-counted ds D .structs-are);
               few = omega (arith, first-counted ds D .steps-are, second-counted ds D .steps-are, few-headings ds D, z .held .good-tables .laid .structs-most, z .held .good-tables .laid .built-ins-most);
             }

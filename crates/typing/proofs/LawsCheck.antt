@@ -128,10 +128,9 @@ module _ {F : List ℕ} {S : Sections} {R W : List ℕ} (z : ReadyCheck F S R W)
   pub check-tables : GoodTables F S
   check-tables = within-tables widest F S (omega arith) (z .reads)
 
-  pub check-run : {X N K : List ℕ} → Indexed X (tablesOf F S) (S .types) → 1024 ≤ length N → 4736 ≤ length K → ((h : ℕ) → h < 512 → getD K h 0 ≡ 0) → ReadyRun F S X N W K
-  check-run {X} {N} {K} x n k h = record {
+  pub check-run : {X K : List ℕ} → Indexed X (tablesOf F S) (S .types) → 4736 ≤ length K → ((h : ℕ) → h < 512 → getD K h 0 ≡ 0) → ReadyRun F S X W K
+  check-run {X} {K} x k h = record {
     held = record { good-tables = check-tables; indexed = x; scoped = scoped-none F S W K (check-tables .laid) (omega (arith, z .work-long)) k h };
-    long = n;
     declarations = z .program .declarations;
     declares = declares (z .program) (z .file) (z .reads);
   }

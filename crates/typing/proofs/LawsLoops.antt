@@ -57,8 +57,8 @@ pub record StructsDone (F : List ℕ) (S : Sections) (N : List ℕ) (i : ℕ) (c
   pub answered : AnsweredAll F S start (tabulate i structName) (Next c)
 
 module _ {F : List ℕ} {S : Sections} where
-  pub structs-first : {N : List ℕ} {c : Context} → Laid F S × (1024 ≤ length N) → c ≡ start → StructsDone F S N 0 c
-  structs-first {N} (l, h) e = subst (StructsDone F S N 0) (sym e) (record {
+  pub structs-first : {N : List ℕ} {c : Context} → Laid F S → 256 ≤ length N → c ≡ start → StructsDone F S N 0 c
+  structs-first {N} l h e = subst (StructsDone F S N 0) (sym e) (record {
     copied = record { laid = l; long = h; names = λ j z. absurd (omega arith) };
     counted = refl;
     answered = none-answered structName;
@@ -143,11 +143,10 @@ module _ {F : List ℕ} {S : Sections} {c₀ : Context} where
       more-none k = omega arith
 
   module _ {i : ℕ} {c : Context} (a : FieldsDone F S c₀ i c) where
-    pub fields-ready : {X N N₀ : List ℕ} → ReadyStructs F S X N₀ c₀ → length N ≡ length N₀ → i < S .structs → ReadyFields F S X N c i
-    fields-ready z e h = record {
+    pub fields-ready : {X : List ℕ} → ReadyStructs F S X c₀ → i < S .structs → ReadyFields F S X c i
+    fields-ready z h = record {
       good-tables = z .good-tables;
       indexed = z .indexed;
-      long = omega (arith, z .long);
       whole = record {
         structs = ap (λ x. x .structs) (a .counted) ∙ z .structs;
         few = omega (arith, ap (λ x. x .steps) (a .counted), z .few, z .good-tables .laid .structs-most);

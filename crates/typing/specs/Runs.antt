@@ -87,10 +87,9 @@ pub record ToldBuiltIns (F : List ℕ) (S : Sections) (X W : List ℕ) (c : Cont
   pub tells : (R : List ℕ) → Runs F S X c (tabulate (S .«built_ins») builtIn) R W R W K′ r
 
 -- struct fields
-pub record ReadyStructs (F : List ℕ) (S : Sections) (X N : List ℕ) (c : Context) : Type 0 where
+pub record ReadyStructs (F : List ℕ) (S : Sections) (X : List ℕ) (c : Context) : Type 0 where
   pub good-tables : GoodTables F S
   pub indexed : Indexed X (tablesOf F S) (S .types)
-  pub long : 1024 ≤ length N
   pub structs : c .structs ≡ S .structs
   pub few : c .steps < 32768
 
@@ -132,9 +131,8 @@ pub record HeadingsTold (F : List ℕ) (S : Sections) (X : List ℕ) (c : Contex
   pub tells : (R : List ℕ) → ToldDecls headings F S X c R W R W′ K′ r
 
 -- all steps of the file
-pub record ReadyRun (F : List ℕ) (S : Sections) (X N W K : List ℕ) : Type 0 where
+pub record ReadyRun (F : List ℕ) (S : Sections) (X W K : List ℕ) : Type 0 where
   pub held : Held F S X W K start
-  pub long : 1024 ≤ length N
   pub declarations : List Decl
   pub declares : Declares F S declarations
 

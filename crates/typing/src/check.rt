@@ -93,14 +93,13 @@ fn run_first(
     file: &[u8],
     sections: Sections,
     index: &[u16],
-    names: &mut [u16],
     work: &mut [u16],
     chains: &mut Chains,
 ) -> Stepped
-    requires { ⌜ ReadyRun (now file) sections (now index) (now names) (now work) (now chains) ⌝ }
+    requires { ⌜ ReadyRun (now file) sections (now index) (now work) (now chains) ⌝ }
     ensures { λ r. ⌜ ToldFirst (now (file .entry)) sections (now (index .entry)) (now (work .entry)) (now (work .exit)) (now (chains .exit)) r ⌝ }
 {
-    let structs = struct_names(file, sections, names);
+    let structs = struct_names(file, sections);
     let Stepped::Next(c) = structs else {
         return structs;
     };
@@ -116,15 +115,14 @@ fn run(
     file: &[u8],
     sections: Sections,
     index: &[u16],
-    names: &mut [u16],
     rows: &mut [u16],
     work: &mut [u16],
     chains: &mut Chains,
 ) -> Stepped
-    requires { ⌜ ReadyRun (now file) sections (now index) (now names) (now work) (now chains) × (sections .nodes * 2 ≤ length (now rows)) ⌝ }
+    requires { ⌜ ReadyRun (now file) sections (now index) (now work) (now chains) × (sections .nodes * 2 ≤ length (now rows)) ⌝ }
     ensures { λ r. ⌜ ToldRun (now (file .entry)) sections (now (index .entry)) (now (rows .entry)) (now (work .entry)) (now (rows .exit)) (now (work .exit)) (now (chains .exit)) r ⌝ }
 {
-    let first = run_first(file, sections, index, names, work, chains);
+    let first = run_first(file, sections, index, work, chains);
     let Stepped::Next(c) = first else {
         return first;
     };
@@ -132,7 +130,7 @@ fn run(
     let Stepped::Next(d) = second else {
         return second;
     };
-    let third = struct_fields(d, file, sections, index, names);
+    let third = struct_fields(d, file, sections, index);
     let Stepped::Next(e) = third else {
         return third;
     };
@@ -145,10 +143,9 @@ fn check_read(file: &[u8], sections: Sections, rows: &mut [u16], work: &mut [u16
     ensures { λ r. ⌜ ToldCheck (now (file .entry)) sections (now (rows .exit)) (now (work .exit)) r ⌝ }
 {
     let mut index = [0u16; 2112];
-    let mut names = [0u16; 1024];
     let mut chains = [0u16; 4736];
     index_types(file, sections, &mut index);
-    let stepped = run(file, sections, &index, &mut names, rows, work, &mut chains);
+    let stepped = run(file, sections, &index, rows, work, &mut chains);
     finish(stepped, rows)
 }
 

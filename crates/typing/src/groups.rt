@@ -12,15 +12,16 @@ ghost use Rattle.typing_rules.specs.Steps.{structName, structFields, headings, 
 ghost use Rattle.file_sections.specs.Layout.{Laid};
 ghost use Rattle.typing.specs.Runs.{start, AnsweredAll, ReadyBuiltIns, ToldBuiltIns, ReadyStructs, ReadyDecl, ToldDecl, HeadingTold, ReadyDecls, ToldDecls, HeadingsTold};
 
-// Struct names; `names` lends room for them.
-pub fn struct_names(file: &[u8], sections: Sections, names: &mut [u16]) -> Stepped
-    requires { ⌜ Laid (now file) sections × (1024 ≤ length (now names)) ⌝ }
+// Struct names.
+pub fn struct_names(file: &[u8], sections: Sections) -> Stepped
+    requires { ⌜ Laid (now file) sections ⌝ }
     ensures { λ r. ⌜ AnsweredAll (now (file .entry)) sections start (tabulate (sections .structs) structName) r ⌝ }
 {
+    let mut names = [0u16; 256];
     let mut c = Context::empty();
     let mut i = 0;
     while i < sections.structs {
-        let stepped = c.struct_step(file, sections, names, i);
+        let stepped = c.struct_step(file, sections, &mut names, i);
         let Stepped::Next(d) = stepped else {
             return stepped;
         };
@@ -145,21 +146,15 @@ pub fn globals(
     Stepped::Next(c)
 }
 
-// Struct fields; `names` lends room for their names.
-pub fn struct_fields(
-    context: Context,
-    file: &[u8],
-    sections: Sections,
-    index: &[u16],
-    names: &mut [u16],
-) -> Stepped
-    requires { ⌜ ReadyStructs (now file) sections (now index) (now names) context ⌝ }
+// Struct fields.
+pub fn struct_fields(context: Context, file: &[u8], sections: Sections, index: &[u16]) -> Stepped
+    requires { ⌜ ReadyStructs (now file) sections (now index) context ⌝ }
     ensures { λ r. ⌜ AnsweredAll (now (file .entry)) sections context (tabulate (sections .structs) structFields) r ⌝ }
 {
     let mut c = context;
     let mut i = 0;
     while i < sections.structs {
-        let stepped = c.fields_step(file, sections, index, names, i);
+        let stepped = c.fields_step(file, sections, index, i);
         let Stepped::Next(d) = stepped else {
             return stepped;
         };

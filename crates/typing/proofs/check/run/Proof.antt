@@ -8,95 +8,86 @@ use Rattle.typing.proofs.check.run.Tie as tie
 
 run-first-requires : tie.Need-run-first-requires
 run-first-requires c κs =
-    let at-start = c .before .before .before .before .before .before .before .before in
+    let at-start = c .before .before .before .before .before .before in
     at-start .pre .0
 
 returns : tie.Need-returns
 returns c =
-    let at-run-first = c .before .before .before .before .before .before in
-    let at-start = at-run-first .before .before .before .before .before .before .before .before .before in
-    all-first-stop (at-start .pre .0) (at-run-first .run-first .ensures) (stopped _ (c .before .match .keys2))
+    let at-match = c .before in
+    let at-run-first = at-match .before .before .before in
+    let at-start = at-run-first .before .before .before .before .before .before .before in
+    all-first-stop (at-start .pre .0) (at-run-first .run-first .ensures) (stopped _ (at-match .match .keys2))
 
 globals-requires : tie.Need-globals-requires
 globals-requires c κs =
     let at-first = c .before .before .before .before in
-    let at-run-first = at-first .before .before .before .before .before .before in
-    let at-start = at-run-first .before .before .before .before .before .before .before .before .before in
+    let at-run-first = at-first .before .before .before .before in
+    let at-start = at-run-first .before .before .before .before .before .before .before in
     (all-globals (at-start .pre .0) (at-run-first .run-first .ensures) (at-first .first .given .1), at-start .pre .1)
 
 returns-2 : tie.Need-returns-2
 returns-2 c =
-    let at-globals = c .before .before .before .before .before .before in
+    let at-match2 = c .before in
+    let at-globals = at-match2 .before .before .before .before .before in
     let at-first = at-globals .before .before .before .before .before in
-    let at-run-first = at-first .before .before .before .before .before .before in
-    let at-start = at-run-first .before .before .before .before .before .before .before .before .before in
-    all-globals-stop (at-start .pre .0) (at-run-first .run-first .ensures) (at-first .first .given .1) (at-globals .globals .ensures) (stopped _ (c .before .match2 .keys2))
+    let at-run-first = at-first .before .before .before .before in
+    let at-start = at-run-first .before .before .before .before .before .before .before in
+    all-globals-stop (at-start .pre .0) (at-run-first .run-first .ensures) (at-first .first .given .1) (at-globals .globals .ensures) (stopped _ (at-match2 .match2 .keys2))
 
 struct-fields-requires : tie.Need-struct-fields-requires
 struct-fields-requires c κs =
-    let at-second = c .before .before in
+    let at-second = c .before in
     let at-globals = at-second .before .before .before .before .before .before in
     let at-first = at-globals .before .before .before .before .before in
-    let at-run-first = at-first .before .before .before .before .before .before in
-    let at-start = at-run-first .before .before .before .before .before .before .before .before .before in
-    all-fields (at-start .pre .0) (at-run-first .run-first .ensures) (at-first .first .given .1) (at-globals .globals .ensures) (at-second .second .given .1) (omega (arith, at-run-first .run-first))
-
-same-length-6 : tie.Need-same-length-6
-same-length-6 c =
-    let at-struct-fields = c .before .before .before .before in
-    let at-run-first = at-struct-fields .before .before .before .before .before .before .before .before .before .before .before .before .before .before .before .before .before .before .before .before in
-    omega (arith, at-run-first .run-first, at-struct-fields .struct-fields)
+    let at-run-first = at-first .before .before .before .before in
+    let at-start = at-run-first .before .before .before .before .before .before .before in
+    all-fields (at-start .pre .0) (at-run-first .run-first .ensures) (at-first .first .given .1) (at-globals .globals .ensures) (at-second .second .given .1)
 
 returns-3 : tie.Need-returns-3
 returns-3 c =
-    let at-struct-fields = c .before .before .before .before in
-    let at-second = at-struct-fields .before .before .before in
+    let at-match3 = c .before in
+    let at-struct-fields = at-match3 .before in
+    let at-second = at-struct-fields .before .before in
     let at-globals = at-second .before .before .before .before .before .before in
     let at-first = at-globals .before .before .before .before .before in
-    let at-run-first = at-first .before .before .before .before .before .before in
-    let at-start = at-run-first .before .before .before .before .before .before .before .before .before in
-    all-fields-stop (at-start .pre .0) (at-run-first .run-first .ensures) (at-first .first .given .1) (at-globals .globals .ensures) (at-second .second .given .1) (at-struct-fields .struct-fields .ensures) (stopped _ (c .before .match3 .keys2))
+    let at-run-first = at-first .before .before .before .before in
+    let at-start = at-run-first .before .before .before .before .before .before .before in
+    all-fields-stop (at-start .pre .0) (at-run-first .run-first .ensures) (at-first .first .given .1) (at-globals .globals .ensures) (at-second .second .given .1) (at-struct-fields .struct-fields .ensures) (stopped _ (at-match3 .match3 .keys2))
 
 bodies-requires : tie.Need-bodies-requires
 bodies-requires c κs =
     let at-third = c .before .before .before .before in
-    let at-struct-fields = at-third .before .before .before .before in
-    let at-second = at-struct-fields .before .before .before in
+    let at-struct-fields = at-third .before .before in
+    let at-second = at-struct-fields .before .before in
     let at-globals = at-second .before .before .before .before .before .before in
     let at-first = at-globals .before .before .before .before .before in
-    let at-run-first = at-first .before .before .before .before .before .before in
-    let at-start = at-run-first .before .before .before .before .before .before .before .before .before in
+    let at-run-first = at-first .before .before .before .before in
+    let at-start = at-run-first .before .before .before .before .before .before .before in
     (all-bodies (at-start .pre .0) (at-run-first .run-first .ensures) (at-first .first .given .1) (at-globals .globals .ensures) (at-second .second .given .1) (at-struct-fields .struct-fields .ensures) (at-third .third .given .1), omega (arith, at-globals .globals, at-start .pre .1))
 
-same-length-9 : tie.Need-same-length-9
-same-length-9 c =
-    let at-struct-fields = c .before .before .before .before .before .before .before .before .before .before .before .before .before in
-    let at-run-first = at-struct-fields .before .before .before .before .before .before .before .before .before .before .before .before .before .before .before .before .before .before .before .before in
-    omega (arith, at-run-first .run-first, at-struct-fields .struct-fields)
-
-same-length-10 : tie.Need-same-length-10
-same-length-10 c =
+same-length-6 : tie.Need-same-length-6
+same-length-6 c =
     let at-bodies = c .before .before .before .before in
-    let at-globals = at-bodies .before .before .before .before .before .before .before .before .before .before .before .before .before .before .before .before .before .before in
+    let at-globals = at-bodies .before .before .before .before .before .before .before .before .before .before .before .before .before .before .before in
     omega (arith, at-globals .globals, at-bodies .bodies)
 
-same-length-11 : tie.Need-same-length-11
-same-length-11 c =
+same-length-7 : tie.Need-same-length-7
+same-length-7 c =
     let at-bodies = c .before .before .before .before in
-    let at-globals = at-bodies .before .before .before .before .before .before .before .before .before .before .before .before .before .before .before .before .before .before in
-    let at-run-first = at-globals .before .before .before .before .before .before .before .before .before .before .before in
+    let at-globals = at-bodies .before .before .before .before .before .before .before .before .before .before .before .before .before .before .before in
+    let at-run-first = at-globals .before .before .before .before .before .before .before .before .before in
     omega (arith, at-run-first .run-first, at-globals .globals, at-bodies .bodies)
 
 returns-4 : tie.Need-returns-4
 returns-4 c =
     let at-bodies = c .before .before .before .before in
     let at-third = at-bodies .before .before .before .before .before in
-    let at-struct-fields = at-third .before .before .before .before in
-    let at-second = at-struct-fields .before .before .before in
+    let at-struct-fields = at-third .before .before in
+    let at-second = at-struct-fields .before .before in
     let at-globals = at-second .before .before .before .before .before .before in
     let at-first = at-globals .before .before .before .before .before in
-    let at-run-first = at-first .before .before .before .before .before .before in
-    let at-start = at-run-first .before .before .before .before .before .before .before .before .before in
+    let at-run-first = at-first .before .before .before .before in
+    let at-start = at-run-first .before .before .before .before .before .before .before in
     all-done (at-start .pre .0) (at-run-first .run-first .ensures) (at-first .first .given .1) (at-globals .globals .ensures) (at-second .second .given .1) (at-struct-fields .struct-fields .ensures) (at-third .third .given .1) (at-bodies .bodies .ensures)
 
 pub run-spec : {M : Type 1} → statement M
@@ -107,10 +98,8 @@ run-spec =
     (λ c. search needs)
     (λ c. search needs)
     (λ c. search needs)
-    (λ c. search needs)
     returns
     globals-requires
-    (λ c. search needs)
     (λ c. search needs)
     (λ c. search needs)
     (λ c. search needs)
@@ -119,12 +108,10 @@ run-spec =
     struct-fields-requires
     (λ c. search needs)
     (λ c. search needs)
-    same-length-6
     (λ c. search needs)
     (λ c. search needs)
     returns-3
     bodies-requires
-    same-length-9
-    same-length-10
-    same-length-11
+    same-length-6
+    same-length-7
     returns-4)

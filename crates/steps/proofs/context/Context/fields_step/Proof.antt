@@ -1,6 +1,6 @@
 -- `Context::fields_step` meets its contract. Assumes nothing.
 use borrow.Author.Needs.{needs}
-use Rattle.steps.proofs.LawsPlain.{fields-listed, fields-room, fields-fit, fields-unformed, fields-again, fields-distinct}
+use Rattle.steps.proofs.LawsPlain.{fields-listed, fields-unformed, fields-again, fields-distinct}
 use Rattle.steps.proofs.context.Context.fields_step.Statement.{statement}
 use Rattle.steps.proofs.context.Context.fields_step.Tie as tie
 
@@ -12,10 +12,7 @@ fields-step-spec =
     (λ c κs. search needs)
     (λ c κs. search (fields-listed, needs))
     (λ c. search (fields-unformed, needs))
-    (λ c κs. search (fields-listed, fields-room, needs))
-    (λ c κs. (search (fields-fit, needs), search needs))
-    (λ c. search needs)
+    (λ c κs. search needs)
     (λ c. search (fields-again, needs))
     (λ c κs. search needs)
-    (λ c. search needs)
     (λ c. search (fields-distinct, needs)))
