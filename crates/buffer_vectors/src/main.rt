@@ -43,6 +43,17 @@ fn is_painted(buffer: [u16; 512], from: usize) -> bool {
     compare(buffer, painted(), from, 512, true)
 }
 
+// The least place from which on every number is as painted.
+fn painted_from(buffer: [u16; 512]) -> usize {
+    let mut from = 0;
+    for i in 0..512 {
+        if buffer[i] != 20000 + i as u16 {
+            from = i + 1;
+        }
+    }
+    from
+}
+
 fn is_same_answer(a: Answer, b: Answer) -> bool {
     a.number == b.number && a.step == b.step && a.place == b.place
 }
@@ -98,6 +109,14 @@ fn say_changes(number: u16, rows: [u16; 512], work: [u16; 512], needed: usize)
     say_filled(number, rows, needed);
     say(is_painted(rows, needed), b", rows past them as before");
     say(is_painted(work, needed), b", work past as many as before\n");
+}
+
+// Prints from which place on painted work is as before. Under 12 this is where the names bound end: names of fields were compared, and
+// none of them is kept in work.
+fn say_names_bound(work: [u16; 512]) {
+    io::write_all(1, b"work as before from ");
+    io::print_decimal(1, painted_from(work) as u64);
+    io::write_all(1, b" on\n");
 }
 
 // Checks a file under limits, in the first numbers of two buffers.
@@ -184,6 +203,9 @@ fn in_longer(file: &[u8], needed: usize)
     print_answer(answer);
     io::write_all(1, b"longer buffers: ");
     say_changes(answer.number, rows, work, needed);
+    if answer.number == 12 {
+        say_names_bound(work);
+    }
     in_dirty(file, needed, answer, rows, work);
 }
 

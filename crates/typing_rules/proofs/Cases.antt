@@ -103,6 +103,27 @@ accepted-3 = record { file = is-file widest program-accepted-3 refl; answer = re
 pub program-accepted-4 : Program
 program-accepted-4 = record {
   tables = record {
+    types = (ty 0 0 0 0 ∷ ty 1 0 0 0 ∷ ty 2 0 0 0 ∷ ty 3 0 0 0 ∷ ty 4 0 0 0 ∷ ty 7 4 0 0 ∷ ty 6 3 0 0 ∷ ty 6 3 0 1 ∷ ty 6 3 1 2
+        ∷ []);
+    list = (0 ∷ 0 ∷ 0 ∷ []);
+    fields = (fd 65535 0 ∷ []);
+    structs = (st 0 0 1 ∷ []);
+    builtIns = ([]);
+    nodes = (nd 2 10 8 3 ∷ nd 3 20 0 0 ∷ nd 3 21 0 0 ∷ nd 39 0 0 2 ∷ nd 31 30 0 1 ∷ nd 13 1 0 0 ∷ nd 33 0 0 0 ∷ nd 1 40 0 1
+        ∷ nd 21 0 4 1 ∷ nd 22 65535 0 1 ∷ nd 13 1 0 0 ∷ []);
+  };
+  declarations = (function 10 8 (20 ∷ 21 ∷ []) (block (then (var 30 (literal (integer 1))) (then returnVoid empty))) ∷ global 40
+      (structLiteral 4 (init 65535 (literal (integer 1)) noInit)) ∷ []);
+}
+
+pub accepted-4 : Answers program-accepted-4 0 5 0 (1 ∷ 65535 ∷ 0 ∷ 65535 ∷ 0 ∷ 65535 ∷ 1 ∷ 65535 ∷ 0 ∷ 65535 ∷ 0 ∷ 65535 ∷ 1
+    ∷ 65535 ∷ 4 ∷ 65535 ∷ 4 ∷ 65535 ∷ 0 ∷ 65535 ∷ 0 ∷ 65535 ∷ [])
+unfolding program-accepted-4 computed isFile
+accepted-4 = record { file = is-file widest program-accepted-4 refl; answer = refl }
+
+pub program-accepted-5 : Program
+program-accepted-5 = record {
+  tables = record {
     types = (ty 0 0 0 0 ∷ ty 1 0 0 0 ∷ ty 2 0 0 0 ∷ ty 3 0 0 0 ∷ ty 4 0 0 0 ∷ ty 4 1 0 0 ∷ ty 4 77 0 0 ∷ ty 5 0 0 0 ∷ ty 5 4 0 0
         ∷ ty 5 2 0 0 ∷ ty 7 4 0 0 ∷ ty 7 6 0 0 ∷ ty 5 6 0 0 ∷ ty 6 3 0 0 ∷ ty 6 0 0 1 ∷ ty 6 3 1 1 ∷ ty 6 5 2 0 ∷ ty 7 6 0 0
         ∷ ty 6 12 2 0 ∷ ty 7 16 0 0 ∷ ty 7 14 0 0 ∷ ty 5 16 0 0 ∷ ty 6 15 2 3 ∷ ty 5 2 0 0 ∷ ty 6 3 5 3 ∷ ty 6 3 8 3 ∷ ty 5 18 0 0
@@ -132,18 +153,18 @@ program-accepted-4 = record {
       empty)) empty)))) empty)) (block empty)) (then returnVoid empty))))) ∷ global 40 (name 20) ∷ []);
 }
 
-pub accepted-4 : Answers program-accepted-4 0 10 0 (1 ∷ 65535 ∷ 1 ∷ 65535 ∷ 0 ∷ 65535 ∷ 13 ∷ 66 ∷ 13 ∷ 0 ∷ 0 ∷ 65535 ∷ 13 ∷ 66 ∷ 0
+pub accepted-5 : Answers program-accepted-5 0 10 0 (1 ∷ 65535 ∷ 1 ∷ 65535 ∷ 0 ∷ 65535 ∷ 13 ∷ 66 ∷ 13 ∷ 0 ∷ 0 ∷ 65535 ∷ 13 ∷ 66 ∷ 0
     ∷ 65535 ∷ 19 ∷ 65535 ∷ 0 ∷ 65535 ∷ 0 ∷ 65535 ∷ 1 ∷ 65535 ∷ 0 ∷ 65535 ∷ 0 ∷ 65535 ∷ 0 ∷ 65535 ∷ 0 ∷ 65535 ∷ 14 ∷ 40001 ∷ 0
     ∷ 65535 ∷ 0 ∷ 65535 ∷ 0 ∷ 65535 ∷ 0 ∷ 65535 ∷ 1 ∷ 65535 ∷ 1 ∷ 65535 ∷ 0 ∷ 65535 ∷ 0 ∷ 65535 ∷ 16 ∷ 7 ∷ 16 ∷ 7 ∷ 0 ∷ 65535 ∷ 20
     ∷ 65535 ∷ 0 ∷ 65535 ∷ 0 ∷ 65535 ∷ 27 ∷ 65535 ∷ 2 ∷ 65535 ∷ 2 ∷ 65535 ∷ 0 ∷ 65535 ∷ 27 ∷ 30 ∷ 1 ∷ 65535 ∷ 1 ∷ 65535 ∷ 0 ∷ 65535
     ∷ 19 ∷ 65535 ∷ 0 ∷ 65535 ∷ 0 ∷ 65535 ∷ 13 ∷ 66 ∷ 0 ∷ 65535 ∷ 16 ∷ 7 ∷ 16 ∷ 7 ∷ 0 ∷ 65535 ∷ 13 ∷ 66 ∷ 13 ∷ 0 ∷ 0 ∷ 65535 ∷ 0
     ∷ 65535 ∷ 13 ∷ 66 ∷ 13 ∷ 66 ∷ 0 ∷ 65535 ∷ 16 ∷ 7 ∷ 16 ∷ 7 ∷ 0 ∷ 65535 ∷ 1 ∷ 65535 ∷ 1 ∷ 65535 ∷ 9 ∷ 65535 ∷ 9 ∷ 65535 ∷ 1
     ∷ 65535 ∷ 0 ∷ 65535 ∷ 0 ∷ 65535 ∷ 0 ∷ 65535 ∷ 1 ∷ 65535 ∷ 13 ∷ 65535 ∷ 13 ∷ 0 ∷ [])
-unfolding program-accepted-4 computed isFile
-accepted-4 = record { file = is-file widest program-accepted-4 refl; answer = refl }
+unfolding program-accepted-5 computed isFile
+accepted-5 = record { file = is-file widest program-accepted-5 refl; answer = refl }
 
-pub program-accepted-5 : Program
-program-accepted-5 = record {
+pub program-accepted-6 : Program
+program-accepted-6 = record {
   tables = record {
     types = (ty 0 0 0 0 ∷ ty 1 0 0 0 ∷ ty 2 0 0 0 ∷ ty 3 0 0 0 ∷ ty 4 0 0 0 ∷ ty 4 1 0 0 ∷ ty 4 2 0 0 ∷ ty 4 3 0 0 ∷ ty 4 77 0 0
         ∷ ty 5 0 0 0 ∷ ty 5 4 0 0 ∷ ty 5 2 0 0 ∷ ty 7 4 0 0 ∷ ty 7 8 0 0 ∷ ty 5 8 0 0 ∷ ty 6 3 0 0 ∷ ty 6 0 0 1 ∷ ty 6 3 1 1
@@ -172,18 +193,18 @@ program-accepted-5 = record {
       116) (also (literal (integer 17726)) none)) none)))) empty)))) ∷ []);
 }
 
-pub accepted-5 : Answers program-accepted-5 0 12 0 (1 ∷ 65535 ∷ 0 ∷ 65535 ∷ 1 ∷ 65535 ∷ 0 ∷ 65535 ∷ 12 ∷ 65535 ∷ 0 ∷ 65535 ∷ 0
+pub accepted-6 : Answers program-accepted-6 0 12 0 (1 ∷ 65535 ∷ 0 ∷ 65535 ∷ 1 ∷ 65535 ∷ 0 ∷ 65535 ∷ 12 ∷ 65535 ∷ 0 ∷ 65535 ∷ 0
     ∷ 65535 ∷ 0 ∷ 65535 ∷ 15 ∷ 40000 ∷ 0 ∷ 65535 ∷ 15 ∷ 40000 ∷ 0 ∷ 65535 ∷ 12 ∷ 65535 ∷ 0 ∷ 65535 ∷ 0 ∷ 65535 ∷ 12 ∷ 65535 ∷ 1
     ∷ 65535 ∷ 0 ∷ 65535 ∷ 7 ∷ 11 ∷ 1 ∷ 65535 ∷ 0 ∷ 65535 ∷ 0 ∷ 65535 ∷ 0 ∷ 65535 ∷ 0 ∷ 65535 ∷ 0 ∷ 65535 ∷ 0 ∷ 65535 ∷ 0 ∷ 65535
     ∷ 0 ∷ 65535 ∷ 0 ∷ 65535 ∷ 0 ∷ 65535 ∷ 0 ∷ 65535 ∷ 0 ∷ 65535 ∷ 0 ∷ 65535 ∷ 1 ∷ 65535 ∷ 19 ∷ 65535 ∷ 1 ∷ 65535 ∷ 1 ∷ 65535 ∷ 1
     ∷ 65535 ∷ 1 ∷ 65535 ∷ 10 ∷ 65535 ∷ 10 ∷ 65535 ∷ 4 ∷ 65535 ∷ 10 ∷ 65535 ∷ 10 ∷ 65535 ∷ 1 ∷ 65535 ∷ 1 ∷ 65535 ∷ 19 ∷ 65535 ∷ 10
     ∷ 65535 ∷ 10 ∷ 65535 ∷ 1 ∷ 65535 ∷ 1 ∷ 65535 ∷ 0 ∷ 1 ∷ 0 ∷ 65535 ∷ 0 ∷ 65535 ∷ 18 ∷ 65535 ∷ 1 ∷ 65535 ∷ 0 ∷ 65535 ∷ 0 ∷ 65535
     ∷ 16 ∷ 0 ∷ 0 ∷ 65535 ∷ 16 ∷ 40001 ∷ 0 ∷ 65535 ∷ [])
-unfolding program-accepted-5 computed isFile
-accepted-5 = record { file = is-file widest program-accepted-5 refl; answer = refl }
+unfolding program-accepted-6 computed isFile
+accepted-6 = record { file = is-file widest program-accepted-6 refl; answer = refl }
 
-pub program-accepted-6 : Program
-program-accepted-6 = record {
+pub program-accepted-7 : Program
+program-accepted-7 = record {
   tables = record {
     types = (ty 0 0 0 0 ∷ ty 1 0 0 0 ∷ ty 2 0 0 0 ∷ ty 3 0 0 0 ∷ ty 4 1 0 0 ∷ ty 4 2 0 0 ∷ ty 4 3 0 0 ∷ ty 7 4 0 0 ∷ ty 7 5 0 0
         ∷ ty 5 4 0 0 ∷ ty 5 5 0 0 ∷ ty 5 0 0 0 ∷ ty 6 3 0 0 ∷ ty 6 0 0 0 ∷ ty 6 0 0 1 ∷ ty 4 9 0 0 ∷ ty 7 15 0 0 ∷ ty 5 15 0 0
@@ -218,7 +239,7 @@ program-accepted-6 = record {
       ∷ []);
 }
 
-pub accepted-6 : Answers program-accepted-6 0 14 0 (23 ∷ 65535 ∷ 23 ∷ 65535 ∷ 7 ∷ 65535 ∷ 5 ∷ 65535 ∷ 0 ∷ 65535 ∷ 0 ∷ 65535 ∷ 0
+pub accepted-7 : Answers program-accepted-7 0 14 0 (23 ∷ 65535 ∷ 23 ∷ 65535 ∷ 7 ∷ 65535 ∷ 5 ∷ 65535 ∷ 0 ∷ 65535 ∷ 0 ∷ 65535 ∷ 0
     ∷ 65535 ∷ 0 ∷ 65535 ∷ 0 ∷ 65535 ∷ 0 ∷ 65535 ∷ 2 ∷ 65535 ∷ 2 ∷ 65535 ∷ 23 ∷ 65535 ∷ 23 ∷ 0 ∷ 1 ∷ 65535 ∷ 22 ∷ 65535 ∷ 1 ∷ 65535
     ∷ 0 ∷ 65535 ∷ 21 ∷ 65535 ∷ 0 ∷ 65535 ∷ 0 ∷ 65535 ∷ 0 ∷ 65535 ∷ 21 ∷ 17 ∷ 0 ∷ 65535 ∷ 0 ∷ 65535 ∷ 0 ∷ 65535 ∷ 22 ∷ 15 ∷ 0
     ∷ 65535 ∷ 0 ∷ 65535 ∷ 22 ∷ 15 ∷ 0 ∷ 65535 ∷ 21 ∷ 17 ∷ 0 ∷ 65535 ∷ 28 ∷ 40000 ∷ 0 ∷ 65535 ∷ 1 ∷ 65535 ∷ 1 ∷ 65535 ∷ 1 ∷ 65535
@@ -226,11 +247,11 @@ pub accepted-6 : Answers program-accepted-6 0 14 0 (23 ∷ 65535 ∷ 23 ∷ 6553
     ∷ 65535 ∷ 23 ∷ 0 ∷ 0 ∷ 65535 ∷ 0 ∷ 65535 ∷ 0 ∷ 65535 ∷ 22 ∷ 15 ∷ 4 ∷ 48 ∷ 0 ∷ 65535 ∷ 0 ∷ 65535 ∷ 0 ∷ 65535 ∷ 0 ∷ 65535 ∷ 0
     ∷ 65535 ∷ 0 ∷ 65535 ∷ 0 ∷ 65535 ∷ 0 ∷ 65535 ∷ 0 ∷ 58 ∷ 0 ∷ 65535 ∷ 0 ∷ 58 ∷ 0 ∷ 65535 ∷ 0 ∷ 65535 ∷ 1 ∷ 65535 ∷ 0 ∷ 65535 ∷ 1
     ∷ 65535 ∷ 11 ∷ 65535 ∷ 0 ∷ 65535 ∷ 0 ∷ 72 ∷ 1 ∷ 65535 ∷ 1 ∷ 65535 ∷ 1 ∷ 65535 ∷ [])
-unfolding program-accepted-6 computed isFile
-accepted-6 = record { file = is-file widest program-accepted-6 refl; answer = refl }
+unfolding program-accepted-7 computed isFile
+accepted-7 = record { file = is-file widest program-accepted-7 refl; answer = refl }
 
-pub program-accepted-7 : Program
-program-accepted-7 = record {
+pub program-accepted-8 : Program
+program-accepted-8 = record {
   tables = record {
     types = (ty 0 0 0 0 ∷ ty 1 0 0 0 ∷ ty 2 0 0 0 ∷ ty 3 0 0 0 ∷ ty 4 0 0 0 ∷ ty 4 1 0 0 ∷ ty 4 2 0 0 ∷ ty 4 77 0 0 ∷ ty 5 0 0 0
         ∷ ty 5 4 0 0 ∷ ty 5 2 0 0 ∷ ty 7 4 0 0 ∷ ty 7 7 0 0 ∷ ty 5 7 0 0 ∷ ty 6 3 0 0 ∷ ty 6 0 0 1 ∷ ty 6 3 1 1 ∷ ty 6 15 2 2
@@ -266,7 +287,7 @@ program-accepted-7 = record {
       (returnValue (literal (integer 46586))) empty))) ∷ function 21 14 ([]) (block (then returnVoid empty)) ∷ []);
 }
 
-pub accepted-7 : Answers program-accepted-7 0 18 0 (29 ∷ 65535 ∷ 29 ∷ 65535 ∷ 2 ∷ 65535 ∷ 2 ∷ 65535 ∷ 1 ∷ 65535 ∷ 0 ∷ 65535 ∷ 1
+pub accepted-8 : Answers program-accepted-8 0 18 0 (29 ∷ 65535 ∷ 29 ∷ 65535 ∷ 2 ∷ 65535 ∷ 2 ∷ 65535 ∷ 1 ∷ 65535 ∷ 0 ∷ 65535 ∷ 1
     ∷ 65535 ∷ 0 ∷ 65535 ∷ 19 ∷ 65535 ∷ 0 ∷ 65535 ∷ 0 ∷ 65535 ∷ 25 ∷ 65535 ∷ 0 ∷ 65535 ∷ 0 ∷ 65535 ∷ 15 ∷ 4 ∷ 0 ∷ 5 ∷ 0 ∷ 65535
     ∷ 15 ∷ 40001 ∷ 0 ∷ 65535 ∷ 5 ∷ 65535 ∷ 0 ∷ 65535 ∷ 1 ∷ 65535 ∷ 0 ∷ 5 ∷ 0 ∷ 65535 ∷ 0 ∷ 65535 ∷ 0 ∷ 5 ∷ 0 ∷ 65535 ∷ 0 ∷ 65535
     ∷ 1 ∷ 65535 ∷ 1 ∷ 65535 ∷ 1 ∷ 65535 ∷ 1 ∷ 65535 ∷ 0 ∷ 65535 ∷ 0 ∷ 65535 ∷ 0 ∷ 65535 ∷ 0 ∷ 65535 ∷ 1 ∷ 65535 ∷ 4 ∷ 65535 ∷ 6
@@ -275,8 +296,8 @@ pub accepted-7 : Answers program-accepted-7 0 18 0 (29 ∷ 65535 ∷ 29 ∷ 6553
     ∷ 65535 ∷ 0 ∷ 65535 ∷ 19 ∷ 65535 ∷ 0 ∷ 65535 ∷ 24 ∷ 40005 ∷ 6 ∷ 65535 ∷ 25 ∷ 10 ∷ 0 ∷ 65535 ∷ 15 ∷ 40001 ∷ 0 ∷ 65535 ∷ 0
     ∷ 65535 ∷ 0 ∷ 5 ∷ 29 ∷ 65535 ∷ 2 ∷ 65535 ∷ 2 ∷ 65535 ∷ 21 ∷ 65535 ∷ 22 ∷ 40004 ∷ 15 ∷ 40001 ∷ 0 ∷ 65535 ∷ 0 ∷ 65535 ∷ 1
     ∷ 65535 ∷ 0 ∷ 65535 ∷ 1 ∷ 65535 ∷ 1 ∷ 65535 ∷ 1 ∷ 65535 ∷ [])
-unfolding program-accepted-7 computed isFile
-accepted-7 = record { file = is-file widest program-accepted-7 refl; answer = refl }
+unfolding program-accepted-8 computed isFile
+accepted-8 = record { file = is-file widest program-accepted-8 refl; answer = refl }
 
 pub program-refused-7-1 : Program
 program-refused-7-1 = record {
@@ -1220,50 +1241,35 @@ refused-11-9 = record { file = is-file widest program-refused-11-9 refl; answer 
 pub program-refused-11-10 : Program
 program-refused-11-10 = record {
   tables = record {
-    types = (ty 0 0 0 0 ∷ ty 1 0 0 0 ∷ ty 2 0 0 0 ∷ ty 3 0 0 0 ∷ ty 4 1 0 0 ∷ ty 4 2 0 0 ∷ ty 4 3 0 0 ∷ ty 7 4 0 0 ∷ ty 7 5 0 0
-        ∷ ty 5 4 0 0 ∷ ty 5 5 0 0 ∷ ty 5 0 0 0 ∷ ty 6 3 0 0 ∷ ty 6 0 0 0 ∷ ty 6 0 0 1 ∷ ty 4 9 0 0 ∷ ty 7 15 0 0 ∷ ty 5 15 0 0
-        ∷ ty 6 3 1 1 ∷ ty 7 2 0 0 ∷ ty 5 2 0 0 ∷ ty 5 0 0 0 ∷ ty 4 1 0 0 ∷ ty 5 7 0 0 ∷ ty 7 11 0 0 ∷ ty 6 5 2 1 ∷ ty 6 4 3 1
-        ∷ ty 5 1 0 0 ∷ ty 6 3 4 2 ∷ ty 5 11 0 0 ∷ ty 7 13 0 0 ∷ ty 6 15 6 0 ∷ ty 6 17 6 1 ∷ ty 7 17 0 0 ∷ ty 6 21 7 0
-        ∷ ty 6 21 7 1 ∷ ty 6 11 8 1 ∷ ty 6 3 9 1 ∷ ty 6 3 10 2 ∷ ty 6 3 12 2 ∷ []);
-    list = (0 ∷ 15 ∷ 4 ∷ 5 ∷ 0 ∷ 1 ∷ 17 ∷ 21 ∷ 22 ∷ 7 ∷ 0 ∷ 0 ∷ 4 ∷ 4 ∷ []);
-    fields = (fd 1 0 ∷ fd 2 0 ∷ fd 1 0 ∷ fd 2 0 ∷ fd 3 0 ∷ fd 1 0 ∷ fd 3 0 ∷ []);
-    structs = (st 1 0 2 ∷ st 2 2 3 ∷ st 3 5 2 ∷ []);
+    types = (ty 0 0 0 0 ∷ ty 1 0 0 0 ∷ ty 2 0 0 0 ∷ ty 3 0 0 0 ∷ ty 4 0 0 0 ∷ ty 4 1 0 0 ∷ ty 7 4 0 0 ∷ ty 7 5 0 0 ∷ ty 6 3 0 0
+        ∷ ty 6 3 0 1 ∷ ty 6 3 1 2 ∷ []);
+    list = (0 ∷ 0 ∷ 0 ∷ []);
+    fields = (fd 256 0 ∷ fd 511 1 ∷ fd 65534 6 ∷ fd 513 0 ∷ fd 0 4 ∷ fd 12 1 ∷ []);
+    structs = (st 0 0 4 ∷ st 1 4 2 ∷ []);
     builtIns = ([]);
-    nodes = (nd 2 10 12 1 ∷ nd 39 0 0 2 ∷ nd 31 20 0 1 ∷ nd 21 0 4 2 ∷ nd 22 2 0 1 ∷ nd 11 0 0 0 ∷ nd 22 1 0 1 ∷ nd 13 1 0 0
+    nodes = (nd 2 10 9 2 ∷ nd 3 20 0 0 ∷ nd 39 0 0 3 ∷ nd 31 30 0 1 ∷ nd 21 0 5 2 ∷ nd 22 0 0 1 ∷ nd 12 0 0 0 ∷ nd 22 12 0 1
+        ∷ nd 21 0 4 4 ∷ nd 22 513 0 1 ∷ nd 13 1 0 0 ∷ nd 22 65534 0 1 ∷ nd 10 0 6 0 ∷ nd 22 511 0 1 ∷ nd 12 0 0 0 ∷ nd 22 256 0 1
+        ∷ nd 13 1 0 0 ∷ nd 31 31 0 1 ∷ nd 13 1 0 0 ∷ nd 33 0 0 0 ∷ nd 1 40 0 1 ∷ nd 21 0 4 4 ∷ nd 22 513 0 1 ∷ nd 13 1 0 0
+        ∷ nd 22 65534 0 1 ∷ nd 10 0 6 0 ∷ nd 22 511 0 1 ∷ nd 12 0 0 0 ∷ nd 22 256 0 1 ∷ nd 13 1 0 0 ∷ nd 2 11 8 1 ∷ nd 39 0 0 1
         ∷ nd 33 0 0 0 ∷ []);
   };
-  declarations = (function 10 12 ([]) (block (then (var 20 (structLiteral 4 (init 2 (literal truth) (init 1 (literal (integer 1))
-      noInit)))) (then returnVoid empty))) ∷ []);
+  declarations = (function 10 9 (20 ∷ []) (block (then (var 30 (structLiteral 5 (init 0 (literal falsity) (init 12 (structLiteral
+      4 (init 513 (literal (integer 1)) (init 65534 (null 6) (init 511 (literal falsity) (init 256 (literal (integer 1))
+      noInit))))) noInit)))) (then (var 31 (literal (integer 1))) (then returnVoid empty)))) ∷ global 40 (structLiteral 4 (init
+      513 (literal (integer 1)) (init 65534 (null 6) (init 511 (literal falsity) (init 256 (literal (integer 1)) noInit)))))
+      ∷ function 11 8 ([]) (block (then returnVoid empty)) ∷ []);
 }
 
-pub refused-11-10 : Answers program-refused-11-10 11 7 3 (65535 ∷ 65535 ∷ 65535 ∷ 65535 ∷ 65535 ∷ 65535 ∷ 65535 ∷ 65535 ∷ 65535
-    ∷ 65535 ∷ 65535 ∷ 65535 ∷ 65535 ∷ 65535 ∷ 65535 ∷ 65535 ∷ 65535 ∷ 65535 ∷ [])
+pub refused-11-10 : Answers program-refused-11-10 11 7 4 (65535 ∷ 65535 ∷ 65535 ∷ 65535 ∷ 65535 ∷ 65535 ∷ 65535 ∷ 65535 ∷ 65535
+    ∷ 65535 ∷ 65535 ∷ 65535 ∷ 65535 ∷ 65535 ∷ 65535 ∷ 65535 ∷ 65535 ∷ 65535 ∷ 65535 ∷ 65535 ∷ 65535 ∷ 65535 ∷ 65535 ∷ 65535
+    ∷ 65535 ∷ 65535 ∷ 65535 ∷ 65535 ∷ 65535 ∷ 65535 ∷ 65535 ∷ 65535 ∷ 65535 ∷ 65535 ∷ 65535 ∷ 65535 ∷ 65535 ∷ 65535 ∷ 65535
+    ∷ 65535 ∷ 65535 ∷ 65535 ∷ 65535 ∷ 65535 ∷ 65535 ∷ 65535 ∷ 65535 ∷ 65535 ∷ 65535 ∷ 65535 ∷ 65535 ∷ 65535 ∷ 65535 ∷ 65535
+    ∷ 65535 ∷ 65535 ∷ 65535 ∷ 65535 ∷ 65535 ∷ 65535 ∷ 65535 ∷ 65535 ∷ 65535 ∷ 65535 ∷ 65535 ∷ 65535 ∷ [])
 unfolding program-refused-11-10 computed isFile
 refused-11-10 = record { file = is-file widest program-refused-11-10 refl; answer = refl }
 
 pub program-refused-12-1 : Program
 program-refused-12-1 = record {
-  tables = record {
-    types = (ty 0 0 0 0 ∷ ty 1 0 0 0 ∷ ty 2 0 0 0 ∷ ty 3 0 0 0 ∷ ty 4 1 0 0 ∷ ty 4 2 0 0 ∷ ty 4 3 0 0 ∷ ty 7 4 0 0 ∷ ty 7 5 0 0
-        ∷ ty 5 4 0 0 ∷ ty 5 5 0 0 ∷ ty 5 0 0 0 ∷ ty 6 3 0 0 ∷ ty 6 0 0 0 ∷ ty 6 0 0 1 ∷ ty 4 9 0 0 ∷ ty 7 15 0 0 ∷ ty 5 15 0 0
-        ∷ ty 6 3 1 1 ∷ ty 7 2 0 0 ∷ ty 5 2 0 0 ∷ ty 5 0 0 0 ∷ ty 4 1 0 0 ∷ ty 5 7 0 0 ∷ ty 7 11 0 0 ∷ ty 6 5 2 1 ∷ ty 6 4 3 1
-        ∷ ty 5 1 0 0 ∷ ty 6 3 4 2 ∷ ty 5 11 0 0 ∷ ty 7 13 0 0 ∷ ty 6 15 6 0 ∷ ty 6 17 6 1 ∷ ty 7 17 0 0 ∷ ty 6 21 7 0
-        ∷ ty 6 21 7 1 ∷ ty 6 11 8 1 ∷ ty 6 3 9 1 ∷ ty 6 3 10 2 ∷ ty 6 3 12 2 ∷ []);
-    list = (0 ∷ 15 ∷ 4 ∷ 5 ∷ 0 ∷ 1 ∷ 17 ∷ 21 ∷ 22 ∷ 7 ∷ 0 ∷ 0 ∷ 4 ∷ 4 ∷ []);
-    fields = (fd 1 0 ∷ fd 2 15 ∷ []);
-    structs = (st 1 0 2 ∷ []);
-    builtIns = ([]);
-    nodes = (nd 1 11 0 1 ∷ nd 21 0 4 1 ∷ nd 22 1 0 1 ∷ nd 13 1 0 0 ∷ []);
-  };
-  declarations = (global 11 (structLiteral 4 (init 1 (literal (integer 1)) noInit)) ∷ []);
-}
-
-pub refused-12-1 : Answers program-refused-12-1 12 1 1 (65535 ∷ 65535 ∷ 65535 ∷ 65535 ∷ 65535 ∷ 65535 ∷ 65535 ∷ 65535 ∷ [])
-unfolding program-refused-12-1 computed isFile
-refused-12-1 = record { file = is-file widest program-refused-12-1 refl; answer = refl }
-
-pub program-refused-12-2 : Program
-program-refused-12-2 = record {
   tables = record {
     types = (ty 0 0 0 0 ∷ ty 1 0 0 0 ∷ ty 2 0 0 0 ∷ ty 3 0 0 0 ∷ ty 4 1 0 0 ∷ ty 4 2 0 0 ∷ ty 4 3 0 0 ∷ ty 7 4 0 0 ∷ ty 7 5 0 0
         ∷ ty 5 4 0 0 ∷ ty 5 5 0 0 ∷ ty 5 0 0 0 ∷ ty 6 3 0 0 ∷ ty 6 0 0 0 ∷ ty 6 0 0 1 ∷ ty 4 9 0 0 ∷ ty 7 15 0 0 ∷ ty 5 15 0 0
@@ -1280,13 +1286,13 @@ program-refused-12-2 = record {
       empty))) ∷ []);
 }
 
-pub refused-12-2 : Answers program-refused-12-2 12 1 2 (65535 ∷ 65535 ∷ 65535 ∷ 65535 ∷ 65535 ∷ 65535 ∷ 65535 ∷ 65535 ∷ 65535
+pub refused-12-1 : Answers program-refused-12-1 12 1 2 (65535 ∷ 65535 ∷ 65535 ∷ 65535 ∷ 65535 ∷ 65535 ∷ 65535 ∷ 65535 ∷ 65535
     ∷ 65535 ∷ 65535 ∷ 65535 ∷ [])
-unfolding program-refused-12-2 computed isFile
-refused-12-2 = record { file = is-file widest program-refused-12-2 refl; answer = refl }
+unfolding program-refused-12-1 computed isFile
+refused-12-1 = record { file = is-file widest program-refused-12-1 refl; answer = refl }
 
-pub program-refused-12-3 : Program
-program-refused-12-3 = record {
+pub program-refused-12-2 : Program
+program-refused-12-2 = record {
   tables = record {
     types = (ty 0 0 0 0 ∷ ty 1 0 0 0 ∷ ty 2 0 0 0 ∷ ty 3 0 0 0 ∷ ty 4 1 0 0 ∷ ty 4 2 0 0 ∷ ty 4 3 0 0 ∷ ty 7 4 0 0 ∷ ty 7 5 0 0
         ∷ ty 5 4 0 0 ∷ ty 5 5 0 0 ∷ ty 5 0 0 0 ∷ ty 6 3 0 0 ∷ ty 6 0 0 0 ∷ ty 6 0 0 1 ∷ ty 4 9 0 0 ∷ ty 7 15 0 0 ∷ ty 5 15 0 0
@@ -1302,31 +1308,53 @@ program-refused-12-3 = record {
   declarations = (function 10 13 ([]) (block (then (returnValue (call (name 10) (also (name 99) none))) empty)) ∷ []);
 }
 
-pub refused-12-3 : Answers program-refused-12-3 12 1 3 (65535 ∷ 65535 ∷ 65535 ∷ 65535 ∷ 65535 ∷ 65535 ∷ 65535 ∷ 65535 ∷ 65535
+pub refused-12-2 : Answers program-refused-12-2 12 1 3 (65535 ∷ 65535 ∷ 65535 ∷ 65535 ∷ 65535 ∷ 65535 ∷ 65535 ∷ 65535 ∷ 65535
     ∷ 65535 ∷ 65535 ∷ 65535 ∷ [])
+unfolding program-refused-12-2 computed isFile
+refused-12-2 = record { file = is-file widest program-refused-12-2 refl; answer = refl }
+
+pub program-refused-12-3 : Program
+program-refused-12-3 = record {
+  tables = record {
+    types = (ty 0 0 0 0 ∷ ty 1 0 0 0 ∷ ty 2 0 0 0 ∷ ty 3 0 0 0 ∷ ty 4 0 0 0 ∷ ty 7 4 0 0 ∷ ty 6 3 0 0 ∷ ty 6 3 0 1 ∷ ty 6 3 1 2
+        ∷ []);
+    list = (0 ∷ 0 ∷ 0 ∷ []);
+    fields = (fd 18 0 ∷ fd 15 0 ∷ fd 12 2 ∷ fd 6 5 ∷ []);
+    structs = (st 0 0 4 ∷ []);
+    builtIns = ([]);
+    nodes = (nd 1 40 0 1 ∷ nd 21 0 4 4 ∷ nd 22 65535 0 1 ∷ nd 10 0 5 0 ∷ nd 22 15 0 1 ∷ nd 13 1 0 0 ∷ nd 22 12 0 1 ∷ nd 14 1 0 0
+        ∷ nd 22 18 0 1 ∷ nd 13 1 0 0 ∷ nd 2 10 8 3 ∷ nd 3 20 0 0 ∷ nd 3 21 0 0 ∷ nd 39 0 0 1 ∷ nd 33 0 0 0 ∷ []);
+  };
+  declarations = (global 40 (structLiteral 4 (init 65535 (null 5) (init 15 (literal (integer 1)) (init 12 (literal (text 1)) (init
+      18 (literal (integer 1)) noInit))))) ∷ function 10 8 (20 ∷ 21 ∷ []) (block (then returnVoid empty)) ∷ []);
+}
+
+pub refused-12-3 : Answers program-refused-12-3 12 2 1 (65535 ∷ 65535 ∷ 65535 ∷ 65535 ∷ 65535 ∷ 65535 ∷ 65535 ∷ 65535 ∷ 65535
+    ∷ 65535 ∷ 65535 ∷ 65535 ∷ 65535 ∷ 65535 ∷ 65535 ∷ 65535 ∷ 65535 ∷ 65535 ∷ 65535 ∷ 65535 ∷ 65535 ∷ 65535 ∷ 65535 ∷ 65535
+    ∷ 65535 ∷ 65535 ∷ 65535 ∷ 65535 ∷ 65535 ∷ 65535 ∷ [])
 unfolding program-refused-12-3 computed isFile
 refused-12-3 = record { file = is-file widest program-refused-12-3 refl; answer = refl }
 
 pub program-refused-12-4 : Program
 program-refused-12-4 = record {
   tables = record {
-    types = (ty 0 0 0 0 ∷ ty 1 0 0 0 ∷ ty 2 0 0 0 ∷ ty 3 0 0 0 ∷ ty 4 1 0 0 ∷ ty 4 2 0 0 ∷ ty 4 3 0 0 ∷ ty 7 4 0 0 ∷ ty 7 5 0 0
-        ∷ ty 5 4 0 0 ∷ ty 5 5 0 0 ∷ ty 5 0 0 0 ∷ ty 6 3 0 0 ∷ ty 6 0 0 0 ∷ ty 6 0 0 1 ∷ ty 4 9 0 0 ∷ ty 7 15 0 0 ∷ ty 5 15 0 0
-        ∷ ty 6 3 1 1 ∷ ty 7 2 0 0 ∷ ty 5 2 0 0 ∷ ty 5 0 0 0 ∷ ty 4 1 0 0 ∷ ty 5 7 0 0 ∷ ty 7 11 0 0 ∷ ty 6 5 2 1 ∷ ty 6 4 3 1
-        ∷ ty 5 1 0 0 ∷ ty 6 3 4 2 ∷ ty 5 11 0 0 ∷ ty 7 13 0 0 ∷ ty 6 15 6 0 ∷ ty 6 17 6 1 ∷ ty 7 17 0 0 ∷ ty 6 21 7 0
-        ∷ ty 6 21 7 1 ∷ ty 6 11 8 1 ∷ ty 6 3 9 1 ∷ ty 6 3 10 2 ∷ ty 6 3 12 2 ∷ []);
-    list = (0 ∷ 15 ∷ 4 ∷ 5 ∷ 0 ∷ 1 ∷ 17 ∷ 21 ∷ 22 ∷ 7 ∷ 0 ∷ 0 ∷ 4 ∷ 4 ∷ []);
-    fields = (fd 1 0 ∷ fd 2 0 ∷ fd 1 0 ∷ fd 2 0 ∷ fd 3 0 ∷ fd 1 0 ∷ fd 3 0 ∷ []);
-    structs = (st 1 0 2 ∷ st 2 2 3 ∷ st 3 5 2 ∷ []);
+    types = (ty 0 0 0 0 ∷ ty 1 0 0 0 ∷ ty 2 0 0 0 ∷ ty 3 0 0 0 ∷ ty 4 0 0 0 ∷ ty 7 4 0 0 ∷ ty 6 3 0 0 ∷ ty 6 3 0 1 ∷ ty 6 3 1 2
+        ∷ []);
+    list = (0 ∷ 0 ∷ 0 ∷ []);
+    fields = (fd 6 5 ∷ []);
+    structs = (st 0 0 1 ∷ []);
     builtIns = ([]);
-    nodes = (nd 2 10 12 1 ∷ nd 39 0 0 2 ∷ nd 31 20 0 1 ∷ nd 21 0 4 1 ∷ nd 22 1 0 1 ∷ nd 15 99 0 0 ∷ nd 33 0 0 0 ∷ []);
+    nodes = (nd 2 10 6 1 ∷ nd 39 0 0 2 ∷ nd 31 30 0 1 ∷ nd 21 0 4 1 ∷ nd 22 6 0 1 ∷ nd 21 0 4 2 ∷ nd 22 65535 0 1 ∷ nd 21 0 4 1
+        ∷ nd 22 6 0 1 ∷ nd 10 0 5 0 ∷ nd 22 6 0 1 ∷ nd 21 0 4 1 ∷ nd 22 6 0 1 ∷ nd 10 0 5 0 ∷ nd 33 0 0 0 ∷ []);
   };
-  declarations = (function 10 12 ([]) (block (then (var 20 (structLiteral 4 (init 1 (name 99) noInit))) (then returnVoid empty)))
+  declarations = (function 10 6 ([]) (block (then (var 30 (structLiteral 4 (init 6 (structLiteral 4 (init 65535 (structLiteral 4
+      (init 6 (null 5) noInit)) (init 6 (structLiteral 4 (init 6 (null 5) noInit)) noInit))) noInit))) (then returnVoid empty)))
       ∷ []);
 }
 
-pub refused-12-4 : Answers program-refused-12-4 12 7 3 (65535 ∷ 65535 ∷ 65535 ∷ 65535 ∷ 65535 ∷ 65535 ∷ 65535 ∷ 65535 ∷ 65535
-    ∷ 65535 ∷ 65535 ∷ 65535 ∷ 65535 ∷ 65535 ∷ [])
+pub refused-12-4 : Answers program-refused-12-4 12 3 5 (65535 ∷ 65535 ∷ 65535 ∷ 65535 ∷ 65535 ∷ 65535 ∷ 65535 ∷ 65535 ∷ 65535
+    ∷ 65535 ∷ 65535 ∷ 65535 ∷ 65535 ∷ 65535 ∷ 65535 ∷ 65535 ∷ 65535 ∷ 65535 ∷ 65535 ∷ 65535 ∷ 65535 ∷ 65535 ∷ 65535 ∷ 65535
+    ∷ 65535 ∷ 65535 ∷ 65535 ∷ 65535 ∷ 65535 ∷ 65535 ∷ [])
 unfolding program-refused-12-4 computed isFile
 refused-12-4 = record { file = is-file widest program-refused-12-4 refl; answer = refl }
 

@@ -221,28 +221,48 @@ impl<R: Rules> Checker<'_, R> {
         if children as usize != fields.len() && !fewer {
             return fault(12, at);
         }
+        let mut before = None;
         for k in 0..children as usize {
             let x = self.file.node(child).x();
-            let by_name = |f: &[u8; 4]| name_type(f).name == x;
+            let by_name = |f: &[u8; 4]| self.same_name(name_type(f).name, x);
+            let unseen = |field: usize| seen[field / 64] >> (field % 64) & 1 == 0;
+            let free = self.breaks(FirstNameFree) && k == 0
+                || self.breaks(LastNameFree) && k + 1 == children as usize
+                || self.breaks(FarNamesFree) && k >= 32;
             let place = if self.breaks(NoPermutation) && name_type(&fields[k]).name != x {
                 None
             } else if self.breaks(DoubledFieldNamed) && name_type(&fields[k]).name == x {
                 Some(k)
+            } else if self.breaks(DeclaredNeighboursOnly) && !neighbours_alike(fields) {
+                (0..fields.len()).find(|&i| unseen(i) && by_name(&fields[i]))
             } else {
                 fields.iter().position(by_name)
             };
-            let Some(field) = place else {
+            let Some(field) = place.or(free.then_some(k)) else {
                 return fault(if self.breaks(UnknownFieldIsEight) { 8 } else { 12 }, at);
             };
-            let again = seen[field / 64] >> (field % 64) & 1 == 1;
-            if again && !self.breaks(FieldNamedTwice) {
+            let apart = self.breaks(NamedNeighboursOnly) && before != Some(field);
+            if !unseen(field) && !free && !apart && !self.breaks(FieldNamedTwice) {
                 return fault(12, at);
             }
-            seen[field / 64] |= 1 << (field % 64);
+            if !free {
+                seen[field / 64] |= 1 << (field % 64);
+            }
+            before = Some(field);
             self.work[child][0] = field as u16;
-            child = self.past_tree(child);
+            child = if self.breaks(InnerNamesCounted) { self.next_initializer(child) } else { self.past_tree(child) };
         }
         Ok(())
+    }
+
+    fn same_name(&self, a: u16, b: u16) -> bool {
+        if self.breaks(NamesLowByte) { a as u8 == b as u8 } else { a == b }
+    }
+
+    /// The next node that is a field initializer, or the end.
+    fn next_initializer(&self, after: usize) -> usize {
+        let end = self.file.nodes.len();
+        (after + 1..end).find(|&at| self.file.node(at).kind() == 22).unwrap_or(end)
     }
 
     /// The first node after a tree.
@@ -377,4 +397,9 @@ impl<R: Rules> Checker<'_, R> {
         }
         Ok(BOOL)
     }
+}
+
+/// Whether a field has the name of the one before it.
+fn neighbours_alike(fields: &[[u8; 4]]) -> bool {
+    fields.windows(2).any(|pair| name_type(&pair[0]).name == name_type(&pair[1]).name)
 }

@@ -29,8 +29,8 @@ impl Rules for Mutant {
     }
 }
 
-/// The part of document 01 that a mutant breaks, or document 02's limits or
-/// its empty file, zero bytes.
+/// The part of document 01 that a mutant breaks, or document 02's limits, its
+/// empty file, zero bytes, or its comparing of field names.
 #[derive(Clone, Copy, PartialEq, Eq, Debug)]
 pub enum Part {
     Reading,
@@ -40,6 +40,7 @@ pub enum Part {
     Declarations,
     Limits,
     Empty,
+    Names,
 }
 
 macro_rules! mutants {
@@ -345,5 +346,14 @@ mutants! {
         WrongLengthIsEmpty: "every file under 1 is taken for zero bytes",
         EmptyBeforeRange: "zero bytes are accepted before 25 is tested",
         EmptyAtWidestOnly: "zero bytes are 1 unless the limits are 200 and 100",
+    }
+    Names {
+        FirstNameFree: "a struct literal's first name is not compared",
+        LastNameFree: "a struct literal's last name is not compared",
+        InnerNamesCounted: "names of literals within a literal's values count as its own",
+        DeclaredNeighboursOnly: "of fields declared twice only neighbours are seen",
+        NamedNeighboursOnly: "of initializers that name a field twice only neighbours are seen",
+        NamesLowByte: "a struct literal's names are compared in their low bytes",
+        FarNamesFree: "a struct literal's names past the 32nd are not compared",
     }
 }

@@ -81,13 +81,15 @@ pub fn files(question: Question) -> Vec<u8> {
 /// The cases written by hand alone, for each question.
 pub fn hand_written() -> [Vec<u8>; 4] {
     let reading = pack(cases::reading().into_iter().map(|c| c.1));
-    [pack(typing_cases()), reading, pack(subtyping_cases()), pack_limited(limit_cases_by_hand())]
+    let checked = typing_cases().into_iter().chain(name_cases());
+    [pack(checked), reading, pack(subtyping_cases()), pack_limited(limit_cases_by_hand())]
 }
 
 /// Generated files alone, for each question.
 pub fn generated() -> [Vec<u8>; 4] {
     let programs = generator::programs(6, 12_000);
-    [programs.clone(), programs, generator::type_tables(7, 400), generator::limited(8, 1000)]
+    let checked = [programs.clone(), generator::field_names(13, 1000)].concat();
+    [checked, programs, generator::type_tables(7, 400), generator::limited(8, 1000)]
 }
 
 fn typing_cases() -> Vec<Vec<u8>> {
@@ -96,6 +98,10 @@ fn typing_cases() -> Vec<Vec<u8>> {
         |(name, file, number): &(&str, Vec<u8>, u16)| file.len() < 1000 || *number > 0 && name.starts_with("Pan: ");
     files.extend(cases::reading().into_iter().filter(kept).map(|c| c.1));
     files
+}
+
+fn name_cases() -> Vec<Vec<u8>> {
+    cases::names().into_iter().map(|c| c.file).collect()
 }
 
 fn subtyping_cases() -> Vec<Vec<u8>> {
@@ -109,12 +115,15 @@ fn subtyping_cases() -> Vec<Vec<u8>> {
 }
 
 /// All cases written by hand, a sample of the generator, and more of its files
-/// for each mutant that few of these catch.
+/// for each mutant of typing that few of these catch; then those about field
+/// names, which came later, so that all others keep their places.
 fn check_files() -> Vec<Vec<u8>> {
     let mut files = typing_cases();
     files.extend(small(&generator::programs(1, 360), 4000));
     files.extend(generator::large_files());
     add_catching(&mut files);
+    files.extend(name_cases());
+    files.extend(small(&generator::field_names(10, 80), 1200));
     files
 }
 
@@ -175,7 +184,7 @@ pub fn table(packed: &[Vec<u8>; 4]) -> Vec<(Mutant, Part, [usize; 4])> {
     ALL.iter().map(|&(m, part, _)| (m, part, count(m, part))).collect()
 }
 
-const PARTS: [Part; 7] = [
+const PARTS: [Part; 8] = [
     Part::Reading,
     Part::Subtyping,
     Part::Expressions,
@@ -183,6 +192,7 @@ const PARTS: [Part; 7] = [
     Part::Declarations,
     Part::Limits,
     Part::Empty,
+    Part::Names,
 ];
 
 /// What `mutants` prints: a line for each part, as docs/TESTING.md has it, and a line for each mutant.

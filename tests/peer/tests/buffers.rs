@@ -1,6 +1,6 @@
 //! Document 01, "Rows and answers": what happens to rows and work.
 
-use oat_peer::cases::{reading, typing};
+use oat_peer::cases::{checked, reading};
 use oat_peer::{Answer, Limits, check, node_count};
 
 const MARK: u16 = 43_690;
@@ -19,7 +19,7 @@ fn untouched(numbers: &[u16]) -> bool {
 /// Number 6: a buffer is short by one, or empty; no buffer changes.
 #[test]
 fn short_by_one() {
-    for case in typing() {
+    for case in checked() {
         let need = 2 * node_count(&case.file);
         if need == 0 {
             continue;
@@ -57,7 +57,7 @@ fn unreadable_files() {
 /// D9: 7 to 16 fill exactly two per node; what lies past the rows stays.
 #[test]
 fn longer_than_needed() {
-    for case in typing() {
+    for case in checked() {
         let need = 2 * node_count(&case.file);
         let (exact, exact_rows, _) = run(&case.file, need, need);
         for more in [1, 2, 77] {
@@ -75,7 +75,7 @@ fn longer_than_needed() {
 /// What stood in the buffers before makes no difference.
 #[test]
 fn filled_before() {
-    for case in typing() {
+    for case in checked() {
         let need = 2 * node_count(&case.file);
         let (answer, marked, _) = run(&case.file, need, need);
         for fill in [0u16, 1, 65_535] {

@@ -1,6 +1,6 @@
 //! Every case written by hand has its answer.
 
-use oat_peer::cases::{self, reading, subtyping, typing};
+use oat_peer::cases::{self, checked, reading, subtyping};
 use oat_peer::{Answer, Below, Limits, check, node_count, read, subtype};
 
 fn answer(file: &[u8]) -> [u16; 3] {
@@ -23,7 +23,7 @@ fn reading_cases() {
 
 #[test]
 fn typing_cases() {
-    let wrong: Vec<_> = typing()
+    let wrong: Vec<_> = checked()
         .into_iter()
         .filter(|c| answer(&c.file) != c.answer)
         .map(|c| format!("{}: {:?}, expected {:?}", c.name, answer(&c.file), c.answer))
@@ -57,12 +57,12 @@ fn types_not_in_the_file() {
 #[test]
 fn every_number_and_pan_case() {
     let read: Vec<u16> = reading().iter().map(|c| c.2).collect();
-    let typed: Vec<u16> = typing().iter().map(|c| c.answer[0]).collect();
+    let typed: Vec<u16> = checked().iter().map(|c| c.answer[0]).collect();
     assert!((0..=5).all(|n| read.contains(&n)));
     assert!((7..=16).all(|n| typed.contains(&n)));
     let pans = subtyping().iter().filter(|q| q.name.starts_with("Pan: ")).count();
     assert_eq!(pans, 8);
-    assert_eq!(typing().iter().filter(|c| c.name.starts_with("Pan: ")).count(), 8);
+    assert_eq!(checked().iter().filter(|c| c.name.starts_with("Pan: ")).count(), 8);
     assert_eq!(reading().iter().filter(|c| c.0.starts_with("Pan: ")).count(), 4);
 }
 
@@ -71,7 +71,7 @@ fn every_number_and_pan_case() {
 #[test]
 fn every_reading() {
     let mut names: Vec<&str> = reading().iter().map(|c| c.0).collect();
-    names.extend(typing().iter().map(|c| c.name));
+    names.extend(checked().iter().map(|c| c.name));
     names.extend(subtyping().iter().map(|q| q.name));
     let wanted = [("F", 22), ("S", 7), ("E", 17), ("T", 19), ("D", 10), ("P", 1)];
     for (letter, last) in wanted {

@@ -1,6 +1,6 @@
 //! Document 02, request (xi): limits as parameters.
 
-use oat_peer::cases::{LimitCase, limits, reading, typing};
+use oat_peer::cases::{LimitCase, checked, limits, reading};
 use oat_peer::mutants::Mutant::RangeAfterShort;
 use oat_peer::print::{Limited, unpack, unpack_limited};
 use oat_peer::vectors::{Question, files};
@@ -38,7 +38,7 @@ fn refused(number: u16) -> Answer {
 
 /// Files of every number.
 fn some_files() -> Vec<Vec<u8>> {
-    let mut files: Vec<Vec<u8>> = typing().into_iter().map(|c| c.file).step_by(7).collect();
+    let mut files: Vec<Vec<u8>> = checked().into_iter().map(|c| c.file).step_by(7).collect();
     files.extend(reading().into_iter().map(|c| c.1).filter(|f| f.len() < 2000).step_by(7));
     files.extend(unpack(&generator::programs(21, 100)).into_iter().map(<[u8]>::to_vec));
     files.push(vec![]);

@@ -73,6 +73,7 @@ fn every_mutant_is_caught() {
     assert!(ALL.iter().filter(|m| m.1 == Part::Reading).count() >= 20);
     assert!(ALL.iter().filter(|m| m.1 == Part::Limits).count() >= 20);
     assert!(ALL.iter().filter(|m| m.1 == Part::Empty).count() >= 15);
+    assert!(ALL.iter().filter(|m| m.1 == Part::Names).count() >= 5);
     assert_eq!(ALL.iter().filter(|m| m.2.starts_with("slip: ")).count(), 5);
 }
 
@@ -85,6 +86,14 @@ fn generated_numbers() {
     for number in (0..=5).chain(7..=16) {
         assert!(counts[number] * 50 >= 3000, "{number}: {counts:?}");
     }
+}
+
+/// Files about field names are accepted or refused under 12, a few under 7 or 11.
+#[test]
+fn generated_names() {
+    let counts = generator::tally(&generator::field_names(14, 2000));
+    assert!(counts[0] >= 400 && counts[12] >= 800 && counts[7] >= 40 && counts[11] >= 20, "{counts:?}");
+    assert_eq!([0, 7, 11, 12].iter().map(|&n: &usize| counts[n]).sum::<usize>(), 2000, "{counts:?}");
 }
 
 /// Generated type tables can all be read.

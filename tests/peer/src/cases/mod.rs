@@ -3,12 +3,14 @@
 //! the number of the reading it shows, if it shows one.
 
 mod limits;
+mod names;
 mod reading;
 pub mod rows;
 mod subtyping;
 mod typing;
 
 pub use limits::{LimitCase, limits};
+pub use names::names;
 pub use reading::reading;
 pub use subtyping::{Question, subtyping};
 pub use typing::typing;
@@ -20,6 +22,11 @@ pub struct Case {
     pub name: &'static str,
     pub file: Vec<u8>,
     pub answer: [u16; 3],
+}
+
+/// Readable files with their answers, all of them.
+pub fn checked() -> Vec<Case> {
+    typing().into_iter().chain(names()).collect()
 }
 
 /// Types of the usual table.

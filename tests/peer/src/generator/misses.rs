@@ -148,7 +148,7 @@ fn small_fault(rng: &mut Rng, p: &Program) -> Tree {
 }
 
 /// Edits one of the nodes that satisfy a test.
-fn edit(rng: &mut Rng, p: &mut Program, test: impl Fn(&Tree) -> bool, make: impl FnOnce(&mut Rng, &mut Tree)) {
+pub fn edit(rng: &mut Rng, p: &mut Program, test: impl Fn(&Tree) -> bool, make: impl FnOnce(&mut Rng, &mut Tree)) {
     let count: usize = p.declarations.iter().map(|d| matching(d, &test)).sum();
     if count > 0 {
         let mut left = rng.below(count);

@@ -1,11 +1,12 @@
-//! The generator: well-typed programs, near misses, damaged files and files of
-//! the largest sizes, from a seed.
+//! The generator: well-typed programs, near misses, damaged files, files of the
+//! largest sizes and files about field names, from a seed.
 
 mod bodies;
 mod damage;
 mod large;
 mod limits;
 mod misses;
+mod names;
 mod rng;
 mod tables;
 
@@ -30,6 +31,12 @@ pub fn programs(seed: u64, count: usize) -> Vec<u8> {
 pub fn type_tables(seed: u64, count: usize) -> Vec<u8> {
     let mut rng = Rng::new(seed ^ 0x7479_7065);
     pack((0..count).map(|_| tables::rich(&mut rng).bytes()))
+}
+
+/// Packed files about the names of struct literals.
+pub fn field_names(seed: u64, count: usize) -> Vec<u8> {
+    let mut rng = Rng::new(seed ^ 0x6E61_6D65);
+    pack((0..count).map(|_| names::file(&mut rng)))
 }
 
 /// Packed cases of limits: the files of `programs`, each under four settings in a row.
