@@ -21,6 +21,10 @@ python3 tests/bench/growth.py "$out"
 for file in names_64 names_512 names_4096 scopes_64 scopes_512 scopes_4096 structs_64 structs_512 structs_4096 full_4096 deep_100 unlike_100; do
     (cd "$out" && ./check -each "$file")
 done
+echo "literals"
+for file in declared_4 turned_4 falling_4 declared_40 turned_40 falling_40 declared_1024 turned_1024 falling_1024; do
+    (cd "$out" && ./check -each "$file")
+done
 echo "stack"
 cc -O2 -I include tests/bench/stack.c -L target/staticlib -l:liboat_c.a -lpthread -o "$out/stack"
 "$out/stack" tests/vectors/check.bin

@@ -1,7 +1,9 @@
 #!/usr/bin/env python3
 """Writes packed files of 64, 512 and 4,096 nodes into a folder, to see how the time of a check grows: `names`, 128 built-ins and then globals, each
 the value of the one before; `scopes`, one function whose block is all vars, each the value of the one before; `structs`, 256 structs of
-four fields, literals of them and their fields; `deep`, a comparison of two function types of 200 parts in comparisons down to depth 100; `full`, the largest file of the stored corpus."""
+four fields, literals of them and their fields; `deep`, a comparison of two function types of 200 parts in comparisons down to depth 100; `full`, the largest file of the stored corpus.
+Files of one literal, of 4, 40 and 1,024 fields: `declared`, in the declared order; `turned`, in the opposite one; `falling`, in the declared order, of
+fields whose names are numbered downwards."""
 import sys
 
 
@@ -57,6 +59,23 @@ def structs(count):
     return file(types, fields, records, [], function(statements))
 
 
+def literal(fields, named):
+    """A global that is a literal with these names, of a struct with these fields."""
+    types = [(k, 0, 0, 0) for k in range(4)] + [(4, 300, 0, 0)]
+    nodes = [(1, 1, 0, 1), (21, 0, 4, len(named))]
+    for x in named:
+        nodes += [(22, x, 0, 1), (13, 7, 0, 0)]
+    return file(types, [(x, 0) for x in fields], [(300, 0, len(fields))], [], nodes)
+
+
+def literals():
+    for count in (4, 40, 1024):
+        names = range(4000, 4000 + count)
+        yield f"declared_{count}", literal(names, names)
+        yield f"turned_{count}", literal(names, names[::-1])
+        yield f"falling_{count}", literal(names[::-1], names[::-1])
+
+
 def deep():
     """A function of 200 parts, () -> () -> .. -> void, that returns what it gives, and one that returns it compared with itself, in comparisons with
     true down to depth 100."""
@@ -91,5 +110,5 @@ if __name__ == "__main__":
         for count in (64, 512, 4096):
             made = make(count)
             open(f"{sys.argv[1]}/{make.__name__}_{count}", "wb").write(len(made).to_bytes(4, "little") + made)
-    for name, made in (("deep_100", deep()), ("unlike_100", unlike()), ("full_4096", full())):
+    for name, made in (("deep_100", deep()), ("unlike_100", unlike()), ("full_4096", full()), *literals()):
         open(f"{sys.argv[1]}/{name}", "wb").write(len(made).to_bytes(4, "little") + made)

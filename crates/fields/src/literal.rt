@@ -22,13 +22,13 @@ fn is_named(file: &[u8], sections: Sections, node: usize, count: usize, name: us
     ensures { λ r. ⌜ OfInitializers (now (file .entry)) sections node count (λ is. r ≡ isNamed name is) ⌝ }
 {
     let mut at = node;
-    let mut i = 0;
-    while i < count {
+    let mut passed = 0;
+    while passed < count {
         if node_x(file, sections, at) == name {
             return true;
         }
         at = past(file, sections, at + 1);
-        i += 1;
+        passed += 1;
     }
     false
 }

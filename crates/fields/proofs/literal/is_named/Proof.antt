@@ -8,10 +8,10 @@ use Rattle.fields.proofs.literal.is_named.Statement.{statement}
 use Rattle.fields.proofs.literal.is_named.Tie as tie
 
 abbrev Inv-loop : tie.InvT-loop
-Inv-loop file sections node count name at₀ i₀ at i = (i ≤ count) × Reached file sections node count at i × Unnamed file sections node count name i
+Inv-loop file sections node count name at₀ passed₀ at passed = Reached file sections node count at passed × Unnamed file sections node count name passed × (passed ≤ count)
 
 abbrev μ-loop : tie.MeasureT-loop
-μ-loop file sections node count name at₀ i₀ at i = count - i
+μ-loop file sections node count name at₀ passed₀ at passed = count - passed
 
 pub is-named-spec : {M : Type 1} → statement M
 is-named-spec =
@@ -19,17 +19,17 @@ is-named-spec =
     (tie.spec
     Inv-loop
     μ-loop
-    (λ c. (search needs, search (reached-first, needs), search (none-passed, needs)))
+    (λ c. (search (reached-first, needs), search (none-passed, needs), search needs))
     (λ c κs. search (reached-within, needs))
     (λ c.
     let at-in = c .before .before in
-    name-found _ _ _ _ _ _ _ _ (at-in .before .loop .inv .1) (at-in .loop-test .taken) (c .before .node-x .ensures .0) (c .if1 .taken))
+    name-found _ _ _ _ _ _ _ _ (at-in .before .loop .inv .0) (at-in .loop-test .taken) (c .before .node-x .ensures .0) (c .if1 .taken))
     (λ c.
     let at-loop = c .before .before .before in
     let at-start = at-loop .before .before in
-    omega (arith, reached-within _ _ _ _ _ _ (at-loop .loop .inv .1) (c .before .before .loop-test .taken) (at-start .pre), at-start .pre .laid .nodes-most))
+    omega (arith, reached-within _ _ _ _ _ _ (at-loop .loop .inv .0) (c .before .before .loop-test .taken) (at-start .pre), at-start .pre .laid .nodes-most))
     (λ c κs. search (reached-tree, needs))
     (λ c. search needs)
     (λ c. search needs)
-    (λ c. (search needs, search (reached-next, needs), search (name-passed, needs)))
-    (λ c. no-name _ _ _ _ _ _ (c .before .loop .inv .2) (c .before .loop .inv .0) (c .loop-test .left)))
+    (λ c. (search (reached-next, needs), search (name-passed, needs), search needs))
+    (λ c. no-name _ _ _ _ _ _ (c .before .loop .inv .1) (c .before .loop .inv .2) (c .loop-test .left)))
