@@ -448,6 +448,22 @@ def _():
     return e
 
 
+@example("field_named_twice", pan_source("A", "global pan = new A{ p = 1; p = 2 };"), """
+    As many names as fields, and yet p is named twice and dry not at all.""")
+def _():
+    e = pans("A")
+    e.glob("pan", e.new("A", ("p", e.integer(1)), ("p", e.integer(2))))
+    return e
+
+
+@example("fields_in_any_order", pan_source("B", "global pan = new B{ wet = 3; p = 1; dry = 2 };"), """
+    Each field once, in another order than the struct has them.""")
+def _():
+    e = pans("B")
+    e.glob("pan", e.new("B", ("wet", e.integer(3)), ("p", e.integer(1)), ("dry", e.integer(2))))
+    return e
+
+
 @example("integer_condition", """
     void f() {
       if (1) { }

@@ -23,7 +23,7 @@ use Rattle.answers.specs.declared.answer.At.{At}
 use Rattle.answers.specs.declared.answer.Judged.{Judged}
 use Rattle.answers.specs.Answers.{withRow}
 use Rattle.expressions.specs.Contract.{contextOf, Fine, RowsAt, After, Typing, Meets, accepts, refuses, Ready, Told}
-use Rattle.bindings.proofs.LawsBindings.{scoped-same, scope-same, names-same}
+use Rattle.bindings.proofs.LawsBindings.{scope-same, names-same}
 use Rattle.expressions.proofs.LawsLabels.{Closed, rows-append}
 use Rattle.expressions.proofs.LawsShape.{stands-within}
 

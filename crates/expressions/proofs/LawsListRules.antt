@@ -10,8 +10,8 @@ use borrow.Author.Tests.{eq-eqb, ne-eqb, lt-ltb, le-ltb, not-true, not-false}
 use Rattle.oat.specs.Basics.{pick}
 use Rattle.oat.specs.Tables.{Tables, typeAt, nodeAt}
 use Rattle.oat.specs.Types.{Field, structOf, Lookup, found, missing, lookup}
-use Rattle.oat.specs.Syntax.{Expr, arrayLiteral, structLiteral, call, size, Exprs, sizes, count, Inits, noInit, init, sizeInits, countInits}
-use Rattle.oat.specs.Nodes.{Stands, StandAll, InitsStand}
+use Rattle.oat.specs.Syntax.{Expr, arrayLiteral, structLiteral, call, size, Exprs, sizes, count, Inits, sizeInits}
+use Rattle.oat.specs.Nodes.{Stands, StandAll}
 use Rattle.oat.proofs.LawsTables.{has-kind}
 use Rattle.typing_rules.specs.Labels.{Label}
 use Rattle.typing_rules.specs.Rules.{namesFit}
@@ -19,8 +19,7 @@ use Rattle.typing_rules.specs.Judge.{Out, ok, andThen, onDeclared, plain, isKin
 use Rattle.file_sections.specs.declared.Sections.{Sections}
 use Rattle.file_sections.specs.Layout.{Has, tablesOf}
 use Rattle.file_sections.specs.Frames.{Same}
-use Rattle.file_sections.proofs.LawsRecords.{nodes-long, structs-long, built-ins-long}
-use Rattle.file_sections.proofs.LawsFrames.{same-more}
+use Rattle.file_sections.proofs.LawsRecords.{nodes-long, structs-long}
 use Rattle.type_index.specs.Index.{declared, recordOf, structNamed, structEntry, formedEntry, Entered}
 use Rattle.type_index.proofs.LawsIndex.{lookup-is}
 use Rattle.bindings.specs.Bindings.{entryOf, scopeOf}
@@ -31,7 +30,7 @@ use Rattle.answers.specs.declared.answer.Judged.{Judged}
 use Rattle.answers.specs.declared.leaves.Expected.{Expected}
 use Rattle.answers.specs.declared.leaves.Expected.the-variants.{Each, Run}
 use Rattle.answers.specs.Answers.{withRow}
-use Rattle.expressions.specs.Contract.{contextOf, Fine, After, Typing, Listing, Meets, accepts, refuses, Answers, Ready, Told, expectedBelow, listed, ReadyList, ToldList, initialized, ReadyInits, ToldInits}
+use Rattle.expressions.specs.Contract.{contextOf, Fine, Typing, Listing, Meets, accepts, refuses, Answers, Ready, Told, expectedBelow, listed, ReadyList, ToldList, ReadyInits, ToldInits}
 use Rattle.expressions.proofs.LawsMeets.{Untyped, Unlisted, stops, passes, child-ok, list-no, list-ok, then-tested}
 use Rattle.expressions.proofs.LawsAfter.{typing-of, after-append, rule-typed}
 use Rattle.expressions.proofs.LawsChild.{child-within, has-type, kind-within, element-within, returned-within, type-entered, formed-is, parameters-within}

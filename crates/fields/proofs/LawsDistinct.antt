@@ -13,7 +13,7 @@ use Rattle.oat.specs.Tables.{Tables, fieldAt, structAt}
 use Rattle.oat.specs.Types.{Field, structOf}
 use Rattle.oat.proofs.LawsBasics.{below-or-last}
 use Rattle.typing_rules.specs.Steps.{hasField, distinctFields}
-use Rattle.typing_rules.specs.Judge.{Number, number, unknown, fieldAmong}
+use Rattle.typing_rules.specs.Judge.{number, unknown, fieldAmong}
 use Rattle.fields.specs.declared.lookup.FieldType.{FieldType}
 use Rattle.fields.specs.declared.lookup.FieldType.the-variants.{Of, Unknown}
 use Rattle.fields.specs.Lookup.{numberOf}
@@ -34,7 +34,7 @@ has-absent x (suc n) g e (suc i) h = has-absent x n (λ i. g (suc i)) (rest (eqb
     rest true f = absurd (false≢true (sym f))
     rest false f = f
 
-picked-none : (b c : Bool) → pick b false c ≡ true → (b ≡ false) × (c ≡ true)
+pub picked-none : (b c : Bool) → pick b false c ≡ true → (b ≡ false) × (c ≡ true)
 picked-none true c e = absurd (false≢true e)
 picked-none false c e = (refl, e)
 

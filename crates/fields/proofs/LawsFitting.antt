@@ -3,7 +3,7 @@
 use mathlib.Core.Path.{_≡_, refl, ap, sym, _∙_}
 use mathlib.Core.Bool.{Bool, true, false, not, _&&_, false≢true}
 use mathlib.Core.List.{List, [], _∷_}
-use Prim.Native.Nat.{ℕ, zero, suc, _+_, _≤_, _<_}
+use Prim.Native.Nat.{ℕ, _+_, _≤_, _<_}
 use native.Mathlib.Omega.{arith}
 use lib.ListN.{length}
 use lib.Dec.{eqb, ltb}
@@ -19,16 +19,12 @@ use Rattle.typing_rules.specs.Steps.{hasField, distinctFields}
 use Rattle.file_sections.specs.declared.Sections.{Sections}
 use Rattle.file_sections.specs.Layout.{tablesOf}
 use Rattle.fields.specs.Literal.{isNamed, allNamed, Initializers, OfInitializers}
+use Rattle.fields.proofs.LawsDistinct.{picked-none}
 
 -- how many initializers have the name of one of the fields
 unfoldable fieldsNamed : List Field → Inits → ℕ
 fieldsNamed [] is = 0
 fieldsNamed (f ∷ fs) is = namedTimes (f .name) is + fieldsNamed fs is
-
--- a test counts once at most
-picks-one : (b : Bool) → pick b 1 0 ≤ 1
-picks-one true = omega arith
-picks-one false = omega arith
 
 eqb-turn : (a b : ℕ) → eqb a b ≡ eqb b a
 eqb-turn a b = both-true (eqb a b) (eqb b a) (λ e. eq-eqb b a (sym (eqb-true a b e)), λ e. eq-eqb a b (sym (eqb-true b a e)))
@@ -53,15 +49,11 @@ no-times x (f ∷ fs) e = go (eqb (f .name) x) e (no-times x fs)
     go false e r = r (omega arith)
 
 -- where fields are distinct no name is declared twice
-picked-both : (b c : Bool) → pick b false c ≡ true → (b ≡ false) × (c ≡ true)
-picked-both true c e = absurd (false≢true e)
-picked-both false c e = (refl, e)
-
 declared-once : (fs : List Field) → distinctFields fs ≡ true → (x : ℕ) → declaredTimes x fs ≤ 1
 unfolding distinctFields declaredTimes
 declared-once [] e x = omega arith
 declared-once (f ∷ fs) e x =
-    go (eqb (f .name) x) refl (picked-both (hasField (f .name) fs) _ e) (λ d. declared-once fs d x)
+    go (eqb (f .name) x) refl (picked-none (hasField (f .name) fs) _ e) (λ d. declared-once fs d x)
   where
     go : (b : Bool) → eqb (f .name) x ≡ b → (hasField (f .name) fs ≡ false) × (distinctFields fs ≡ true)
         → (distinctFields fs ≡ true → declaredTimes x fs ≤ 1) → pick b 1 0 + declaredTimes x fs ≤ 1

@@ -185,9 +185,6 @@ module _ (T : Tables) where
     pub expr-tree : (e : Expr) → Stands T n e → Trees T n 1 (n + size e)
     expr-tree e h = expr-next e n 0 (n + size e) h no-tree
 
-    pub init-tree : (x : ℕ) (a : Expr) → Node T n 22 x 0 1 → Stands T (n + 1) a → Trees T n 1 (n + 1 + size a)
-    init-tree x a v h = node-next 0 v (expr-next a (n + 1) 0 (n + 1 + size a) h no-tree)
-
     pub stmt-tree : (s : Stmt) → StmtStands T n s → Trees T n 1 (n + sizeStmt s)
     stmt-tree s h = stmt-next s n 0 (n + sizeStmt s) h no-tree
 

@@ -9,16 +9,14 @@ use native.Mathlib.Nat.{not-suc-le-zero}
 use native.Mathlib.Omega.{arith}
 use lib.ListN.{getD}
 use lib.Dec.{eqb}
-use borrow.Author.Tests.{eqb-true, eq-eqb, ne-eqb}
+use borrow.Author.Tests.{eq-eqb, ne-eqb}
 use Rattle.oat.specs.Basics.{pick, sumBelow, allBelow, tabulate}
 use Rattle.oat.specs.Tables.{Tables, fieldAt, structAt}
 use Rattle.oat.specs.Types.{Field, typeOf, structOf}
 use Rattle.oat.specs.Decide.{isFormed}
-use Rattle.oat.proofs.LawsBasics.{below-or-last, all-at, all-true, all-more, all-false}
-use Rattle.oat.proofs.LawsSame.{both-true}
+use Rattle.oat.proofs.LawsBasics.{below-or-last}
 use Rattle.oat.proofs.LawsTables.{tables-formed}
 use Rattle.typing_rules.specs.Contexts as Contexts
-use Rattle.typing_rules.specs.Steps.{hasField, distinctFields}
 use Rattle.typing_rules.specs.Check.{isMiss, fieldsFormed}
 use Rattle.file_sections.specs.declared.Sections.{Sections}
 use Rattle.file_sections.specs.Layout.{tablesOf, GoodTables}

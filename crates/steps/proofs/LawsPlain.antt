@@ -6,13 +6,13 @@ use mathlib.Core.List.{List, [], _∷_, _++_}
 use Prim.Native.Nat.{ℕ, zero, suc, _+_, _%_, _≤_, _<_}
 use native.Mathlib.Nat.{not-suc-le-zero, le-of-suc-le-suc}
 use native.Mathlib.Omega.{arith}
-use lib.ListN.{length, getD, set, length-set}
+use lib.ListN.{getD, set, length-set}
 use lib.Seq.{getD-set-same, getD-set-other}
 use lib.Dec.{eqb}
 use borrow.Author.Count.{below-more}
 use borrow.Author.Tests.{eqb-true, eq-eqb, ne-eqb, not-true, not-false}
 use Rattle.oat.specs.Basics.{pick, tabulate}
-use Rattle.oat.specs.Tables.{Tables, structAt, builtInAt, nodeAt, fieldAt}
+use Rattle.oat.specs.Tables.{Tables, structAt, builtInAt, nodeAt}
 use Rattle.oat.specs.Types.{Struct, found, typeOf, structOf, structsOf, lookup}
 use Rattle.oat.specs.Decide.{isFormed}
 use Rattle.oat.proofs.LawsSame.{both-true}

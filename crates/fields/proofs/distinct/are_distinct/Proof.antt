@@ -1,6 +1,5 @@
 -- `distinct::are_distinct` meets its contract. The loop keeps: no two of the fields passed have one name, and all their names are
 -- below `above`. Assumes nothing.
-use mathlib.Core.Path.{_≡_}
 use mathlib.Core.Logic.{⊎-elim}
 use Prim.Native.Nat.{_+_, _-_, _≤_}
 use borrow.Author.Needs.{needs}
