@@ -1,4 +1,4 @@
-// Names that are new, and types of fields.
+// Names that are new, how often a name stands among others, and the types of fields.
 use bindings::Chains;
 use bindings::Found;
 use bindings::find;
