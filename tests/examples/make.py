@@ -108,6 +108,9 @@ class Example:
     def null(self, inside):
         return Node(10, "null", t=self.nullable(inside))
 
+    def true(self):
+        return Node(11, "true")
+
     def integer(self, n):
         return Node(13, f"integer {n}", x=n)
 
@@ -163,6 +166,9 @@ class Example:
 
     def loop(self, variables, condition, step, body):
         return Node(37, "for", *variables, condition, step, body)
+
+    def during(self, condition, body):
+        return Node(38, "while", condition, body)
 
     def block(self, *statements):
         return Node(39, "block", *statements)
@@ -413,6 +419,47 @@ def _():
 def _():
     e = Example()
     e.function("f", INT, [], e.give(e.integer(1)), e.give(e.integer(2)))
+    return e
+
+
+@example("endless", """
+    void tend(int floor) {
+      close();
+      while (true) {
+        if (level() < floor) { open(); } else { close(); }
+        wait(5);
+      }
+    }
+    """, """
+    The main loop of a pan, with the built-ins level of type () -> int, open and close of type () -> void and wait of type (int) -> void. A while
+    whose condition is the node true never ends. As the last statement of its block it has the mark 1, so the body's block and the function have
+    the mark 1 too, and no return is due behind the loop.""")
+def _():
+    e = Example()
+    e.built_in("level", e.function_type(INT))
+    e.built_in("open", e.function_type(VOID))
+    e.built_in("close", e.function_type(VOID))
+    e.built_in("wait", e.function_type(VOID, INT))
+    dry = e.binary("<", e.call(e.id("level")), e.id("floor"))
+    e.function(
+        "tend", VOID, [(INT, "floor")],
+        e.do(e.id("close")),
+        e.during(e.true(), e.block(e.when(dry, e.block(e.do(e.id("open"))), e.block(e.do(e.id("close")))), e.do(e.id("wait"), e.integer(5)))))
+    return e
+
+
+@example("endless_not_last", """
+    void tend(bool night) {
+      if (night) { while (true) { } } else { return; }
+      return;
+    }
+    """, """
+    Both blocks of the if return, the first because its last statement is a while that never ends. So the if returns, and nothing may stand behind
+    it. The place is the if. As long as every while could go on, this program was accepted; without its last return it passes now.""")
+def _():
+    e = Example()
+    arms = e.when(e.id("night"), e.block(e.during(e.true(), e.block())), e.block(e.leave()))
+    e.function("tend", VOID, [(BOOL, "night")], arms, e.leave())
     return e
 
 

@@ -1,8 +1,8 @@
 #!/usr/bin/env python3
 """Writes crates/typing_rules/proofs/Cases.antt: small files of the peer's stored vectors as programs of the definitions, each with a theorem
 that antt computes: the program is that of a file, and the answer and rows are the peer's. Files are chosen so that together they have
-every node kind and operator in an accepted program, and every number from 7 to 16 at every kind of place and group of steps that a small
-file of the vectors has.
+every node kind and operator in an accepted program, whiles with either mark by their condition and by whether they are a for's step, and
+every number from 7 to 16 at every kind of place and group of steps that a small file of the vectors has, 14 with and without while(true).
 
     tests/rules/cases.py            write the file
     tests/rules/cases.py ALL FROM TO    write every file of at most ALL nodes from number FROM up to TO instead, to try a definition
@@ -95,7 +95,7 @@ class Trees:
     """The node section as terms of specs/Syntax; `at` is the next node."""
 
     def __init__(self, nodes):
-        self.nodes, self.at = nodes, 0
+        self.nodes, self.at, self.steps = nodes, 0, set()
 
     def take(self):
         self.at += 1
@@ -147,6 +147,10 @@ class Trees:
             return "(indexTarget %s %s)" % (self.expression(), self.expression())
         return "(fieldTarget %d %s)" % (x, self.expression())
 
+    def step(self):
+        self.steps.add(self.at)
+        return self.statement()
+
     def absent(self, constructor, otherwise, read):
         if self.nodes[self.at][0] == 40:
             self.at += 1
@@ -171,7 +175,7 @@ class Trees:
             return "(ifNull %d %d %s %s %s)" % (x, t, self.expression(), self.block(), self.block())
         if kind == 37:
             parts = (self.named(count - 3, "nextVar", "noVar"), self.absent("condition", "noCondition", self.expression),
-                     self.absent("step", "noStep", self.statement), self.block())
+                     self.absent("step", "noStep", self.step), self.block())
             return "(for %s %s %s %s)" % parts
         return "(while %s %s)" % (self.expression(), self.block())
 
@@ -199,7 +203,9 @@ class Case:
         self.number, self.step, self.place = map(int, lines[0].split())
         self.sections = sections(file)
         types, entries, fields, structs, given, nodes = self.sections
-        terms, self.kinds = Trees(nodes).declarations()
+        trees = Trees(nodes)
+        terms, self.kinds = trees.declarations()
+        self.steps = trees.steps
         rows = [word for line in lines[1:] for word in line.split()[1:]]
         self.rows = rows if self.number == 0 else ["65535"] * (2 * len(nodes))
         records = (("types", "ty %d %d %d %d", types), ("list", "%d", entries), ("fields", "fd %d %d", fields), ("structs", "st %d %d %d", structs),
@@ -218,12 +224,18 @@ class Case:
             left -= count
         return 6
 
+    def whiles(self):
+        """Each while: its condition is the node `true`, it is a for's step, its row's result."""
+        nodes = self.sections[5]
+        return {(nodes[n + 1][0] == 11, n in self.steps, self.rows[2 * n]) for n, node in enumerate(nodes) if node[0] == 38}
+
     def features(self):
         nodes = self.sections[5]
         if self.number == 0:
-            return {(k, x if k in (25, 26) else 0) for k, x, _, _ in nodes}
+            return {(k, x if k in (25, 26) else 0) for k, x, _, _ in nodes} | {(38,) + w for w in self.whiles()}
         group = self.group()
-        return {(self.number, group, nodes[self.place][0] if group in (2, 3, 5) else -1)}
+        endless = self.number == 14 and any(w[0] for w in self.whiles())
+        return {(self.number, group, nodes[self.place][0] if group in (2, 3, 5) else -1, endless)}
 
     def text(self, name):
         program = "pub program-%s : Program\nprogram-%s = %s\n" % (name, name, self.program)

@@ -17,24 +17,14 @@ use Rattle.typing_rules.specs.Contexts.{Scope, empty as emptyScope, binds, Hit,
 use Rattle.typing_rules.specs.Labels.{Label}
 use Rattle.typing_rules.specs.Operators.{isEquality, operandType, unaryType}
 use Rattle.typing_rules.specs.Rules.{namesFit}
+use Rattle.typing_rules.specs.Derivations.{isEmpty}
 use Rattle.typing_rules.specs.Judge.{Out, ok, no, andThen, needs, isKind, referred, isBelow, formed, hasDefault, eachBelow, argumentsBelow, named, Number, number, unknown, fieldOf, fieldType, onDeclared, initsBelow, judge, judges, judgeInits, assignsTo, executeVars, judgeCondition, execute, executeStep, executeBlock, executeAll}
 use Rattle.typing_rules.specs.Steps.{Step as CheckStep, structName, builtIn, heading, globalValue, structFields, body, headings, globals, bodies, stepsOf, distinctFields, distinctNames, parameters, emptyContext}
 use Rattle.typing_rules.specs.Check.{isMissing, isMiss, fieldsFormed, runStep, Segment, Ran, accepted, refused, withSegment, onStep, run}
 use Rattle.typing_rules.proofs.Theorem.{runOf, accepted-derives, refused-step}
+use Rattle.typing_rules.proofs.LawsPlaced.{some-node}
 use Rattle.typing_rules.proofs.LawsNumbers.{refused-number}
 use Rattle.demand3.proofs.Theorem.{fits}
-
--- a statement has a node
-some-node : (s : Stmt) → 1 ≤ sizeStmt s
-some-node (assign g a) = omega arith
-some-node (var x a) = omega arith
-some-node (returnValue a) = omega arith
-some-node returnVoid = omega arith
-some-node (callStmt a es) = omega arith
-some-node (ifElse a b c) = omega arith
-some-node (ifNull x t a b c) = omega arith
-some-node (for vs c s b) = omega arith
-some-node (while a b) = omega arith
 
 module _ (most : ℕ) where
   -- o is accepted, or refused at a place below most
@@ -167,24 +157,24 @@ module _ (most : ℕ) where
       mutual
         unfolding execute
 
-        stmt-at : (s : Stmt) (n : ℕ) (Γ : Scope ℕ) → n + sizeStmt s ≤ most → Placed (execute T C rt s n Γ)
-        stmt-at (assign g a) n Γ h =
+        stmt-at : (last : Bool) (s : Stmt) (n : ℕ) (Γ : Scope ℕ) → n + sizeStmt s ≤ most → Placed (execute T C rt last s n Γ)
+        stmt-at last (assign g a) n Γ h =
             let l : n < most = omega arith in
             needs-at (assignsTo C Γ g) 15 l
             (then-at (expr-at (targetExpr g) (n + 1) Γ (omega arith)) λ t L.
             then-at (expr-at a (n + 1 + sizeTarget g) Γ (omega arith)) λ u M.
             needs-at (isBelow T C u t) 11 l ok-at)
-        stmt-at (var x a) n Γ h =
+        stmt-at last (var x a) n Γ h =
             let l : n < most = omega arith in
             then-at (expr-at a (n + 1) Γ (omega arith)) λ t L.
             needs-at (isFresh x Γ) 7 l ok-at
-        stmt-at (returnValue a) n Γ h =
+        stmt-at last (returnValue a) n Γ h =
             let l : n < most = omega arith in
             needs-at (not (isKind T rt 3)) 13 l
             (then-at (expr-at a (n + 1) Γ (omega arith)) λ t L.
             needs-at (isBelow T C t rt) 11 l ok-at)
-        stmt-at returnVoid n Γ h = needs-at (isKind T rt 3) 13 (omega arith) ok-at
-        stmt-at (callStmt a es) n Γ h =
+        stmt-at last returnVoid n Γ h = needs-at (isKind T rt 3) 13 (omega arith) ok-at
+        stmt-at last (callStmt a es) n Γ h =
             let l : n < most = omega arith in
             then-at (expr-at a (n + 1) Γ (omega arith)) λ f L.
             needs-at (isKind T f 6) 10 l
@@ -192,13 +182,13 @@ module _ (most : ℕ) where
             (needs-at (eqb (count es) (typeAt T f .c)) 12 l
             (then-at (exprs-at es (n + 1 + size a) Γ (omega arith)) λ ts M.
             needs-at (argumentsBelow T C ts (typeAt T f .b)) 11 l ok-at)))
-        stmt-at (ifElse a b c) n Γ h =
+        stmt-at last (ifElse a b c) n Γ h =
             then-at (expr-at a (n + 1) Γ (omega arith)) λ t L.
             needs-at (isKind T t 1) 10 (omega arith)
             (then-at (block-at b (n + 1 + size a) Γ (omega arith)) λ p M.
             then-at (block-at c (n + 1 + size a + sizeBlock b) Γ (omega arith)) λ q N.
             ok-at)
-        stmt-at (ifNull x t a b c) n Γ h =
+        stmt-at last (ifNull x t a b c) n Γ h =
             let l : n < most = omega arith in
             then-at (expr-at a (n + 1) Γ (omega arith)) λ u L.
             needs-at (isKind T u 7) 10 l
@@ -206,13 +196,13 @@ module _ (most : ℕ) where
             (then-at (block-at b (n + 1 + size a) (binds Γ x t n) (omega arith)) λ p M.
             then-at (block-at c (n + 1 + size a + sizeBlock b) Γ (omega arith)) λ q N.
             ok-at))
-        stmt-at (for vs c s b) n Γ h =
+        stmt-at last (for vs c s b) n Γ h =
             then-at (vars-at vs (n + 1) Γ (omega arith)) λ Δ L.
             then-at (condition-at c (n + 1 + sizeVars vs) n Δ (omega arith) (omega arith)) λ Δ₁ M.
             then-at (step-at s (n + 1 + sizeVars vs + sizeCondition c) Δ (omega arith)) λ p N.
             then-at (block-at b (n + 1 + sizeVars vs + sizeCondition c + sizeStep s) Δ (omega arith)) λ q O.
             ok-at
-        stmt-at (while a b) n Γ h =
+        stmt-at last (while a b) n Γ h =
             then-at (expr-at a (n + 1) Γ (omega arith)) λ t L.
             needs-at (isKind T t 1) 10 (omega arith)
             (then-at (block-at b (n + 1 + size a) Γ (omega arith)) λ p M.
@@ -221,7 +211,7 @@ module _ (most : ℕ) where
         step-at : (s : Step) (n : ℕ) (Γ : Scope ℕ) → n + sizeStep s ≤ most → Placed (executeStep T C rt s n Γ)
         step-at noStep n Γ h = ok-at
         step-at (step s) n Γ h =
-            then-at (stmt-at s n Γ h) λ d L.
+            then-at (stmt-at false s n Γ h) λ d L.
             needs-at (eqb (d .mark) 0) 14 (omega (arith, some-node s)) ok-at
 
         block-at : (b : Block) (n : ℕ) (Γ : Scope ℕ) → n + sizeBlock b ≤ most → Placed (executeBlock T C rt b n Γ)
@@ -229,12 +219,12 @@ module _ (most : ℕ) where
             then-at (all-at ss (n + 1) n 0 Γ (omega arith) (omega arith)) λ p L.
             ok-at
 
-        -- after the statement at last, or in the block at last
-        all-at : (ss : Stmts) (n last p : ℕ) (Γ : Scope ℕ) → n + sizeStmts ss ≤ most → last < most → Placed (executeAll T C rt ss n last p Γ)
-        all-at empty n last p Γ h l = ok-at
-        all-at (then s ss) n last p Γ h l =
+        -- after the statement at `previous`, or in the block there
+        all-at : (ss : Stmts) (n previous p : ℕ) (Γ : Scope ℕ) → n + sizeStmts ss ≤ most → previous < most → Placed (executeAll T C rt ss n previous p Γ)
+        all-at empty n previous p Γ h l = ok-at
+        all-at (then s ss) n previous p Γ h l =
             needs-at (eqb p 0) 14 l
-            (then-at (stmt-at s n Γ (omega arith)) λ d L.
+            (then-at (stmt-at (isEmpty ss) s n Γ (omega arith)) λ d L.
             then-at (all-at ss (n + sizeStmt s) n (d .mark) (d .scope) (omega arith) (omega (arith, some-node s))) λ q M.
             ok-at)
 

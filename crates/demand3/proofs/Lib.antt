@@ -1,4 +1,5 @@
 pub mod Blank
+pub mod Endless
 pub mod Example
 pub mod Growth
 pub mod LawsPlaces

@@ -64,7 +64,7 @@ module _ {F : List ℕ} {S : Sections} {X R W K : List ℕ} {base n s : ℕ} (g 
     assignment-fixed {r} f e =
         record {
           tells = λ rt. record {
-            tells = on-assign (AnswersStmt F S X R W base rt n s R W K r)
+            tells = λ last. on-assign (AnswersStmt F S X R W base rt last n s R W K r)
                 (λ t a h. stops _ 15 n _ (sym (ev .tells s (g .fine .scoped) t (h .1)) ∙ not-true v f) e) kind;
           };
         }
@@ -79,7 +79,7 @@ module _ {F : List ℕ} {S : Sections} {X R W K : List ℕ} {base n s : ℕ} (g 
       assignment-no u =
           record {
             tells = λ rt. record {
-              tells = on-assign (AnswersStmt F S X R W base rt n s R₁ W₁ K₁ r₁)
+              tells = λ last. on-assign (AnswersStmt F S X R W base rt last n s R₁ W₁ K₁ r₁)
                   (λ t a h. passes _ 15 n _ (allowed t (h .1)) (child-no _ _ u (m₁ .tells (targetExpr t) (h .1)))) kind;
             };
           }
@@ -99,7 +99,7 @@ module _ {F : List ℕ} {S : Sections} {X R W K : List ℕ} {base n s : ℕ} (g 
           assignment-no-2 u =
               record {
                 tells = λ rt. record {
-                  tells = on-assign (AnswersStmt F S X R W base rt n s R₂ W₂ K₂ r₂)
+                  tells = λ last. on-assign (AnswersStmt F S X R W base rt last n s R₂ W₂ K₂ r₂)
                       (λ i a h.
                       passes _ 15 n _ (allowed i (h .1))
                       (child-ok _ _ t y₁ (m₁ .tells (targetExpr i) (h .1)) λ L q p.
@@ -113,7 +113,7 @@ module _ {F : List ℕ} {S : Sections} {X R W K : List ℕ} {base n s : ℕ} (g 
             assignment-type {r} f e =
                 record {
                   tells = λ rt. record {
-                    tells = on-assign (AnswersStmt F S X R W base rt n s R₂ W₂ K₂ r)
+                    tells = λ last. on-assign (AnswersStmt F S X R W base rt last n s R₂ W₂ K₂ r)
                         (λ i a h.
                         passes _ 15 n _ (allowed i (h .1))
                         (child-ok _ _ t y₁ (m₁ .tells (targetExpr i) (h .1)) λ L q p.
@@ -128,7 +128,7 @@ module _ {F : List ℕ} {S : Sections} {X R W K : List ℕ} {base n s : ℕ} (g 
             assignment-ok {r} {R′} f er eR =
                 record {
                   tells = λ rt. record {
-                    tells = on-assign (AnswersStmt F S X R W base rt n s R′ W₂ K₂ r)
+                    tells = λ last. on-assign (AnswersStmt F S X R W base rt last n s R′ W₂ K₂ r)
                         (λ i a h.
                         passes _ 15 n _ (allowed i (h .1))
                         (child-ok _ _ t y₁ (m₁ .tells (targetExpr i) (h .1)) λ L q p.

@@ -41,7 +41,7 @@ module _ {F : List ℕ} {S : Sections} {X R W K : List ℕ} {base n s : ℕ} (g 
     unfolding execute
     call-no u =
         record {
-          tells = λ rt. record { tells = on-call-stmt (AnswersStmt F S X R W base rt n s R₁ W₁ K₁ r₁) (λ a es h. child-no _ _ u (m₁ .tells a (h .1))) kind };
+          tells = λ rt. record { tells = λ last. on-call-stmt (AnswersStmt F S X R W base rt last n s R₁ W₁ K₁ r₁) (λ a es h. child-no _ _ u (m₁ .tells a (h .1))) kind };
         }
 
     module _ {f k₁ : ℕ} (y₁ : r₁ .judgement ≡ Typed f) (e₁ : k₁ ≡ typeAt (tablesOf F S) f .kind) where
@@ -50,7 +50,7 @@ module _ {F : List ℕ} {S : Sections} {X R W K : List ℕ} {base n s : ℕ} (g 
       call-sort {r} z e =
           record {
             tells = λ rt. record {
-              tells = on-call-stmt (AnswersStmt F S X R W base rt n s R₁ W₁ K₁ r)
+              tells = λ last. on-call-stmt (AnswersStmt F S X R W base rt last n s R₁ W₁ K₁ r)
                   (λ a es h. child-ok _ _ f y₁ (m₁ .tells a (h .1)) λ L q p. stops _ 10 n _ (ne-eqb _ _ (λ i. z (e₁ ∙ i))) e) kind;
             };
           }
@@ -71,7 +71,7 @@ module _ {F : List ℕ} {S : Sections} {X R W K : List ℕ} {base n s : ℕ} (g 
           call-value {r} z e =
               record {
                 tells = λ rt. record {
-                  tells = on-call-stmt (AnswersStmt F S X R W base rt n s R₁ W₁ K₁ r)
+                  tells = λ last. on-call-stmt (AnswersStmt F S X R W base rt last n s R₁ W₁ K₁ r)
                       (λ a es h.
                       child-ok _ _ f y₁ (m₁ .tells a (h .1)) λ L q p.
                       passes _ 10 n _ (eq-eqb _ _ (sym e₁ ∙ six))
@@ -85,7 +85,7 @@ module _ {F : List ℕ} {S : Sections} {X R W K : List ℕ} {base n s : ℕ} (g 
             call-count {r} z e =
                 record {
                   tells = λ rt. record {
-                    tells = on-call-stmt (AnswersStmt F S X R W base rt n s R₁ W₁ K₁ r)
+                    tells = λ last. on-call-stmt (AnswersStmt F S X R W base rt last n s R₁ W₁ K₁ r)
                         (λ a es h.
                         child-ok _ _ f y₁ (m₁ .tells a (h .1)) λ L q p.
                         passes _ 10 n _ (eq-eqb _ _ (sym e₁ ∙ six))
@@ -128,7 +128,7 @@ module _ {F : List ℕ} {S : Sections} {X R W K : List ℕ} {base n s : ℕ} (g 
                 call-told {r} {R′} {W′} {K′} go =
                     record {
                       tells = λ rt. record {
-                        tells = on-call-stmt (AnswersStmt F S X R W base rt n s R′ W′ K′ r)
+                        tells = λ last. on-call-stmt (AnswersStmt F S X R W base rt last n s R′ W′ K′ r)
                             (λ a es h.
                             child-ok _ _ f y₁ (m₁ .tells a (h .1)) λ L q p.
                             passes _ 10 n _ (eq-eqb _ _ (sym e₁ ∙ six))

@@ -1,5 +1,6 @@
 -- The loop over the vars of a for: what holds after i of them, and the answers of its returns. Assumes nothing.
 use mathlib.Core.Path.{_≡_, refl, ap, sym, subst, _∙_}
+use mathlib.Core.Bool.{false}
 use mathlib.Core.List.{List, [], _++_, append-nil}
 use Prim.Native.Nat.{ℕ, _+_, _≤_, _<_}
 use native.Mathlib.Omega.{arith}
@@ -32,14 +33,14 @@ use Rattle.simple_statements.proofs.LawsMarks.{after-both}
 -- vars after a first one
 vars-next : (T : Tables) (C : Context ℕ) (rt x : ℕ) (a : Expr) (vs : Vars) (n : ℕ) (Γ : Scope ℕ)
     → executeVars T C (nextVar x a vs) n Γ
-    ≡ andThen (execute T C rt (var x a) n Γ) λ d L. afterRun L (executeVars T C vs (n + 1 + size a) (d .scope))
+    ≡ andThen (execute T C rt false (var x a) n Γ) λ d L. afterRun L (executeVars T C vs (n + 1 + size a) (d .scope))
 unfolding executeVars execute
 vars-next T C rt x a vs n Γ =
     sym (then-needs (judge T C a (n + 1) Γ) (λ t. isFresh x Γ) 7 n (λ t L. ends 0 Γ (binds Γ x t n) L)
     (λ d L. afterRun L (executeVars T C vs (n + 1 + size a) (d .scope))))
 
 -- a var goes on
-var-mark : (T : Tables) (C : Context ℕ) (rt x : ℕ) (a : Expr) (n : ℕ) (Γ : Scope ℕ) (d : Done) (L : List (Label ℕ)) → execute T C rt (var x a) n Γ ≡ ok d L → d .mark ≡ 0
+var-mark : (T : Tables) (C : Context ℕ) (rt x : ℕ) (a : Expr) (n : ℕ) (Γ : Scope ℕ) (d : Done) (L : List (Label ℕ)) → execute T C rt false (var x a) n Γ ≡ ok d L → d .mark ≡ 0
 unfolding execute
 var-mark T C rt x a n Γ d L j =
     then-ok (judge T C a (n + 1) Γ) _ j λ t M i k.
@@ -88,25 +89,25 @@ pub record WalkedVars (F : List ℕ) (S : Sections) (X : List ℕ) (base n s : �
 retell-var : {F : List ℕ} {S : Sections} {X W R₁ W₁ R₂ W₂ K₂ : List ℕ} {base m s h : ℕ} {r : Judged} → Same (entryOf (tablesOf F S) s) W W₁ → base ≤ s
     → ToldAny F S X R₁ W₁ base m h R₂ W₂ K₂ r → (x : ℕ) (a : Expr) → StmtStands (tablesOf F S) m (var x a)
     → Meets (Marking F S X base m (sizeStmt (var x a)) h R₁ W₁ R₂ W₂ K₂ r) r
-    (execute (tablesOf F S) (contextOf (tablesOf F S) W base) 0 (var x a) m (scopeOf (tablesOf F S) W₁ base h))
+    (execute (tablesOf F S) (contextOf (tablesOf F S) W base) 0 false (var x a) m (scopeOf (tablesOf F S) W₁ base h))
 retell-var {F} {S} {X} {W} {R₁} {W₁} {R₂} {W₂} {K₂} {base} {m} {s} {h} {r} e l told x a st =
     subst (λ N. Meets (Marking F S X base m (sizeStmt (var x a)) h R₁ W₁ R₂ W₂ K₂ r) r
-    (execute (tablesOf F S) (record { structs = declared (tablesOf F S); names = N }) 0 (var x a) m (scopeOf (tablesOf F S) W₁ base h)))
-    (names-same (tablesOf F S) s e base l) (told .tells 0 .tells (var x a) st)
+    (execute (tablesOf F S) (record { structs = declared (tablesOf F S); names = N }) 0 false (var x a) m (scopeOf (tablesOf F S) W₁ base h)))
+    (names-same (tablesOf F S) s e base l) (told .tells 0 .tells false (var x a) st)
 
 module _ {F : List ℕ} {S : Sections} {X R W : List ℕ} {base n s left m h i : ℕ} {R₁ W₁ K₁ : List ℕ} {vs : Vars} (p : PrefixVars F S X base n s R W left m h i R₁ W₁ K₁ vs) where
   -- one more var
   part-more : {R₂ W₂ K₂ : List ℕ} {r : Judged} (x : ℕ) (a : Expr) (rs : Vars) → VarsStand (tablesOf F S) m (nextVar x a rs) → countVars (nextVar x a rs) + i ≡ left
       → sizeVars vs ≡ length (p .labels) + sizeVars (nextVar x a rs)
       → varsIn F S W W base s vs n ≡ afterRun (p .labels) (varsIn F S W W₁ base h (nextVar x a rs) m)
-      → (d : Done) (M : List (Label ℕ)) → execute (tablesOf F S) (contextOf (tablesOf F S) W base) 0 (var x a) m (scopeOf (tablesOf F S) W₁ base h) ≡ ok d M
+      → (d : Done) (M : List (Label ℕ)) → execute (tablesOf F S) (contextOf (tablesOf F S) W base) 0 false (var x a) m (scopeOf (tablesOf F S) W₁ base h) ≡ ok d M
       → Marking F S X base m (sizeStmt (var x a)) h R₁ W₁ R₂ W₂ K₂ r d M
       → PrefixVars F S X base n s R W left (r .at .node) (r .at .scope) (i + 1) R₂ W₂ K₂ vs
   part-more {R₂} {W₂} {K₂} {r} x a rs st c z j d M q v =
       let T : Tables = tablesOf F S in
       let C : Context ℕ = contextOf (tablesOf F S) W base in
       let Γ : Scope ℕ = scopeOf (tablesOf F S) W₁ base h in
-      let long : length M ≡ sizeStmt (var x a) = stmt-long T C 0 (var x a) m Γ d M q in
+      let long : length M ≡ sizeStmt (var x a) = stmt-long T C 0 false (var x a) m Γ d M q in
       let both : length (p .labels ++ M) ≡ length (p .labels) + sizeStmt (var x a) = length-append (p .labels) M ∙ ap (λ k. length (p .labels) + k) long in
       let there : m + 1 + size a ≡ r .at .node = omega (arith, v .next) in
       record {
@@ -115,7 +116,7 @@ module _ {F : List ℕ} {S : Sections} {X R W : List ℕ} {base n s left m h i :
         stand = subst (λ k. VarsStand T k rs) there (st .2);
         counted = omega arith;
         reached = omega (arith, v .next, p .reached, both);
-        closed = closed-append (p .closed) (stmt-closed T C 0 (var x a) m Γ d M q);
+        closed = closed-append (p .closed) (stmt-closed T C 0 false (var x a) m Γ d M q);
         sized = omega (arith, z, both);
         low = omega (arith, p .low, v .low);
         high = omega (arith, p .high, v .high, both);

@@ -15,8 +15,10 @@ use Rattle.oat.specs.Nodes.{VarsStand, ConditionStands, StmtStands, StepStands,
 use Rattle.typing_rules.specs.Contexts.{Scope, binds, isFresh, Context}
 use Rattle.typing_rules.specs.Labels.{Result, marks, nothing, Label}
 use Rattle.typing_rules.specs.Rules.{both}
+use Rattle.typing_rules.specs.Derivations.{isEmpty}
 use Rattle.typing_rules.specs.Judge.{ok, markedAs, isKind, referred, isBelow, argumentsBelow, judge, judges, Done, assignsTo, executeVars, judgeCondition, execute, executeStep, executeBlock, executeAll}
 use Rattle.typing_rules.specs.Check.{nextResult}
+use Rattle.typing_rules.proofs.Endless.{while-most}
 use Rattle.typing_rules.proofs.LawsOutcome.{ok-is, then-ok, needs-ok}
 use Rattle.expressions.proofs.LawsLabels.{lastResult, last-append, Closed, closed-append, closed-marked, Run, run-none, run-append, expr-run, list-run}
 use Rattle.expressions.proofs.LawsShape.{stands-within, stands-end, list-end}
@@ -133,8 +135,8 @@ module _ (T : Tables) (C : Context ℕ) where
     mutual
       unfolding execute
 
-      stmt-labels : (s : Stmt) (n : ℕ) (Γ : Scope ℕ) (d : Done) (L : List (Label ℕ)) → execute T C rt s n Γ ≡ ok d L → DoneMarked (sizeStmt s) d L
-      stmt-labels (assign g a) n Γ d L j =
+      stmt-labels : (last : Bool) (s : Stmt) (n : ℕ) (Γ : Scope ℕ) (d : Done) (L : List (Label ℕ)) → execute T C rt last s n Γ ≡ ok d L → DoneMarked (sizeStmt s) d L
+      stmt-labels last (assign g a) n Γ d L j =
           needs-ok (assignsTo C Γ g) _ _ _ j λ q k.
           then-ok (judge T C (targetExpr g) (n + 1) Γ) _ k λ u M i k1.
           then-ok (judge T C a (n + 1 + sizeTarget g) Γ) _ k1 λ v N i1 k2.
@@ -142,19 +144,19 @@ module _ (T : Tables) (C : Context ℕ) where
           ok-is (DoneMarked (sizeStmt (assign g a))) k3
           (marked (omega arith) (omega arith)
           (run-append (expr-run T C (targetExpr g) (n + 1) Γ u M i) (expr-run T C a (n + 1 + sizeTarget g) Γ v N i1)))
-      stmt-labels (var x a) n Γ d L j =
+      stmt-labels last (var x a) n Γ d L j =
           then-ok (judge T C a (n + 1) Γ) _ j λ u M i k1.
           needs-ok (isFresh x Γ) _ _ _ k1 λ q k2.
           ok-is (DoneMarked (sizeStmt (var x a))) k2 (marked refl (omega arith) (expr-run T C a (n + 1) Γ u M i))
-      stmt-labels (returnValue a) n Γ d L j =
+      stmt-labels last (returnValue a) n Γ d L j =
           needs-ok (not (isKind T rt 3)) _ _ _ j λ q k.
           then-ok (judge T C a (n + 1) Γ) _ k λ u M i k1.
           needs-ok (isBelow T C u rt) _ _ _ k1 λ q1 k2.
           ok-is (DoneMarked (sizeStmt (returnValue a))) k2 (marked refl (omega arith) (expr-run T C a (n + 1) Γ u M i))
-      stmt-labels returnVoid n Γ d L j =
+      stmt-labels last returnVoid n Γ d L j =
           needs-ok (isKind T rt 3) _ _ _ j λ q k.
           ok-is (DoneMarked 1) k (marked refl (omega arith) run-none)
-      stmt-labels (callStmt a es) n Γ d L j =
+      stmt-labels last (callStmt a es) n Γ d L j =
           then-ok (judge T C a (n + 1) Γ) _ j λ u M i k1.
           needs-ok (isKind T u 6) _ _ _ k1 λ q1 k2.
           needs-ok (isKind T (referred T u) 3) _ _ _ k2 λ q2 k3.
@@ -164,7 +166,7 @@ module _ (T : Tables) (C : Context ℕ) where
           ok-is (DoneMarked (sizeStmt (callStmt a es))) k6
           (marked (omega arith) (omega arith)
           (run-append (expr-run T C a (n + 1) Γ u M i) (list-run T C es (n + 1 + size a) Γ ts N i1)))
-      stmt-labels (ifElse a b c) n Γ d L j =
+      stmt-labels last (ifElse a b c) n Γ d L j =
           then-ok (judge T C a (n + 1) Γ) _ j λ u M i k1.
           needs-ok (isKind T u 1) _ _ _ k1 λ q1 k2.
           then-ok (executeBlock T C rt b (n + 1 + size a) Γ) _ k2 λ p N i1 k3.
@@ -172,7 +174,7 @@ module _ (T : Tables) (C : Context ℕ) where
           ok-is (DoneMarked (sizeStmt (ifElse a b c))) k4
           (if-marked (expr-run T C a (n + 1) Γ u M i)
           (block-labels b (n + 1 + size a) Γ p N i1) (block-labels c (n + 1 + size a + sizeBlock b) Γ r O i2))
-      stmt-labels (ifNull x t a b c) n Γ d L j =
+      stmt-labels last (ifNull x t a b c) n Γ d L j =
           then-ok (judge T C a (n + 1) Γ) _ j λ u M i k1.
           needs-ok (isKind T u 7) _ _ _ k1 λ q1 k2.
           needs-ok (isBelow T C (referred T u) t) _ _ _ k2 λ q2 k3.
@@ -181,7 +183,7 @@ module _ (T : Tables) (C : Context ℕ) where
           ok-is (DoneMarked (sizeStmt (ifNull x t a b c))) k5
           (if-marked (expr-run T C a (n + 1) Γ u M i)
           (block-labels b (n + 1 + size a) (binds Γ x t n) p N i1) (block-labels c (n + 1 + size a + sizeBlock b) Γ r O i2))
-      stmt-labels (for vs c s b) n Γ d L j =
+      stmt-labels last (for vs c s b) n Γ d L j =
           then-ok (executeVars T C vs (n + 1) Γ) _ j λ Δ M i k1.
           then-ok (judgeCondition T C c (n + 1 + sizeVars vs) n Δ) _ k1 λ E N i1 k2.
           then-ok (executeStep T C rt s (n + 1 + sizeVars vs + sizeCondition c) Δ) _ k2 λ p O i2 k3.
@@ -191,45 +193,45 @@ module _ (T : Tables) (C : Context ℕ) where
           (for-run (vars-labels vs (n + 1) Γ Δ M i) N (condition-long c (n + 1 + sizeVars vs) n Δ E N i1)
           (step-labels s (n + 1 + sizeVars vs + sizeCondition c) Δ p O i2)
           (block-labels b (n + 1 + sizeVars vs + sizeCondition c + sizeStep s) Δ r P i3)))
-      stmt-labels (while a b) n Γ d L j =
+      stmt-labels last (while a b) n Γ d L j =
           then-ok (judge T C a (n + 1) Γ) _ j λ u M i k1.
           needs-ok (isKind T u 1) _ _ _ k1 λ q1 k2.
           then-ok (executeBlock T C rt b (n + 1 + size a) Γ) _ k2 λ p N i1 k3.
           ok-is (DoneMarked (sizeStmt (while a b))) k3
-          (marked (omega arith) (omega arith)
+          (marked (omega arith) (while-most last a)
           (run-append (expr-run T C a (n + 1) Γ u M i) (run-marked (block-labels b (n + 1 + size a) Γ p N i1))))
 
       step-labels : (s : Step) (n : ℕ) (Γ : Scope ℕ) (p : ℕ) (L : List (Label ℕ)) → executeStep T C rt s n Γ ≡ ok p L → Stepping (sizeStep s) L
       step-labels noStep n Γ p L j = ok-is (λ p L. Stepping 1 L) j (record { long = refl; head = λ M. refl })
       step-labels (step s) n Γ p L j =
-          then-ok (execute T C rt s n Γ) _ j λ d M i k.
+          then-ok (execute T C rt false s n Γ) _ j λ d M i k.
           needs-ok (eqb (d .mark) 0) _ _ _ k λ q k1.
-          ok-is (λ p L. Stepping (sizeStmt s) L) k1 (stepping (stmt-labels s n Γ d M i))
+          ok-is (λ p L. Stepping (sizeStmt s) L) k1 (stepping (stmt-labels false s n Γ d M i))
 
       block-labels : (b : Block) (n : ℕ) (Γ : Scope ℕ) (p : ℕ) (L : List (Label ℕ)) → executeBlock T C rt b n Γ ≡ ok p L → Marked (sizeBlock b) p L
       block-labels (block ss) n Γ p L j =
           then-ok (executeAll T C rt ss (n + 1) n 0 Γ) _ j λ r M i k.
           ok-is (Marked (sizeBlock (block ss))) k (block-marked (all-labels ss (n + 1) n 0 Γ r M i))
 
-      all-labels : (ss : Stmts) (n last p : ℕ) (Γ : Scope ℕ) (q : ℕ) (L : List (Label ℕ)) → executeAll T C rt ss n last p Γ ≡ ok q L
+      all-labels : (ss : Stmts) (n previous p : ℕ) (Γ : Scope ℕ) (q : ℕ) (L : List (Label ℕ)) → executeAll T C rt ss n previous p Γ ≡ ok q L
           → Following (sizeStmts ss) p q L
-      all-labels empty n last p Γ q L j = ok-is (λ q L. Following 0 p q L) j (record { run = run-none; mark = λ h. h })
-      all-labels (then s ss) n last p Γ q L j =
+      all-labels empty n previous p Γ q L j = ok-is (λ q L. Following 0 p q L) j (record { run = run-none; mark = λ h. h })
+      all-labels (then s ss) n previous p Γ q L j =
           needs-ok (eqb p 0) _ _ _ j λ z k.
-          then-ok (execute T C rt s n Γ) _ k λ d M i k1.
+          then-ok (execute T C rt (isEmpty ss) s n Γ) _ k λ d M i k1.
           then-ok (executeAll T C rt ss (n + sizeStmt s) n (d .mark) (d .scope)) _ k1 λ u N i1 k2.
           ok-is (λ q L. Following (sizeStmts (then s ss)) p q L) k2
-          (following (stmt-labels s n Γ d M i) (all-labels ss (n + sizeStmt s) n (d .mark) (d .scope) u N i1))
+          (following (stmt-labels (isEmpty ss) s n Γ d M i) (all-labels ss (n + sizeStmt s) n (d .mark) (d .scope) u N i1))
 
     -- a statement
-    pub stmt-long : (s : Stmt) (n : ℕ) (Γ : Scope ℕ) (d : Done) (L : List (Label ℕ)) → execute T C rt s n Γ ≡ ok d L → length L ≡ sizeStmt s
-    stmt-long s n Γ d L j = run-marked (stmt-labels s n Γ d L j) .long
+    pub stmt-long : (last : Bool) (s : Stmt) (n : ℕ) (Γ : Scope ℕ) (d : Done) (L : List (Label ℕ)) → execute T C rt last s n Γ ≡ ok d L → length L ≡ sizeStmt s
+    stmt-long last s n Γ d L j = run-marked (stmt-labels last s n Γ d L j) .long
 
-    pub stmt-closed : (s : Stmt) (n : ℕ) (Γ : Scope ℕ) (d : Done) (L : List (Label ℕ)) → execute T C rt s n Γ ≡ ok d L → Closed L
-    stmt-closed s n Γ d L j = run-marked (stmt-labels s n Γ d L j) .closed
+    pub stmt-closed : (last : Bool) (s : Stmt) (n : ℕ) (Γ : Scope ℕ) (d : Done) (L : List (Label ℕ)) → execute T C rt last s n Γ ≡ ok d L → Closed L
+    stmt-closed last s n Γ d L j = run-marked (stmt-labels last s n Γ d L j) .closed
 
-    pub stmt-mark : (s : Stmt) (n : ℕ) (Γ : Scope ℕ) (d : Done) (L : List (Label ℕ)) → execute T C rt s n Γ ≡ ok d L → d .mark ≤ 1
-    stmt-mark s n Γ d L j = mark-marked (stmt-labels s n Γ d L j)
+    pub stmt-mark : (last : Bool) (s : Stmt) (n : ℕ) (Γ : Scope ℕ) (d : Done) (L : List (Label ℕ)) → execute T C rt last s n Γ ≡ ok d L → d .mark ≤ 1
+    stmt-mark last s n Γ d L j = mark-marked (stmt-labels last s n Γ d L j)
 
     -- the step of a for
     pub step-long : (s : Step) (n : ℕ) (Γ : Scope ℕ) (p : ℕ) (L : List (Label ℕ)) → executeStep T C rt s n Γ ≡ ok p L → length L ≡ sizeStep s
@@ -253,8 +255,8 @@ module _ (T : Tables) (C : Context ℕ) where
         → (M : List (Label ℕ)) → nextResult (L ++ M) ≡ 0
     block-head b n Γ p L j M = head-marked (block-labels b n Γ p L j) M
 
-    pub all-mark : (ss : Stmts) (n last p : ℕ) (Γ : Scope ℕ) (q : ℕ) (L : List (Label ℕ)) → executeAll T C rt ss n last p Γ ≡ ok q L → p ≤ 1 → q ≤ 1
-    all-mark ss n last p Γ q L j h = all-labels ss n last p Γ q L j .mark h
+    pub all-mark : (ss : Stmts) (n previous p : ℕ) (Γ : Scope ℕ) (q : ℕ) (L : List (Label ℕ)) → executeAll T C rt ss n previous p Γ ≡ ok q L → p ≤ 1 → q ≤ 1
+    all-mark ss n previous p Γ q L j h = all-labels ss n previous p Γ q L j .mark h
 
 -- the kind of a statement
 abbrev kindOf : Stmt → ℕ

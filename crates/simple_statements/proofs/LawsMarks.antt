@@ -1,14 +1,21 @@
--- One part of a statement after another, a statement's own row over its children's, and the answer to an accepted statement. Assumes
--- nothing.
+-- The mark of a while, one part of a statement after another, a statement's own row over its children's, and the answer to an accepted
+-- statement. Assumes nothing.
 use mathlib.Core.Path.{_≡_, refl, ap, sym, subst, _∙_}
+use mathlib.Core.Bool.{Bool, true, false, not, _&&_}
 use mathlib.Core.List.{List, _∷_, _++_}
 use Prim.Native.Nat.{ℕ, _+_, _*_, _≤_, _<_}
 use native.Mathlib.Omega.{arith}
 use lib.ListN.{length}
-use borrow.Author.Tests.{eq-eqb, ne-eqb}
+use lib.Dec.{eqb}
+use borrow.Author.Tests.{eq-eqb, ne-eqb, not-true, not-false}
+use Rattle.oat.specs.Basics.{pick}
+use Rattle.oat.specs.Tables.{Tables, nodeAt}
+use Rattle.oat.specs.Syntax.{truth, falsity, integer, text, Expr, null, literal, name, arrayLiteral, defaultArray, arrayWith, index, lengthOf, structLiteral, field, call, unary, binary}
+use Rattle.oat.specs.Nodes.{Stands}
 use Rattle.file_sections.proofs.LawsFrames.{same-trans}
 use Rattle.typing_rules.specs.Contexts.{Scope}
 use Rattle.typing_rules.specs.Labels.{Label, marks, nothing}
+use Rattle.typing_rules.specs.Rules.{isTrue}
 use Rattle.typing_rules.specs.Judge.{markedAs, done}
 use Rattle.typing_rules.specs.Check.{nextResult}
 use Rattle.file_sections.specs.declared.Sections.{Sections}
@@ -23,7 +30,7 @@ use Rattle.answers.specs.Answers.{withRow, AnswerIs}
 use Rattle.expressions.specs.Contract.{Fine, RowsAt, After}
 use Rattle.expressions.proofs.LawsAfter.{rows-kept, row-length, row-other, row-result, row-binder, fine-rows}
 use Rattle.expressions.proofs.LawsLabels.{lastResult, Closed, rows-join}
-use Rattle.simple_statements.specs.Contract.{marked, Marking}
+use Rattle.simple_statements.specs.Contract.{marked, MarksWhile, Marking}
 
 -- the judgement of a mark, and an answer with it
 pub returns-marked : (p : ℕ) → p ≡ 1 → Returns ≡ marked p
@@ -37,6 +44,47 @@ answer-is a e = ap (λ x. record { judgement = x; at = a }) e
 
 pub judged-as : {i j : Judgement} {n s : ℕ} {r : Judged} → i ≡ j → AnswerIs i n s r → AnswerIs j n s r
 judged-as {n = n} {s = s} {r = r} e a = subst (λ x. AnswerIs x n s r) e a
+
+-- the node `true`, by its kind
+true-kind : (T : Tables) (n : ℕ) (a : Expr) → Stands T n a → isTrue a ≡ eqb (nodeAt T n .kind) 11
+true-kind T n (literal truth) h = ap (λ k. eqb k 11) (sym (h .kind-is))
+true-kind T n (literal falsity) h = ap (λ k. eqb k 11) (sym (h .kind-is))
+true-kind T n (literal (integer x)) h = ap (λ k. eqb k 11) (sym (h .kind-is))
+true-kind T n (literal (text x)) h = ap (λ k. eqb k 11) (sym (h .kind-is))
+true-kind T n (null t) h = ap (λ k. eqb k 11) (sym (h .0 .kind-is))
+true-kind T n (name x) h = ap (λ k. eqb k 11) (sym (h .kind-is))
+true-kind T n (arrayLiteral t es) h = ap (λ k. eqb k 11) (sym (h .0 .kind-is))
+true-kind T n (defaultArray t a) h = ap (λ k. eqb k 11) (sym (h .0 .kind-is))
+true-kind T n (arrayWith t x a b) h = ap (λ k. eqb k 11) (sym (h .0 .kind-is))
+true-kind T n (index a b) h = ap (λ k. eqb k 11) (sym (h .0 .kind-is))
+true-kind T n (lengthOf a) h = ap (λ k. eqb k 11) (sym (h .0 .kind-is))
+true-kind T n (structLiteral t is) h = ap (λ k. eqb k 11) (sym (h .0 .kind-is))
+true-kind T n (field x a) h = ap (λ k. eqb k 11) (sym (h .0 .kind-is))
+true-kind T n (call a es) h = ap (λ k. eqb k 11) (sym (h .0 .kind-is))
+true-kind T n (unary x a) h = ap (λ k. eqb k 11) (sym (h .0 .kind-is))
+true-kind T n (binary x a b) h = ap (λ k. eqb k 11) (sym (h .0 .kind-is))
+
+-- the mark of a while that is not the last of its block, or whose condition is another node, or that is the last and never ends
+module _ {F : List ℕ} {S : Sections} {n : ℕ} {last : Bool} where
+  pub marks-inner : not last ≡ true → MarksWhile F S n last 0
+  marks-inner e = record { tells = λ a h. ap (λ b. pick (b && isTrue a) 1 0) (sym (not-true last e)) }
+
+  module _ {k : ℕ} (ek : k ≡ nodeAt (tablesOf F S) n .kind) where
+    pub marks-other : (k ≡ 11 → ⊥) → MarksWhile F S n last 0
+    marks-other f =
+        record {
+          tells = λ a h. go last ∙ ap (λ b. pick (last && b) 1 0) (sym (true-kind (tablesOf F S) n a h ∙ ne-eqb _ _ (λ e. f (ek ∙ e))));
+        }
+      where
+        go : (b : Bool) → _≡_ {A = ℕ} 0 (pick (b && false) 1 0)
+        go true = refl
+        go false = refl
+
+    pub marks-endless : not last ≡ false → k ≡ 11 → MarksWhile F S n last 1
+    marks-endless e t =
+        record {
+          tells = λ a h. ap (λ b. pick (b && true) 1 0) (sym (not-false last e)) ∙ ap (λ b. pick (last && b) 1 0) (sym (true-kind (tablesOf F S) n a h ∙ eq-eqb _ _ (sym ek ∙ t)));
+        }
 
 -- one part after another; the first leaves a scope of the height h, the second one of the height i
 module _ {F : List ℕ} {S : Sections} {X : List ℕ} {base : ℕ} {L M : List (Label ℕ)} {n k j s h i : ℕ} {R W R₁ W₁ K₁ R₂ W₂ K₂ : List ℕ} where

@@ -19,7 +19,7 @@ use Rattle.answers.specs.Answers.{withRow, AnswerIs}
 use Rattle.expressions.specs.Contract.{accepts, Ready, Told}
 use Rattle.expressions.proofs.LawsMeets.{Untyped, stops, passes, child-no, child-ok}
 use Rattle.expressions.proofs.LawsAfter.{ready, after-none}
-use Rattle.simple_statements.specs.Contract.{marked, ReadyStmt, AnswersStmt, ToldStmt}
+use Rattle.simple_statements.specs.Contract.{marked, ReadyStmt, AnswersStmt, ToldAnywhere}
 use Rattle.simple_statements.proofs.LawsLabels.{on-return-value, on-return-void}
 use Rattle.simple_statements.proofs.LawsMarks.{rule-left}
 
@@ -31,28 +31,28 @@ module _ {F : List ℕ} {S : Sections} {X R W K : List ℕ} {base n s : ℕ} (g 
       (g .tree) (g .stands) (g .room)
 
   module _ {rt k : ℕ} (ek : k ≡ typeAt (tablesOf F S) rt .kind) where
-    pub value-void : {r : Judged} → k ≡ 3 → r .judgement ≡ Refused 13 n → ToldStmt F S X R W base rt n s R W K r
+    pub value-void : {r : Judged} → k ≡ 3 → r .judgement ≡ Refused 13 n → ToldAnywhere F S X R W base rt n s R W K r
     unfolding execute
     value-void {r} three e =
         record {
-          tells = on-return-value (AnswersStmt F S X R W base rt n s R W K r) (λ a h. stops _ 13 n _ (ap not (eq-eqb _ _ (sym ek ∙ three))) e) kind;
+          tells = λ last. on-return-value (AnswersStmt F S X R W base rt last n s R W K r) (λ a h. stops _ 13 n _ (ap not (eq-eqb _ _ (sym ek ∙ three))) e) kind;
         }
 
     module _ (value : k ≡ 3 → ⊥) {R₁ W₁ K₁ : List ℕ} {r₁ : Judged} (m₁ : Told F S X R W base (n + 1) s R₁ W₁ K₁ r₁) where
-      pub value-no : Untyped r₁ → ToldStmt F S X R W base rt n s R₁ W₁ K₁ r₁
+      pub value-no : Untyped r₁ → ToldAnywhere F S X R W base rt n s R₁ W₁ K₁ r₁
       unfolding execute
       value-no u =
           record {
-            tells = on-return-value (AnswersStmt F S X R W base rt n s R₁ W₁ K₁ r₁)
+            tells = λ last. on-return-value (AnswersStmt F S X R W base rt last n s R₁ W₁ K₁ r₁)
                 (λ a h. passes _ 13 n _ (ap not (ne-eqb _ _ (λ i. value (ek ∙ i)))) (child-no _ _ u (m₁ .tells a (h .1)))) kind;
           }
 
       module _ {t : ℕ} (y₁ : r₁ .judgement ≡ Typed t) {d : Bool} (ed : d ≡ below (declared (tablesOf F S)) (typeOf (tablesOf F S) t) (typeOf (tablesOf F S) rt)) where
-        pub value-type : {r : Judged} → not d ≡ true → r .judgement ≡ Refused 11 n → ToldStmt F S X R W base rt n s R₁ W₁ K₁ r
+        pub value-type : {r : Judged} → not d ≡ true → r .judgement ≡ Refused 11 n → ToldAnywhere F S X R W base rt n s R₁ W₁ K₁ r
         unfolding execute
         value-type {r} f e =
             record {
-              tells = on-return-value (AnswersStmt F S X R W base rt n s R₁ W₁ K₁ r)
+              tells = λ last. on-return-value (AnswersStmt F S X R W base rt last n s R₁ W₁ K₁ r)
                   (λ a h.
                   passes _ 13 n _ (ap not (ne-eqb _ _ (λ i. value (ek ∙ i))))
                   (child-ok _ _ t y₁ (m₁ .tells a (h .1)) λ L q p.
@@ -60,11 +60,11 @@ module _ {F : List ℕ} {S : Sections} {X R W K : List ℕ} {base n s : ℕ} (g 
             }
 
         pub value-ok : {r : Judged} {R′ : List ℕ} → not d ≡ false → AnswerIs (marked 1) (r₁ .at .node) s r → R′ ≡ withRow R₁ n 1 65535
-            → ToldStmt F S X R W base rt n s R′ W₁ K₁ r
+            → ToldAnywhere F S X R W base rt n s R′ W₁ K₁ r
         unfolding execute
         value-ok {r} {R′} f er eR =
             record {
-              tells = on-return-value (AnswersStmt F S X R W base rt n s R′ W₁ K₁ r)
+              tells = λ last. on-return-value (AnswersStmt F S X R W base rt last n s R′ W₁ K₁ r)
                   (λ a h.
                   passes _ 13 n _ (ap not (ne-eqb _ _ (λ i. value (ek ∙ i))))
                   (child-ok _ _ t y₁ (m₁ .tells a (h .1)) λ L q p.
@@ -75,17 +75,17 @@ module _ {F : List ℕ} {S : Sections} {X R W K : List ℕ} {base n s : ℕ} (g 
 -- without
 module _ {F : List ℕ} {S : Sections} {X R W K : List ℕ} {base n s : ℕ} (g : ReadyStmt F S X R W K base n s) (kind : nodeAt (tablesOf F S) n .kind ≡ 33)
     {rt k : ℕ} (ek : k ≡ typeAt (tablesOf F S) rt .kind) where
-  pub void-no : {r : Judged} → (k ≡ 3 → ⊥) → r .judgement ≡ Refused 13 n → ToldStmt F S X R W base rt n s R W K r
+  pub void-no : {r : Judged} → (k ≡ 3 → ⊥) → r .judgement ≡ Refused 13 n → ToldAnywhere F S X R W base rt n s R W K r
   unfolding execute
   void-no {r} f e =
-      record { tells = on-return-void (AnswersStmt F S X R W base rt n s R W K r) (λ h. stops _ 13 n _ (ne-eqb _ _ (λ i. f (ek ∙ i))) e) kind }
+      record { tells = λ last. on-return-void (AnswersStmt F S X R W base rt last n s R W K r) (λ h. stops _ 13 n _ (ne-eqb _ _ (λ i. f (ek ∙ i))) e) kind }
 
   pub void-ok : {r : Judged} {R′ : List ℕ} → k ≡ 3 → AnswerIs (marked 1) (n + 1) s r → R′ ≡ withRow R n 1 65535
-      → ToldStmt F S X R W base rt n s R′ W K r
+      → ToldAnywhere F S X R W base rt n s R′ W K r
   unfolding execute
   void-ok {r} {R′} three er eR =
       record {
-        tells = on-return-void (AnswersStmt F S X R W base rt n s R′ W K r)
+        tells = λ last. on-return-void (AnswersStmt F S X R W base rt last n s R′ W K r)
             (λ h.
             passes _ 13 n _ (eq-eqb _ _ (sym ek ∙ three))
             (accepts _ _ (rule-left (g .within) (after-none (n + 1) (g .fine)) er (omega arith) refl eR))) kind;

@@ -57,7 +57,7 @@ module _ {F : List ℕ} {S : Sections} {X R W K : List ℕ} {base n s : ℕ} (g 
     variable-no u =
         record {
           tells = λ rt. record {
-            tells = on-var (AnswersStmt F S X R W base rt n s R₁ W₁ K₁ r₁) (λ x a h. child-no _ _ u (m₁ .tells a (h .1))) kind;
+            tells = λ last. on-var (AnswersStmt F S X R W base rt last n s R₁ W₁ K₁ r₁) (λ x a h. child-no _ _ u (m₁ .tells a (h .1))) kind;
           };
         }
 
@@ -91,7 +91,7 @@ module _ {F : List ℕ} {S : Sections} {X R W K : List ℕ} {base n s : ℕ} (g 
         variable-taken {r} f e =
             record {
               tells = λ rt. record {
-                tells = on-var (AnswersStmt F S X R W base rt n s R₁ W₁ K₁ r)
+                tells = λ last. on-var (AnswersStmt F S X R W base rt last n s R₁ W₁ K₁ r)
                     (λ x a h.
                     child-ok _ _ t y₁ (m₁ .tells a (h .1)) λ L q p.
                     stops _ 7 n _ (fresh-is x (h .0 .x-is) (p .after .same) ∙ not-true _ f) e) kind;
@@ -104,7 +104,7 @@ module _ {F : List ℕ} {S : Sections} {X R W K : List ℕ} {base n s : ℕ} (g 
         variable-ok {W₂} {K₂} {R′} {r} f b er eR =
             record {
               tells = λ rt. record {
-                tells = on-var (AnswersStmt F S X R W base rt n s R′ W₂ K₂ r)
+                tells = λ last. on-var (AnswersStmt F S X R W base rt last n s R′ W₂ K₂ r)
                     (λ x a h.
                     child-ok _ _ t y₁ (m₁ .tells a (h .1)) λ L q p.
                     passes _ 7 n _ (fresh-is x (h .0 .x-is) (p .after .same) ∙ not-false _ f)

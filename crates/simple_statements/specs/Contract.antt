@@ -6,10 +6,11 @@ use mathlib.Core.List.{List}
 use Prim.Native.Nat.{ℕ, _+_, _≤_, _<_}
 use lib.Dec.{eqb}
 use Rattle.oat.specs.Basics.{pick}
-use Rattle.oat.specs.Syntax.{Target, targetExpr, Vars, Condition, Stmt, sizeVars, sizeCondition, sizeStmt, countVars}
+use Rattle.oat.specs.Syntax.{Expr, Target, targetExpr, Vars, Condition, Stmt, sizeVars, sizeCondition, sizeStmt, countVars}
 use Rattle.oat.specs.Nodes.{Stands, VarsStand, ConditionStands, StmtStands}
 use Rattle.typing_rules.specs.Contexts.{Scope}
 use Rattle.typing_rules.specs.Labels.{Label}
+use Rattle.typing_rules.specs.Rules.{whileMark}
 use Rattle.typing_rules.specs.Judge.{Done, assignsTo, executeVars, judgeCondition, execute}
 use Rattle.file_sections.specs.declared.Sections.{Sections}
 use Rattle.file_sections.specs.Layout.{tablesOf}
@@ -28,6 +29,10 @@ markOf (Refused p q) = 0
 
 abbrev pub marked : ℕ → Judgement
 marked p = pick (eqb p 1) Returns GoesOn
+
+-- r is the mark of a while whose condition stands at n; `last` says whether the while is the last of its block
+pub record MarksWhile (F : List ℕ) (S : Sections) (n : ℕ) (last : Bool) (r : ℕ) : Type 0 where
+  pub tells : (a : Expr) → Stands (tablesOf F S) n a → r ≡ whileMark last a
 
 -- the answer to an accepted statement, with its mark and the scope after it
 pub record Marking (F : List ℕ) (S : Sections) (X : List ℕ) (base n k s : ℕ) (R W R′ W′ K′ : List ℕ) (r : Judged) (d : Done) (L : List (Label ℕ)) : Type 0 where
@@ -55,18 +60,22 @@ pub record ReadyStmt (F : List ℕ) (S : Sections) (X R W K : List ℕ) (base n 
   pub stands : StmtStands (tablesOf F S) n tree
   pub room : s + sizeStmt tree ≤ S .«built_ins» + S .nodes
 
--- r answers the statement z at n as the definition has it
-abbrev pub AnswersStmt : List ℕ → Sections → (X R W : List ℕ) → (base rt n s : ℕ) → (R′ W′ K′ : List ℕ) → Judged → Stmt → Type 0
-AnswersStmt F S X R W base rt n s R′ W′ K′ r z =
+-- r answers the statement z at n as the definition has it; `last` says whether z is the last of its block
+abbrev pub AnswersStmt : List ℕ → Sections → (X R W : List ℕ) → (base rt : ℕ) → (last : Bool) → (n s : ℕ) → (R′ W′ K′ : List ℕ) → Judged → Stmt → Type 0
+AnswersStmt F S X R W base rt last n s R′ W′ K′ r z =
     Meets (Marking F S X base n (sizeStmt z) s R W R′ W′ K′ r) r
-    (execute (tablesOf F S) (contextOf (tablesOf F S) W base) rt z n (scopeOf (tablesOf F S) W base s))
+    (execute (tablesOf F S) (contextOf (tablesOf F S) W base) rt last z n (scopeOf (tablesOf F S) W base s))
 
--- every statement that stands at n is answered so; of some kinds, whatever the return type is
-pub record ToldStmt (F : List ℕ) (S : Sections) (X R W : List ℕ) (base rt n s : ℕ) (R′ W′ K′ : List ℕ) (r : Judged) : Type 0 where
-  pub tells : (z : Stmt) → StmtStands (tablesOf F S) n z → AnswersStmt F S X R W base rt n s R′ W′ K′ r z
+-- every statement that stands at n is answered so; of all kinds but one, whether or not it is the last of its block; of some kinds,
+-- whatever the return type is too
+pub record ToldStmt (F : List ℕ) (S : Sections) (X R W : List ℕ) (base rt : ℕ) (last : Bool) (n s : ℕ) (R′ W′ K′ : List ℕ) (r : Judged) : Type 0 where
+  pub tells : (z : Stmt) → StmtStands (tablesOf F S) n z → AnswersStmt F S X R W base rt last n s R′ W′ K′ r z
+
+pub record ToldAnywhere (F : List ℕ) (S : Sections) (X R W : List ℕ) (base rt n s : ℕ) (R′ W′ K′ : List ℕ) (r : Judged) : Type 0 where
+  pub tells : (last : Bool) (z : Stmt) → StmtStands (tablesOf F S) n z → AnswersStmt F S X R W base rt last n s R′ W′ K′ r z
 
 pub record ToldAny (F : List ℕ) (S : Sections) (X R W : List ℕ) (base n s : ℕ) (R′ W′ K′ : List ℕ) (r : Judged) : Type 0 where
-  pub tells : (rt : ℕ) → ToldStmt F S X R W base rt n s R′ W′ K′ r
+  pub tells : (rt : ℕ) → ToldAnywhere F S X R W base rt n s R′ W′ K′ r
 
 -- the first `left` vars of a for stand at n
 pub record ReadyVars (F : List ℕ) (S : Sections) (X R W K : List ℕ) (base n s left : ℕ) : Type 0 where

@@ -3,11 +3,14 @@ use answers::answer::At;
 use answers::answer::Judged;
 use answers::answer::Judgement;
 use answers::answer::row;
+use file_sections::Sections;
+use file_sections::records::node_kind;
 ghost use mathlib.Core.Path.{_≡_};
 ghost use Prim.Native.Nat.{_+_, _*_, _≤_, _<_};
 ghost use lib.ListN.{length};
+ghost use Rattle.file_sections.specs.Layout.{Has};
 ghost use Rattle.answers.specs.Answers.{withRow};
-ghost use Rattle.simple_statements.specs.Contract.{markOf, marked};
+ghost use Rattle.simple_statements.specs.Contract.{markOf, marked, MarksWhile};
 
 // 1 where it returns, else 0.
 pub fn mark_of(judgement: Judgement) -> usize
@@ -19,6 +22,20 @@ pub fn mark_of(judgement: Judgement) -> usize
         Judgement::Returns => 1,
         Judgement::Refused(_, _) => 0,
     }
+}
+
+// The mark of a while whose condition stands at `test`: 1 where it is the last of its block and its condition is the node `true`.
+pub fn while_mark(file: &[u8], sections: Sections, test: usize, last: bool) -> usize
+    requires { ⌜ Has (now file) sections test (sections .nodes) ⌝ }
+    ensures { λ r. ⌜ MarksWhile (now (file .entry)) sections test last r × (r ≤ 1) ⌝ }
+{
+    if !last {
+        return 0;
+    }
+    if node_kind(file, sections, test) != 11 {
+        return 0;
+    }
+    1
 }
 
 // The judgement of a mark.

@@ -27,7 +27,7 @@ ghost use Prim.Native.Nat.{_+_, _*_, _<_};
 ghost use Rattle.oat.specs.Tables.{nodeAt};
 ghost use Rattle.file_sections.specs.Layout.{tablesOf};
 ghost use Rattle.bindings.specs.Bindings.{SomeFrom};
-ghost use Rattle.simple_statements.specs.Contract.{ReadyStmt, ToldStmt, ToldAny, ReadyVars, ToldVars, ReadyCondition, ToldCondition, Assigns};
+ghost use Rattle.simple_statements.specs.Contract.{ReadyStmt, ToldAnywhere, ToldAny, ReadyVars, ToldVars, ReadyCondition, ToldCondition, Assigns};
 
 // The left side at `node` is not the name of a function or of a built-in, or a local hides it.
 fn assigns(
@@ -252,7 +252,7 @@ pub fn return_value(
 ) -> Judged
     requires { ⌜ ReadyStmt (now file) (frame .sections) (now index) (now rows) (now work) (now chains) (frame .base) (at .node) (at .scope) × ((frame .result) < (frame .sections) .types) ⌝ }
     requires { ⌜ nodeAt (tablesOf (now file) (frame .sections)) (at .node) .kind ≡ 32 ⌝ }
-    ensures { λ r. ⌜ ToldStmt (now (file .entry)) (frame .sections) (now (index .entry)) (now (rows .entry)) (now (work .entry)) (frame .base) (frame .result) (at .node) (at .scope) (now (rows .exit)) (now (work .exit)) (now (chains .exit)) r ⌝ }
+    ensures { λ r. ⌜ ToldAnywhere (now (file .entry)) (frame .sections) (now (index .entry)) (now (rows .entry)) (now (work .entry)) (frame .base) (frame .result) (at .node) (at .scope) (now (rows .exit)) (now (work .exit)) (now (chains .exit)) r ⌝ }
 {
     if type_kind(file, frame.sections, frame.result) == 3 {
         return refused(13, at.node, at);
@@ -299,7 +299,7 @@ pub fn return_void(
 ) -> Judged
     requires { ⌜ ReadyStmt (now file) (frame .sections) (now index) (now rows) (now work) (now chains) (frame .base) (at .node) (at .scope) × ((frame .result) < (frame .sections) .types) ⌝ }
     requires { ⌜ nodeAt (tablesOf (now file) (frame .sections)) (at .node) .kind ≡ 33 ⌝ }
-    ensures { λ r. ⌜ ToldStmt (now (file .entry)) (frame .sections) (now (index .entry)) (now (rows .entry)) (now (work .entry)) (frame .base) (frame .result) (at .node) (at .scope) (now (rows .exit)) (now (work .exit)) (now (chains .exit)) r ⌝ }
+    ensures { λ r. ⌜ ToldAnywhere (now (file .entry)) (frame .sections) (now (index .entry)) (now (rows .entry)) (now (work .entry)) (frame .base) (frame .result) (at .node) (at .scope) (now (rows .exit)) (now (work .exit)) (now (chains .exit)) r ⌝ }
 {
     if type_kind(file, frame.sections, frame.result) != 3 {
         return refused(13, at.node, at);

@@ -23,7 +23,7 @@ use Rattle.answers.specs.declared.answer.Judged.{Judged}
 use Rattle.answers.specs.Answers.{withRow, AnswerIs}
 use Rattle.expressions.specs.Contract.{contextOf, Fine, After, Meets, accepts, Listing}
 use Rattle.expressions.proofs.LawsMeets.{Unlisted, Unrefused, goes-unrefused, hands-up, goes-on, part-of}
-use Rattle.simple_statements.specs.Contract.{marked, Declaring, AnswersStmt, ReadyStmt, ToldStmt, ReadyVars, ToldVars, ReadyCondition, ToldCondition}
+use Rattle.simple_statements.specs.Contract.{marked, Declaring, AnswersStmt, ReadyStmt, ToldAnywhere, ReadyVars, ToldVars, ReadyCondition, ToldCondition}
 use Rattle.simple_statements.proofs.LawsLabels.{on-for, vars-long, vars-closed, condition-long, step-head, condition-within, step-within}
 use Rattle.simple_statements.proofs.LawsMarks.{after-both, mark-fits, rule-left}
 use Rattle.statements.specs.Contract.{Blocking, turnOf, ReadyTurn, ToldTurn}
@@ -62,11 +62,11 @@ module _ {F : List ℕ} {S : Sections} {X R W K : List ℕ} {base n s : ℕ} (g 
       (g .tree) (g .stands) (g .room)
 
   module _ {R₁ W₁ K₁ : List ℕ} {r₁ : Judged} (m₁ : ToldVars F S X R W base (n + 1) s (c - 3) R₁ W₁ K₁ r₁) where
-    pub for-no : {rt : ℕ} → Unlisted r₁ → ToldStmt F S X R W base rt n s R₁ W₁ K₁ r₁
+    pub for-no : {rt : ℕ} → Unlisted r₁ → ToldAnywhere F S X R W base rt n s R₁ W₁ K₁ r₁
     unfolding execute
     for-no {rt} u =
         record {
-          tells = on-for (AnswersStmt F S X R W base rt n s R₁ W₁ K₁ r₁)
+          tells = λ last. on-for (AnswersStmt F S X R W base rt last n s R₁ W₁ K₁ r₁)
               (λ vs q z b h. hands-up _ _ (λ Δ L e p. u .never (p .goes-on)) (m₁ .tells vs (h .1) (counts vs (h .0)))) kind;
         }
 
@@ -103,11 +103,11 @@ module _ {F : List ℕ} {S : Sections} {X R W K : List ℕ} {base n s : ℕ} (g 
             (λ C Γ. Meets (Listing F S X base (m + k) (sizeCondition q) h R₁ W₁ R₂ W₂ K₂ r₂) r₂ (judgeCondition (tablesOf F S) C q (m + k) n Γ))
             (subst (λ j. ToldCondition F S X R₁ W₁ base j h n R₂ W₂ K₂ r₂) (p .next) m₂ .tells q i)
 
-        pub for-no-2 : {rt : ℕ} → Unlisted r₂ → ToldStmt F S X R W base rt n s R₂ W₂ K₂ r₂
+        pub for-no-2 : {rt : ℕ} → Unlisted r₂ → ToldAnywhere F S X R W base rt n s R₂ W₂ K₂ r₂
         unfolding execute
         for-no-2 {rt} u =
             record {
-              tells = on-for (AnswersStmt F S X R W base rt n s R₂ W₂ K₂ r₂)
+              tells = λ last. on-for (AnswersStmt F S X R W base rt last n s R₂ W₂ K₂ r₂)
                   (λ vs q z b i.
                   goes-on _ _ (goes-unrefused y₁) (m₁ .tells vs (i .1) (counts vs (i .0))) λ Δ L e p.
                   hands-up _ _ (λ Δ₁ M e₂ p₂. u .never (p₂ .goes-on)) (condition-met p q (i .2))) kind;
@@ -150,11 +150,11 @@ module _ {F : List ℕ} {S : Sections} {X R W K : List ℕ} {base n s : ℕ} (g 
                 (turnOf (tablesOf F S) C rt z b (m + k + j) Γ))
                 (subst (λ v. ToldTurn F S X R₂ W₂ base rt v h R₃ W₃ K₃ r₃) (p₂ .next) m₃ .tells z b i i₂)
 
-            pub for-no-3 : {p q : ℕ} → r₃ .judgement ≡ Refused p q → ToldStmt F S X R W base rt n s R₃ W₃ K₃ r₃
+            pub for-no-3 : {p q : ℕ} → r₃ .judgement ≡ Refused p q → ToldAnywhere F S X R W base rt n s R₃ W₃ K₃ r₃
             unfolding execute
             for-no-3 f =
                 record {
-                  tells = on-for (AnswersStmt F S X R W base rt n s R₃ W₃ K₃ r₃)
+                  tells = λ last. on-for (AnswersStmt F S X R W base rt last n s R₃ W₃ K₃ r₃)
                       (λ vs q z b i.
                       goes-on _ _ (goes-unrefused y₁) (m₁ .tells vs (i .1) (counts vs (i .0))) λ Δ L e p.
                       goes-on _ _ (goes-unrefused y₂) (condition-met p q (i .2)) λ Δ₁ M e₂ p₂.
@@ -180,11 +180,11 @@ module _ {F : List ℕ} {S : Sections} {X R W K : List ℕ} {base n s : ℕ} (g 
 
               pub for-ok : {r : Judged} {R′ K₄ : List ℕ} → Scoped F S W₃ K₄ s
                   → AnswerIs (marked 0) (r₃ .at .node) s r → R′ ≡ withRow R₃ n 0 65535
-                  → ToldStmt F S X R W base rt n s R′ W₃ K₄ r
+                  → ToldAnywhere F S X R W base rt n s R′ W₃ K₄ r
               unfolding execute
               for-ok {r} {R′} {K₄} left er eR =
                   record {
-                    tells = on-for (AnswersStmt F S X R W base rt n s R′ W₃ K₄ r)
+                    tells = λ last. on-for (AnswersStmt F S X R W base rt last n s R′ W₃ K₄ r)
                         (λ vs q z b i.
                         goes-on _ _ (goes-unrefused y₁) (m₁ .tells vs (i .1) (counts vs (i .0))) λ Δ L e p.
                         goes-on _ _ (goes-unrefused y₂) (condition-met p q (i .2)) λ Δ₁ M e₂ p₂.

@@ -33,11 +33,11 @@ use Rattle.expressions.proofs.LawsAfter.{ready, typing-of, after-append}
 use Rattle.expressions.proofs.LawsLabels.{expr-long, expr-closed}
 use Rattle.expressions.proofs.LawsShape.{size-one}
 use Rattle.expressions.proofs.LawsChild.{has-node, child-within, child-type, child-fine, reference-within}
-use Rattle.simple_statements.specs.Contract.{markOf, marked, Marking, AnswersStmt, ReadyStmt, ToldStmt}
+use Rattle.simple_statements.specs.Contract.{markOf, marked, Marking, AnswersStmt, ReadyStmt, ToldAnywhere}
 use Rattle.simple_statements.proofs.LawsLabels.{on-if, on-if-null, block-within}
 use Rattle.simple_statements.proofs.LawsMarks.{mark-fits, rule-left, judged-as}
 use Rattle.statements.specs.Contract.{Blocking, eitherOf, ReadyArms, ToldArms}
-use Rattle.statements.proofs.LawsParts.{mark-is, part-no, after-stack}
+use Rattle.statements.proofs.LawsParts.{mark-is, part-no, after-stack, marked-row}
 use Rattle.statements.proofs.LawsArms.{either-mark, arms-fine}
 
 -- a type that is a reference
@@ -104,14 +104,6 @@ module _ (F : List ℕ) (S : Sections) (W : List ℕ) (base rt s : ℕ) (b c : B
       (goes-on _ k u z λ p N q v.
       f p N (em ∙ mark-is (r₂ .judgement) p (either-mark _ _ rt b c i Γ _ p N q) (v .mark)) v)
 
--- an accepted if: its own row over those of its test and of its blocks
-if-row : {F : List ℕ} {S : Sections} {X R W R₂ W₂ K₂ R′ : List ℕ} {base n k x e s m p : ℕ} {r : Judged} {M : List (Label ℕ)} → n < S .nodes
-    → After F S X base M (n + 1) k s s R W R₂ W₂ K₂ → m ≡ p → e ≡ n + 1 + k → x ≡ 1 + k
-    → AnswerIs (marked m) e s r → R′ ≡ withRow R₂ n m 65535
-    → Meets (Marking F S X base n x s R W R′ W₂ K₂ r) r (ends p (scopeOf (tablesOf F S) W base s) (scopeOf (tablesOf F S) W base s) M)
-if-row {R₂ = R₂} {n = n} {e = e} {s = s} w a em en ex er eR =
-    accepts _ _ (rule-left w a (judged-as (ap marked em) er) en ex (eR ∙ ap (λ i. withRow R₂ n i 65535) em))
-
 -- if
 module _ {F : List ℕ} {S : Sections} {X R W K : List ℕ} {base rt n s : ℕ} (asked : ReadyStmt F S X R W K base n s × (rt < S .types)) (kind : nodeAt (tablesOf F S) n .kind ≡ 35) where
   pub if-first : Ready F S X R W K base (n + 1) s
@@ -121,9 +113,9 @@ module _ {F : List ℕ} {S : Sections} {X R W K : List ℕ} {base rt n s : ℕ} 
       (asked .0 .tree) (asked .0 .stands) (asked .0 .room)
 
   module _ {R₁ W₁ K₁ : List ℕ} {r₁ : Judged} (m₁ : Told F S X R W base (n + 1) s R₁ W₁ K₁ r₁) where
-    pub if-no : Untyped r₁ → ToldStmt F S X R W base rt n s R₁ W₁ K₁ r₁
+    pub if-no : Untyped r₁ → ToldAnywhere F S X R W base rt n s R₁ W₁ K₁ r₁
     unfolding execute
-    if-no u = record { tells = on-if (AnswersStmt F S X R W base rt n s R₁ W₁ K₁ r₁) (λ a b c h. child-no _ _ u (m₁ .tells a (h .1))) kind }
+    if-no u = record { tells = λ last. on-if (AnswersStmt F S X R W base rt last n s R₁ W₁ K₁ r₁) (λ a b c h. child-no _ _ u (m₁ .tells a (h .1))) kind }
 
     module _ {t : ℕ} (y₁ : r₁ .judgement ≡ Typed t) where
       pub if-type : Has F S t (S .types)
@@ -138,11 +130,11 @@ module _ {F : List ℕ} {S : Sections} {X R W K : List ℕ} {base rt n s : ℕ} 
           (asked .0 .tree) (asked .0 .stands) (asked .0 .room)
 
       module _ {k₁ : ℕ} (e₁ : k₁ ≡ typeAt (tablesOf F S) t .kind) where
-        pub if-sort : {r : Judged} → (k₁ ≡ 1 → ⊥) → r .judgement ≡ Refused 10 n → ToldStmt F S X R W base rt n s R₁ W₁ K₁ r
+        pub if-sort : {r : Judged} → (k₁ ≡ 1 → ⊥) → r .judgement ≡ Refused 10 n → ToldAnywhere F S X R W base rt n s R₁ W₁ K₁ r
         unfolding execute
         if-sort {r} f e =
             record {
-              tells = on-if (AnswersStmt F S X R W base rt n s R₁ W₁ K₁ r)
+              tells = λ last. on-if (AnswersStmt F S X R W base rt last n s R₁ W₁ K₁ r)
                   (λ a b c h. child-ok _ _ t y₁ (m₁ .tells a (h .1)) λ L q p. stops _ 10 n _ (ne-eqb _ _ (λ i. f (e₁ ∙ i))) e) kind;
             }
 
@@ -153,11 +145,11 @@ module _ {F : List ℕ} {S : Sections} {X R W K : List ℕ} {base rt n s : ℕ} 
               (eitherOf (tablesOf F S) (contextOf (tablesOf F S) W base) rt b c (n + 1 + k) (scopeOf (tablesOf F S) W base s) (scopeOf (tablesOf F S) W base s))
           arms-in p b c h h₂ = retell-arms (p .after .same) (asked .0 .fine .above) (scope-same (tablesOf F S) s (p .after .same) base) (p .next) m₂ b c h h₂
 
-          pub if-no-2 : {p q : ℕ} → r₂ .judgement ≡ Refused p q → ToldStmt F S X R W base rt n s R₂ W₂ K₂ r₂
+          pub if-no-2 : {p q : ℕ} → r₂ .judgement ≡ Refused p q → ToldAnywhere F S X R W base rt n s R₂ W₂ K₂ r₂
           unfolding execute
           if-no-2 e =
               record {
-                tells = on-if (AnswersStmt F S X R W base rt n s R₂ W₂ K₂ r₂)
+                tells = λ last. on-if (AnswersStmt F S X R W base rt last n s R₂ W₂ K₂ r₂)
                     (λ a b c h.
                     child-ok _ _ t y₁ (m₁ .tells a (h .1)) λ L q p.
                     passes _ 10 n _ (eq-eqb _ _ (sym e₁ ∙ z₁))
@@ -171,17 +163,17 @@ module _ {F : List ℕ} {S : Sections} {X R W K : List ℕ} {base rt n s : ℕ} 
             if-ends h = mark-fits (arms-fine (if-second .1) m₂ u₂) (asked .0 .within) h
 
             pub if-ok : {m : ℕ} {R′ : List ℕ} {r : Judged} → m ≡ markOf (r₂ .judgement) → AnswerIs (marked m) (r₂ .at .node) s r
-                → R′ ≡ withRow R₂ n m 65535 → ToldStmt F S X R W base rt n s R′ W₂ K₂ r
+                → R′ ≡ withRow R₂ n m 65535 → ToldAnywhere F S X R W base rt n s R′ W₂ K₂ r
             unfolding execute
             if-ok {m} {R′} {r} em er eR =
                 record {
-                  tells = on-if (AnswersStmt F S X R W base rt n s R′ W₂ K₂ r)
+                  tells = λ last. on-if (AnswersStmt F S X R W base rt last n s R′ W₂ K₂ r)
                       (λ a b c h.
                       child-ok _ _ t y₁ (m₁ .tells a (h .1)) λ L q p.
                       passes _ 10 n _ (eq-eqb _ _ (sym e₁ ∙ z₁))
                       (either-ok F S W base rt s b c (n + 1 + size a) (scopeOf (tablesOf F S) W base s) (arms-in p b c (h .2) (h .3))
                       (λ v N. ends v (scopeOf (tablesOf F S) W base s) (scopeOf (tablesOf F S) W base s) (L ++ N)) u₂ em λ v N ev w.
-                      if-row (asked .0 .within) (after-append (expr-long _ _ a (n + 1) _ t L q) (expr-closed _ _ a (n + 1) _ t L q) (p .after) (w .after)) ev
+                      marked-row (asked .0 .within) (after-append (expr-long _ _ a (n + 1) _ t L q) (expr-closed _ _ a (n + 1) _ t L q) (p .after) (w .after)) ev
                       (w .next ∙ omega arith) (omega arith) er eR)) kind;
                 }
 
@@ -197,9 +189,9 @@ module _ {F : List ℕ} {S : Sections} {X R W K : List ℕ} {base rt n s : ℕ} 
   null-node = has-node (asked .0 .fine .good-tables) (asked .0 .within)
 
   module _ {R₁ W₁ K₁ : List ℕ} {r₁ : Judged} (m₁ : Told F S X R W base (n + 1) s R₁ W₁ K₁ r₁) where
-    pub null-no : Untyped r₁ → ToldStmt F S X R W base rt n s R₁ W₁ K₁ r₁
+    pub null-no : Untyped r₁ → ToldAnywhere F S X R W base rt n s R₁ W₁ K₁ r₁
     unfolding execute
-    null-no u = record { tells = on-if-null (AnswersStmt F S X R W base rt n s R₁ W₁ K₁ r₁) (λ x t a b c h. child-no _ _ u (m₁ .tells a (h .2))) kind }
+    null-no u = record { tells = λ last. on-if-null (AnswersStmt F S X R W base rt last n s R₁ W₁ K₁ r₁) (λ x t a b c h. child-no _ _ u (m₁ .tells a (h .2))) kind }
 
     module _ {u : ℕ} (y₁ : r₁ .judgement ≡ Typed u) where
       pub null-type : Has F S u (S .types)
@@ -242,11 +234,11 @@ module _ {F : List ℕ} {S : Sections} {X R W K : List ℕ} {base rt n s : ℕ} 
               (asked .0 .tree) (asked .0 .stands) (asked .0 .room)
 
       module _ {k₁ : ℕ} (e₁ : k₁ ≡ typeAt (tablesOf F S) u .kind) where
-        pub null-sort : {r : Judged} → (k₁ ≡ 7 → ⊥) → r .judgement ≡ Refused 10 n → ToldStmt F S X R W base rt n s R₁ W₁ K₁ r
+        pub null-sort : {r : Judged} → (k₁ ≡ 7 → ⊥) → r .judgement ≡ Refused 10 n → ToldAnywhere F S X R W base rt n s R₁ W₁ K₁ r
         unfolding execute
         null-sort {r} f e =
             record {
-              tells = on-if-null (AnswersStmt F S X R W base rt n s R₁ W₁ K₁ r)
+              tells = λ last. on-if-null (AnswersStmt F S X R W base rt last n s R₁ W₁ K₁ r)
                   (λ x t a b c h. child-ok _ _ u y₁ (m₁ .tells a (h .2)) λ L q p. stops _ 10 n _ (ne-eqb _ _ (λ i. f (e₁ ∙ i))) e) kind;
             }
 
@@ -266,11 +258,11 @@ module _ {F : List ℕ} {S : Sections} {X R W K : List ℕ} {base rt n s : ℕ} 
                 sym (eb ∙ ap (λ i. below (declared (tablesOf F S)) (typeOf (tablesOf F S) i) (typeOf (tablesOf F S) t₁)) ex
                 ∙ ap (λ i. below (declared (tablesOf F S)) (typeOf (tablesOf F S) (typeAt (tablesOf F S) u .a)) (typeOf (tablesOf F S) i)) (et ∙ e))
 
-            pub null-below : {r : Judged} → not b₁ ≡ true → r .judgement ≡ Refused 11 n → ToldStmt F S X R W base rt n s R₁ W₁ K₁ r
+            pub null-below : {r : Judged} → not b₁ ≡ true → r .judgement ≡ Refused 11 n → ToldAnywhere F S X R W base rt n s R₁ W₁ K₁ r
             unfolding execute
             null-below {r} f e =
                 record {
-                  tells = on-if-null (AnswersStmt F S X R W base rt n s R₁ W₁ K₁ r)
+                  tells = λ last. on-if-null (AnswersStmt F S X R W base rt last n s R₁ W₁ K₁ r)
                       (λ x t a b c h.
                       child-ok _ _ u y₁ (m₁ .tells a (h .2)) λ L q p.
                       passes _ 10 n _ (eq-eqb _ _ (sym e₁ ∙ z₁))
@@ -295,11 +287,11 @@ module _ {F : List ℕ} {S : Sections} {X R W K : List ℕ} {base rt n s : ℕ} 
                 bound-in p x t e e₂ b c h h₂ =
                     retell-arms (same-more (p .after .same) (bound .same)) (asked .0 .fine .above) (named-is x t e e₂ (p .after .same)) (p .next) m₂ b c h h₂
 
-                pub null-no-2 : {p q : ℕ} → r₂ .judgement ≡ Refused p q → ToldStmt F S X R W base rt n s R₂ W₃ K₃ r₂
+                pub null-no-2 : {p q : ℕ} → r₂ .judgement ≡ Refused p q → ToldAnywhere F S X R W base rt n s R₂ W₃ K₃ r₂
                 unfolding execute
                 null-no-2 e =
                     record {
-                      tells = on-if-null (AnswersStmt F S X R W base rt n s R₂ W₃ K₃ r₂)
+                      tells = λ last. on-if-null (AnswersStmt F S X R W base rt last n s R₂ W₃ K₃ r₂)
                           (λ x t a b c h.
                           child-ok _ _ u y₁ (m₁ .tells a (h .2)) λ L q p.
                           passes _ 10 n _ (eq-eqb _ _ (sym e₁ ∙ z₁))
@@ -315,11 +307,11 @@ module _ {F : List ℕ} {S : Sections} {X R W K : List ℕ} {base rt n s : ℕ} 
                   null-ends h = mark-fits (arms-fine (null-second et bound .1) m₂ u₂) (asked .0 .within) h
 
                   pub null-ok : {m : ℕ} {R′ : List ℕ} {r : Judged} → m ≡ markOf (r₂ .judgement) → AnswerIs (marked m) (r₂ .at .node) s r
-                      → R′ ≡ withRow R₂ n m 65535 → ToldStmt F S X R W base rt n s R′ W₃ K₃ r
+                      → R′ ≡ withRow R₂ n m 65535 → ToldAnywhere F S X R W base rt n s R′ W₃ K₃ r
                   unfolding execute
                   null-ok {m} {R′} {r} em er eR =
                       record {
-                        tells = on-if-null (AnswersStmt F S X R W base rt n s R′ W₃ K₃ r)
+                        tells = λ last. on-if-null (AnswersStmt F S X R W base rt last n s R′ W₃ K₃ r)
                             (λ x t a b c h.
                             child-ok _ _ u y₁ (m₁ .tells a (h .2)) λ L q p.
                             passes _ 10 n _ (eq-eqb _ _ (sym e₁ ∙ z₁))
@@ -327,7 +319,7 @@ module _ {F : List ℕ} {S : Sections} {X R W K : List ℕ} {base rt n s : ℕ} 
                             (either-ok F S W base rt s b c (n + 1 + size a) (binds (scopeOf (tablesOf F S) W base s) x t n)
                             (bound-in p x t (h .0 .x-is) (h .0 .t-is) b c (h .3) (h .4))
                             (λ v N. ends v (scopeOf (tablesOf F S) W base s) (scopeOf (tablesOf F S) W base s) (L ++ N)) u₂ em λ v N ev w.
-                            if-row (asked .0 .within)
+                            marked-row (asked .0 .within)
                             (after-append (expr-long _ _ a (n + 1) _ u L q) (expr-closed _ _ a (n + 1) _ u L q) (p .after) (after-stack (bound .same) (w .after))) ev
                             (w .next ∙ omega arith) (omega arith) er eR))) kind;
                       }

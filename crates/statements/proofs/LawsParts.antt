@@ -3,7 +3,7 @@
 use mathlib.Core.Path.{_≡_, refl, ap, sym, subst, _∙_}
 use mathlib.Core.Bool.{Bool, true, false}
 use mathlib.Core.List.{List, [], _∷_, _++_}
-use Prim.Native.Nat.{ℕ, zero, suc, _+_, _≤_}
+use Prim.Native.Nat.{ℕ, zero, suc, _+_, _≤_, _<_}
 use native.Mathlib.Omega.{arith}
 use lib.ListN.{length}
 use lib.Dec.{eqb}
@@ -14,7 +14,7 @@ use Rattle.oat.specs.Syntax.{Stmt, Block, sizeStmt, sizeBlock}
 use Rattle.oat.specs.Nodes.{StmtStands, BlockStands}
 use Rattle.typing_rules.specs.Contexts.{Scope, Context}
 use Rattle.typing_rules.specs.Labels.{Label}
-use Rattle.typing_rules.specs.Judge.{Out, andThen, execute, executeBlock}
+use Rattle.typing_rules.specs.Judge.{Out, andThen, ends, execute, executeBlock}
 use Rattle.typing_rules.specs.Check.{nextResult}
 use Rattle.file_sections.specs.declared.Sections.{Sections}
 use Rattle.file_sections.specs.Layout.{tablesOf}
@@ -24,10 +24,11 @@ use Rattle.bindings.proofs.LawsBindings.{scope-same, names-same}
 use Rattle.answers.specs.declared.answer.Judgement.{Judgement}
 use Rattle.answers.specs.declared.answer.Judgement.the-variants.{GoesOn, Returns, Refused}
 use Rattle.answers.specs.declared.answer.Judged.{Judged}
-use Rattle.expressions.specs.Contract.{contextOf, After, Meets}
+use Rattle.answers.specs.Answers.{withRow, AnswerIs}
+use Rattle.expressions.specs.Contract.{contextOf, After, Meets, accepts}
 use Rattle.expressions.proofs.LawsMeets.{hands-up}
 use Rattle.simple_statements.specs.Contract.{markOf, marked, Marking, ToldStmt}
-use Rattle.simple_statements.proofs.LawsMarks.{after-join}
+use Rattle.simple_statements.proofs.LawsMarks.{judged-as, after-join, rule-left}
 use Rattle.statements.specs.Contract.{Blocking, ToldBlock}
 
 -- a mark is no refusal, and it is read off its judgement
@@ -83,6 +84,14 @@ module _ {F : List ℕ} {S : Sections} {X : List ℕ} {base : ℕ} where
       → After F S X base L n k s h R W₁ R₂ W₂ K₂ → After F S X base L n k s h R W R₂ W₂ K₂
   after-stack c a = record { rows = a .rows; kept = a .kept; same = same-more c (a .same); fine = a .fine }
 
+-- an accepted statement that binds nothing, with the mark m, which is p: its own row over those of its parts
+pub marked-row : {F : List ℕ} {S : Sections} {X R W R₂ W₂ K₂ R′ : List ℕ} {base n k x e s m p : ℕ} {r : Judged} {M : List (Label ℕ)} → n < S .nodes
+    → After F S X base M (n + 1) k s s R W R₂ W₂ K₂ → m ≡ p → e ≡ n + 1 + k → x ≡ 1 + k
+    → AnswerIs (marked m) e s r → R′ ≡ withRow R₂ n m 65535
+    → Meets (Marking F S X base n x s R W R′ W₂ K₂ r) r (ends p (scopeOf (tablesOf F S) W base s) (scopeOf (tablesOf F S) W base s) M)
+marked-row {R₂ = R₂} {n = n} {e = e} {s = s} w a em en ex er eR =
+    accepts _ _ (rule-left w a (judged-as (ap marked em) er) en ex (eR ∙ ap (λ i. withRow R₂ n i 65535) em))
+
 -- a later part sees the names below s, and a scope Δ of its own height
 pub seen-on : (F : List ℕ) (S : Sections) (base s h : ℕ) {W W₁ : List ℕ} {Δ : Scope ℕ} → Same (entryOf (tablesOf F S) s) W W₁ → base ≤ s
     → scopeOf (tablesOf F S) W₁ base h ≡ Δ → (P : Context ℕ → Scope ℕ → Type 0)
@@ -100,9 +109,9 @@ retell-block {F} {S} {X} {W} {R₁} {W₁} {R₂} {W₂} {K₂} {base} {rt} {s} 
     (subst (λ j. ToldBlock F S X R₁ W₁ base rt j s R₂ W₂ K₂ r) e told .tells b h)
 
 -- a statement sees the names before those of the block, and the scope after the statements before it
-pub retell-stmt : {F : List ℕ} {S : Sections} {X W R₁ W₁ R₂ W₂ K₂ : List ℕ} {base rt s h n : ℕ} {r : Judged} → Same (entryOf (tablesOf F S) s) W W₁ → base ≤ s
-    → ToldStmt F S X R₁ W₁ base rt n h R₂ W₂ K₂ r → (z : Stmt) → StmtStands (tablesOf F S) n z
+pub retell-stmt : {F : List ℕ} {S : Sections} {X W R₁ W₁ R₂ W₂ K₂ : List ℕ} {base rt : ℕ} {last : Bool} {s h n : ℕ} {r : Judged} → Same (entryOf (tablesOf F S) s) W W₁ → base ≤ s
+    → ToldStmt F S X R₁ W₁ base rt last n h R₂ W₂ K₂ r → (z : Stmt) → StmtStands (tablesOf F S) n z
     → Meets (Marking F S X base n (sizeStmt z) h R₁ W₁ R₂ W₂ K₂ r) r
-    (execute (tablesOf F S) (contextOf (tablesOf F S) W base) rt z n (scopeOf (tablesOf F S) W₁ base h))
-retell-stmt {F} {S} {X} {W} {R₁} {W₁} {R₂} {W₂} {K₂} {base} {rt} {s} {h} {n} {r} a l told z st =
-    seen-on F S base s h a l refl (λ C Γ. Meets (Marking F S X base n (sizeStmt z) h R₁ W₁ R₂ W₂ K₂ r) r (execute (tablesOf F S) C rt z n Γ)) (told .tells z st)
+    (execute (tablesOf F S) (contextOf (tablesOf F S) W base) rt last z n (scopeOf (tablesOf F S) W₁ base h))
+retell-stmt {F} {S} {X} {W} {R₁} {W₁} {R₂} {W₂} {K₂} {base} {rt} {last} {s} {h} {n} {r} a l told z st =
+    seen-on F S base s h a l refl (λ C Γ. Meets (Marking F S X base n (sizeStmt z) h R₁ W₁ R₂ W₂ K₂ r) r (execute (tablesOf F S) C rt last z n Γ)) (told .tells z st)

@@ -1,15 +1,18 @@
 -- The loop over the statements of a block: what holds after i of them, and the answers of its returns. Assumes nothing.
 use mathlib.Core.Path.{_≡_, refl, ap, sym, subst, _∙_}
+use mathlib.Core.Bool.{Bool}
 use mathlib.Core.List.{List, [], _++_, append-nil}
 use Prim.Native.Nat.{ℕ, _+_, _≤_, _<_}
 use native.Mathlib.Omega.{arith}
 use lib.ListN.{length, length-append}
+use lib.Dec.{eqb}
 use borrow.Author.Tests.{eq-eqb, ne-eqb}
 use Rattle.oat.specs.Tables.{Tables}
 use Rattle.oat.specs.Syntax.{Stmt, Stmts, empty, then, sizeStmt, sizeStmts, countStmts}
 use Rattle.oat.specs.Nodes.{StmtsStand}
 use Rattle.typing_rules.specs.Contexts.{Scope, Context}
 use Rattle.typing_rules.specs.Labels.{Label}
+use Rattle.typing_rules.specs.Derivations.{isEmpty}
 use Rattle.typing_rules.specs.Judge.{Out, ok, no, Done, execute, executeAll}
 use Rattle.typing_rules.proofs.LawsOutcome.{afterRun, run-none, run-more}
 use Rattle.file_sections.specs.declared.Sections.{Sections}
@@ -30,11 +33,16 @@ use Rattle.statements.specs.Contract.{Running, ReadyStmts, ToldStmts}
 use Rattle.statements.proofs.LawsParts.{marked-no, mark-is, retell-stmt}
 
 -- the definition in the context of the buffers before the block, and the scope of the height h of those now
-abbrev pub allIn : List ℕ → Sections → (W W₁ : List ℕ) → (base rt h : ℕ) → Stmts → (n last p : ℕ) → Out ℕ
-allIn F S W W₁ base rt h ss n last p = executeAll (tablesOf F S) (contextOf (tablesOf F S) W base) rt ss n last p (scopeOf (tablesOf F S) W₁ base h)
+abbrev pub allIn : List ℕ → Sections → (W W₁ : List ℕ) → (base rt h : ℕ) → Stmts → (n previous p : ℕ) → Out ℕ
+allIn F S W W₁ base rt h ss n previous p = executeAll (tablesOf F S) (contextOf (tablesOf F S) W base) rt ss n previous p (scopeOf (tablesOf F S) W₁ base h)
 
-abbrev stmtIn : List ℕ → Sections → (W W₁ : List ℕ) → (base rt h : ℕ) → Stmt → ℕ → Out Done
-stmtIn F S W W₁ base rt h z n = execute (tablesOf F S) (contextOf (tablesOf F S) W base) rt z n (scopeOf (tablesOf F S) W₁ base h)
+abbrev stmtIn : List ℕ → Sections → (W W₁ : List ℕ) → (base rt h : ℕ) → Bool → Stmt → ℕ → Out Done
+stmtIn F S W W₁ base rt h last z n = execute (tablesOf F S) (contextOf (tablesOf F S) W base) rt last z n (scopeOf (tablesOf F S) W₁ base h)
+
+-- no statement follows the one after the first i of `left` where i + 1 is `left`
+is-last : (i left : ℕ) (z : Stmt) (zs : Stmts) → countStmts (then z zs) + i ≡ left → eqb (i + 1) left ≡ isEmpty zs
+is-last i left z empty c = eq-eqb (i + 1) left (omega (arith, c))
+is-last i left z (then y ys) c = ne-eqb (i + 1) left (λ e. omega (arith, c, e))
 
 -- statements, of which there is one, or none
 on-some : (P : Stmts → Type 0) → ((z : Stmt) (zs : Stmts) → P (then z zs)) → (ss : Stmts) → 1 ≤ countStmts ss → P ss
@@ -45,19 +53,19 @@ on-none : (P : Stmts → Type 0) → P empty → (ss : Stmts) → countStmts ss 
 on-none P f empty h = f
 on-none P f (then z zs) h = absurd (omega arith)
 
-module _ (T : Tables) (C : Context ℕ) (rt : ℕ) (z : Stmt) (zs : Stmts) (n last p : ℕ) (Γ : Scope ℕ) where
+module _ (T : Tables) (C : Context ℕ) (rt : ℕ) (z : Stmt) (zs : Stmts) (n previous p : ℕ) (Γ : Scope ℕ) where
   -- the first of them comes after one that returns
-  all-stops : (p ≡ 0 → ⊥) → executeAll T C rt (then z zs) n last p Γ ≡ no 14 last
+  all-stops : (p ≡ 0 → ⊥) → executeAll T C rt (then z zs) n previous p Γ ≡ no 14 previous
   unfolding executeAll
   all-stops f = rw (ne-eqb p 0 f)
 
   -- it is refused, and accepted
-  all-no : (a b : ℕ) → p ≡ 0 → execute T C rt z n Γ ≡ no a b → executeAll T C rt (then z zs) n last p Γ ≡ no a b
+  all-no : (a b : ℕ) → p ≡ 0 → execute T C rt (isEmpty zs) z n Γ ≡ no a b → executeAll T C rt (then z zs) n previous p Γ ≡ no a b
   unfolding executeAll
   all-no a b e q = rw (eq-eqb p 0 e, q)
 
-  all-ok : (d : Done) (M : List (Label ℕ)) → p ≡ 0 → execute T C rt z n Γ ≡ ok d M
-      → executeAll T C rt (then z zs) n last p Γ ≡ afterRun M (executeAll T C rt zs (n + sizeStmt z) n (d .mark) (d .scope))
+  all-ok : (d : Done) (M : List (Label ℕ)) → p ≡ 0 → execute T C rt (isEmpty zs) z n Γ ≡ ok d M
+      → executeAll T C rt (then z zs) n previous p Γ ≡ afterRun M (executeAll T C rt zs (n + sizeStmt z) n (d .mark) (d .scope))
   unfolding executeAll
   all-ok d M e q = rw (eq-eqb p 0 e, q)
 
@@ -67,8 +75,8 @@ refusal-of : {P : Done → List (Label ℕ) → Type 0} {r : Judged} {a b : ℕ}
 refusal-of {a = a} {b = b} o (accepts d L v) e f = absurd (marked-no (d .mark) a b (sym (f d L v) ∙ e))
 refusal-of o (refuses p q j) e f = (p, q, refl, j)
 
--- the first i statements of ss, which stand at n, are accepted, the last of them at `last` with the mark; the others stand at `at`
-pub record RunPart (F : List ℕ) (S : Sections) (X : List ℕ) (base rt n s : ℕ) (R W : List ℕ) (left parent at height last mark i : ℕ) (R₁ W₁ K₁ : List ℕ) (ss : Stmts) : Type 0 where
+-- the first i statements of ss, which stand at n, are accepted, the last of them at `previous` with the mark; the others stand at `at`
+pub record RunPart (F : List ℕ) (S : Sections) (X : List ℕ) (base rt n s : ℕ) (R W : List ℕ) (left parent at height previous mark i : ℕ) (R₁ W₁ K₁ : List ℕ) (ss : Stmts) : Type 0 where
   pub labels : List (Label ℕ)
   pub rest : Stmts
   pub stand : StmtsStand (tablesOf F S) at rest
@@ -80,26 +88,26 @@ pub record RunPart (F : List ℕ) (S : Sections) (X : List ℕ) (base rt n s : �
   pub high : height ≤ s + length labels
   pub small : mark ≤ 1
   pub after : After F S X base labels n (length labels) s height R W R₁ W₁ K₁
-  pub ran : allIn F S W W base rt s ss n parent 0 ≡ afterRun labels (allIn F S W W₁ base rt height rest at last mark)
+  pub ran : allIn F S W W base rt s ss n parent 0 ≡ afterRun labels (allIn F S W W₁ base rt height rest at previous mark)
 
-pub record WalkedStmts (F : List ℕ) (S : Sections) (X : List ℕ) (base rt n s : ℕ) (R W : List ℕ) (left parent at height last mark i : ℕ) (R₁ W₁ K₁ : List ℕ) : Type 0 where
-  pub part : (ss : Stmts) → StmtsStand (tablesOf F S) n ss → countStmts ss ≡ left → RunPart F S X base rt n s R W left parent at height last mark i R₁ W₁ K₁ ss
+pub record WalkedStmts (F : List ℕ) (S : Sections) (X : List ℕ) (base rt n s : ℕ) (R W : List ℕ) (left parent at height previous mark i : ℕ) (R₁ W₁ K₁ : List ℕ) : Type 0 where
+  pub part : (ss : Stmts) → StmtsStand (tablesOf F S) n ss → countStmts ss ≡ left → RunPart F S X base rt n s R W left parent at height previous mark i R₁ W₁ K₁ ss
 
-module _ {F : List ℕ} {S : Sections} {X R W : List ℕ} {base rt n s left parent at height last mark i : ℕ} {R₁ W₁ K₁ : List ℕ} {ss : Stmts}
-    (p : RunPart F S X base rt n s R W left parent at height last mark i R₁ W₁ K₁ ss) where
+module _ {F : List ℕ} {S : Sections} {X R W : List ℕ} {base rt n s left parent at height previous mark i : ℕ} {R₁ W₁ K₁ : List ℕ} {ss : Stmts}
+    (p : RunPart F S X base rt n s R W left parent at height previous mark i R₁ W₁ K₁ ss) where
   -- one more statement
   part-more : {R₂ W₂ K₂ : List ℕ} {r : Judged} {m : ℕ} → mark ≡ 0 → (z : Stmt) (zs : Stmts) → StmtsStand (tablesOf F S) at (then z zs) → countStmts (then z zs) + i ≡ left
       → sizeStmts ss ≡ length (p .labels) + sizeStmts (then z zs)
-      → allIn F S W W base rt s ss n parent 0 ≡ afterRun (p .labels) (allIn F S W W₁ base rt height (then z zs) at last mark)
-      → (d : Done) (M : List (Label ℕ)) → stmtIn F S W W₁ base rt height z at ≡ ok d M
+      → allIn F S W W base rt s ss n parent 0 ≡ afterRun (p .labels) (allIn F S W W₁ base rt height (then z zs) at previous mark)
+      → (d : Done) (M : List (Label ℕ)) → stmtIn F S W W₁ base rt height (isEmpty zs) z at ≡ ok d M
       → Marking F S X base at (sizeStmt z) height R₁ W₁ R₂ W₂ K₂ r d M → m ≡ markOf (r .judgement)
       → RunPart F S X base rt n s R W left parent (r .at .node) (r .at .scope) at m (i + 1) R₂ W₂ K₂ ss
   part-more {R₂} {W₂} {K₂} {r} {m} e0 z zs h c sz j d M q v em =
       let T : Tables = tablesOf F S in
       let C : Context ℕ = contextOf (tablesOf F S) W base in
       let Γ : Scope ℕ = scopeOf (tablesOf F S) W₁ base height in
-      let long : length M ≡ sizeStmt z = stmt-long T C rt z at Γ d M q in
-      let most : d .mark ≤ 1 = stmt-mark T C rt z at Γ d M q in
+      let long : length M ≡ sizeStmt z = stmt-long T C rt (isEmpty zs) z at Γ d M q in
+      let most : d .mark ≤ 1 = stmt-mark T C rt (isEmpty zs) z at Γ d M q in
       let is : m ≡ d .mark = em ∙ mark-is (r .judgement) (d .mark) most (v .mark) in
       let both : length (p .labels ++ M) ≡ length (p .labels) + sizeStmt z = length-append (p .labels) M ∙ ap (λ k. length (p .labels) + k) long in
       record {
@@ -108,7 +116,7 @@ module _ {F : List ℕ} {S : Sections} {X R W : List ℕ} {base rt n s left pare
         stand = subst (λ k. StmtsStand T k zs) (sym (v .next)) (h .1);
         counted = omega arith;
         reached = omega (arith, v .next, p .reached, both);
-        closed = closed-append (p .closed) (stmt-closed T C rt z at Γ d M q);
+        closed = closed-append (p .closed) (stmt-closed T C rt (isEmpty zs) z at Γ d M q);
         sized = omega (arith, sz, both);
         low = omega (arith, p .low, v .low);
         high = omega (arith, p .high, v .high, both);
@@ -116,7 +124,7 @@ module _ {F : List ℕ} {S : Sections} {X R W : List ℕ} {base rt n s left pare
         after = subst (λ k. After F S X base (p .labels ++ M) n k s (r .at .scope) R W R₂ W₂ K₂) (sym both)
             (after-both refl (p .closed) (p .low) (p .after)
             (subst (λ k. After F S X base M k (sizeStmt z) height (r .at .scope) R₁ W₁ R₂ W₂ K₂) (p .reached) (v .after)));
-        ran = j ∙ ap (afterRun (p .labels)) (all-ok T C rt z zs at last mark Γ d M e0 q)
+        ran = j ∙ ap (afterRun (p .labels)) (all-ok T C rt z zs at previous mark Γ d M e0 q)
             ∙ run-more (p .labels) M (executeAll T C rt zs (at + sizeStmt z) at (d .mark) (d .scope))
             ∙ ap (λ k. afterRun (p .labels ++ M) (executeAll T C rt zs k at (d .mark) (d .scope))) (sym (v .next))
             ∙ ap (λ k. afterRun (p .labels ++ M) (executeAll T C rt zs (r .at .node) at k (d .scope))) (sym is)
@@ -128,7 +136,7 @@ module _ {F : List ℕ} {S : Sections} {X R W : List ℕ} {base rt n s left pare
     all-ran : allIn F S W W base rt s ss n parent 0 ≡ ok mark (p .labels)
     unfolding executeAll
     all-ran = p .ran ∙
-        on-none (λ zs. afterRun (p .labels) (allIn F S W W₁ base rt height zs at last mark) ≡ ok mark (p .labels))
+        on-none (λ zs. afterRun (p .labels) (allIn F S W W₁ base rt height zs at previous mark) ≡ ok mark (p .labels))
         (cc (append-nil (p .labels))) (p .rest) (omega (arith, p .counted))
 
     all-sized : sizeStmts ss ≡ length (p .labels)
@@ -166,8 +174,8 @@ module _ {F : List ℕ} {S : Sections} {X R W K : List ℕ} {base rt n s left pa
         };
       }
 
-  module _ {at height last mark i : ℕ} {R₁ W₁ K₁ : List ℕ} (w : WalkedStmts F S X base rt n s R W left parent at height last mark i R₁ W₁ K₁) where
-    so-far : RunPart F S X base rt n s R W left parent at height last mark i R₁ W₁ K₁ (g .trees)
+  module _ {at height previous mark i : ℕ} {R₁ W₁ K₁ : List ℕ} (w : WalkedStmts F S X base rt n s R W left parent at height previous mark i R₁ W₁ K₁) where
+    so-far : RunPart F S X base rt n s R W left parent at height previous mark i R₁ W₁ K₁ (g .trees)
     so-far = w .part (g .trees) (g .stand) (g .counted)
 
     -- for the measure
@@ -178,19 +186,19 @@ module _ {F : List ℕ} {S : Sections} {X R W K : List ℕ} {base rt n s left pa
     run-low = so-far .low
 
     module _ (more : i < left) where
-      pub run-stops : {r : Judged} → (mark ≡ 0 → ⊥) → r .judgement ≡ Refused 14 last → ToldStmts F S X R W base rt n s left parent R₁ W₁ K₁ r
+      pub run-stops : {r : Judged} → (mark ≡ 0 → ⊥) → r .judgement ≡ Refused 14 previous → ToldStmts F S X R W base rt n s left parent R₁ W₁ K₁ r
       run-stops {r} f e = record { tells = λ ss h c. go ss (w .part ss h c) }
         where
-          go : (ss : Stmts) → RunPart F S X base rt n s R W left parent at height last mark i R₁ W₁ K₁ ss
+          go : (ss : Stmts) → RunPart F S X base rt n s R W left parent at height previous mark i R₁ W₁ K₁ ss
               → Meets (Running F S X base n (sizeStmts ss) s R W R₁ W₁ K₁ r) r (allIn F S W W base rt s ss n parent 0)
           go ss p =
               subst (Meets (Running F S X base n (sizeStmts ss) s R W R₁ W₁ K₁ r) r)
               (sym (p .ran
               ∙ ap (afterRun (p .labels))
-              (on-some (λ zs. allIn F S W W₁ base rt height zs at last mark ≡ no 14 last)
-              (λ z zs. all-stops (tablesOf F S) (contextOf (tablesOf F S) W base) rt z zs at last mark (scopeOf (tablesOf F S) W₁ base height) f)
+              (on-some (λ zs. allIn F S W W₁ base rt height zs at previous mark ≡ no 14 previous)
+              (λ z zs. all-stops (tablesOf F S) (contextOf (tablesOf F S) W base) rt z zs at previous mark (scopeOf (tablesOf F S) W₁ base height) f)
               (p .rest) (omega (arith, p .counted, more)))))
-              (refuses 14 last e)
+              (refuses 14 previous e)
 
       pub run-ready : ReadyStmt F S X R₁ W₁ K₁ base at height
       run-ready =
@@ -207,40 +215,44 @@ module _ {F : List ℕ} {S : Sections} {X R W K : List ℕ} {base rt n s left pa
       pub run-asked : ReadyStmt F S X R₁ W₁ K₁ base at height × (rt < S .types)
       run-asked = (run-ready, g .returned)
 
-      module _ (goes : mark ≡ 0) {R₂ W₂ K₂ : List ℕ} {r₁ : Judged} (m₁ : ToldStmt F S X R₁ W₁ base rt at height R₂ W₂ K₂ r₁) where
+      module _ (goes : mark ≡ 0) {R₂ W₂ K₂ : List ℕ} {r₁ : Judged} (m₁ : ToldStmt F S X R₁ W₁ base rt (eqb (i + 1) left) at height R₂ W₂ K₂ r₁) where
+        -- the answer to the first of them
+        told-first : (z : Stmt) (zs : Stmts) → countStmts (then z zs) + i ≡ left → ToldStmt F S X R₁ W₁ base rt (isEmpty zs) at height R₂ W₂ K₂ r₁
+        told-first z zs c = subst (λ b. ToldStmt F S X R₁ W₁ base rt b at height R₂ W₂ K₂ r₁) (is-last i left z zs c) m₁
+
         pub run-no : {p q : ℕ} → r₁ .judgement ≡ Refused p q → ToldStmts F S X R W base rt n s left parent R₂ W₂ K₂ r₁
         run-no e = record { tells = λ ss h c. go ss (w .part ss h c) }
           where
-            refusing : (ss : Stmts) (L : List (Label ℕ)) (z : Stmt) (zs : Stmts) (a b : ℕ) → stmtIn F S W W₁ base rt height z at ≡ no a b → r₁ .judgement ≡ Refused a b
-                → Meets (Running F S X base n (sizeStmts ss) s R W R₂ W₂ K₂ r₁) r₁ (afterRun L (allIn F S W W₁ base rt height (then z zs) at last mark))
+            refusing : (ss : Stmts) (L : List (Label ℕ)) (z : Stmt) (zs : Stmts) (a b : ℕ) → stmtIn F S W W₁ base rt height (isEmpty zs) z at ≡ no a b → r₁ .judgement ≡ Refused a b
+                → Meets (Running F S X base n (sizeStmts ss) s R W R₂ W₂ K₂ r₁) r₁ (afterRun L (allIn F S W W₁ base rt height (then z zs) at previous mark))
             refusing ss L z zs a b q j =
                 subst (λ o. Meets (Running F S X base n (sizeStmts ss) s R W R₂ W₂ K₂ r₁) r₁ (afterRun L o))
-                (sym (all-no (tablesOf F S) (contextOf (tablesOf F S) W base) rt z zs at last mark (scopeOf (tablesOf F S) W₁ base height) a b goes q)) (refuses a b j)
+                (sym (all-no (tablesOf F S) (contextOf (tablesOf F S) W base) rt z zs at previous mark (scopeOf (tablesOf F S) W₁ base height) a b goes q)) (refuses a b j)
 
-            go : (ss : Stmts) → RunPart F S X base rt n s R W left parent at height last mark i R₁ W₁ K₁ ss
+            go : (ss : Stmts) → RunPart F S X base rt n s R W left parent at height previous mark i R₁ W₁ K₁ ss
                 → Meets (Running F S X base n (sizeStmts ss) s R W R₂ W₂ K₂ r₁) r₁ (allIn F S W W base rt s ss n parent 0)
             go ss p =
                 subst (Meets (Running F S X base n (sizeStmts ss) s R W R₂ W₂ K₂ r₁) r₁) (sym (p .ran))
-                (on-some (λ zs. StmtsStand (tablesOf F S) at zs
-                → Meets (Running F S X base n (sizeStmts ss) s R W R₂ W₂ K₂ r₁) r₁ (afterRun (p .labels) (allIn F S W W₁ base rt height zs at last mark)))
-                (λ z zs h.
-                let (a, b, q, j) = refusal-of _ (retell-stmt (p .after .same) (g .fine .above) m₁ z (h .0)) e (λ d L v. v .mark) in
+                (on-some (λ zs. StmtsStand (tablesOf F S) at zs → countStmts zs + i ≡ left
+                → Meets (Running F S X base n (sizeStmts ss) s R W R₂ W₂ K₂ r₁) r₁ (afterRun (p .labels) (allIn F S W W₁ base rt height zs at previous mark)))
+                (λ z zs h c.
+                let (a, b, q, j) = refusal-of _ (retell-stmt (p .after .same) (g .fine .above) (told-first z zs c) z (h .0)) e (λ d L v. v .mark) in
                 refusing ss (p .labels) z zs a b q j)
-                (p .rest) (omega (arith, p .counted, more)) (p .stand))
+                (p .rest) (omega (arith, p .counted, more)) (p .stand) (p .counted))
 
         pub run-again : {m : ℕ} → Unrefused r₁ → m ≡ markOf (r₁ .judgement)
             → WalkedStmts F S X base rt n s R W left parent (r₁ .at .node) (r₁ .at .scope) at m (i + 1) R₂ W₂ K₂
         run-again {m} u em = record { part = λ ss h c. go ss (w .part ss h c) }
           where
-            go : (ss : Stmts) → RunPart F S X base rt n s R W left parent at height last mark i R₁ W₁ K₁ ss
+            go : (ss : Stmts) → RunPart F S X base rt n s R W left parent at height previous mark i R₁ W₁ K₁ ss
                 → RunPart F S X base rt n s R W left parent (r₁ .at .node) (r₁ .at .scope) at m (i + 1) R₂ W₂ K₂ ss
             go ss p =
                 on-some
                 (λ zs. StmtsStand (tablesOf F S) at zs → countStmts zs + i ≡ left → sizeStmts ss ≡ length (p .labels) + sizeStmts zs
-                → allIn F S W W base rt s ss n parent 0 ≡ afterRun (p .labels) (allIn F S W W₁ base rt height zs at last mark)
+                → allIn F S W W base rt s ss n parent 0 ≡ afterRun (p .labels) (allIn F S W W₁ base rt height zs at previous mark)
                 → RunPart F S X base rt n s R W left parent (r₁ .at .node) (r₁ .at .scope) at m (i + 1) R₂ W₂ K₂ ss)
                 (λ z zs h c sz j.
-                let (d, M, q, v) = part-of _ (retell-stmt (p .after .same) (g .fine .above) m₁ z (h .0)) u in
+                let (d, M, q, v) = part-of _ (retell-stmt (p .after .same) (g .fine .above) (told-first z zs c) z (h .0)) u in
                 part-more p goes z zs h c sz j d M q v em)
                 (p .rest) (omega (arith, p .counted, more)) (p .stand) (p .counted) (p .sized) (p .ran)
 

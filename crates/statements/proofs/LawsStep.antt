@@ -1,5 +1,6 @@
 -- The step of a for, or 40: a returning one is refused at itself, and what it binds is gone after it. Assumes nothing.
 use mathlib.Core.Path.{_≡_, sym, subst, _∙_}
+use mathlib.Core.Bool.{false}
 use mathlib.Core.List.{List, [], _∷_}
 use Prim.Native.Nat.{ℕ, _+_, _*_, _≤_, _<_}
 use native.Mathlib.Omega.{arith}
@@ -95,7 +96,7 @@ module _ {F : List ℕ} {S : Sections} {X R W K : List ℕ} {base rt n s : ℕ} 
         g .returned,
       )
 
-      module _ {R₁ W₁ K₁ : List ℕ} {r₁ : Judged} (m₁ : ToldStmt F S X R W base rt n s R₁ W₁ K₁ r₁) where
+      module _ {R₁ W₁ K₁ : List ℕ} {r₁ : Judged} (m₁ : ToldStmt F S X R W base rt false n s R₁ W₁ K₁ r₁) where
         pub step-no : {p q : ℕ} → r₁ .judgement ≡ Refused p q → ToldStep F S X R W base rt n s R₁ W₁ K₁ r₁
         unfolding executeStep
         step-no e =
@@ -113,7 +114,7 @@ module _ {F : List ℕ} {S : Sections} {X R W K : List ℕ} {base rt n s : ℕ} 
                 tells = on-step (AnswersStep F S X R W base rt n s R₁ W₁ K₁ r)
                     (λ y h.
                     goes-on _ _ u (m₁ .tells y h) λ d L q p.
-                    stops _ 14 n _ (ne-eqb _ _ (λ i. z (em ∙ mark-is _ _ (stmt-mark _ _ rt y n _ d L q) (p .mark) ∙ i))) e) not-absent;
+                    stops _ 14 n _ (ne-eqb _ _ (λ i. z (em ∙ mark-is _ _ (stmt-mark _ _ rt false y n _ d L q) (p .mark) ∙ i))) e) not-absent;
               }
 
           pub step-leaves : Scoped F S W₁ K₁ (r₁ .at .scope) × (s ≤ r₁ .at .scope)
@@ -129,7 +130,7 @@ module _ {F : List ℕ} {S : Sections} {X R W K : List ℕ} {base rt n s : ℕ} 
                 tells = on-step (AnswersStep F S X R W base rt n s R₁ W₁ K₂ r)
                     (λ y h.
                     goes-on _ _ u (m₁ .tells y h) λ d L q p.
-                    passes _ 14 n _ (eq-eqb _ _ (sym (mark-is _ _ (stmt-mark _ _ rt y n _ d L q) (p .mark)) ∙ sym em ∙ z))
+                    passes _ 14 n _ (eq-eqb _ _ (sym (mark-is _ _ (stmt-mark _ _ rt false y n _ d L q) (p .mark)) ∙ sym em ∙ z))
                     (accepts _ _
                     (record {
                       mark = er .judged;

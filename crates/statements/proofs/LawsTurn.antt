@@ -1,5 +1,6 @@
 -- The step and the block of a for. Assumes nothing.
 use mathlib.Core.Path.{_≡_, refl, ap, sym, subst, _∙_}
+use mathlib.Core.Bool.{false}
 use mathlib.Core.List.{List, []}
 use Prim.Native.Nat.{ℕ, _<_}
 use native.Mathlib.Omega.{arith}
@@ -29,7 +30,7 @@ pub step-mark : (T : Tables) (C : Context ℕ) (rt : ℕ) (z : Step) (n : ℕ) (
 unfolding executeStep
 step-mark T C rt noStep n Γ p L j = ok-is (λ p L. p ≡ 0) j refl
 step-mark T C rt (step y) n Γ p L j =
-    then-ok (execute T C rt y n Γ) _ j λ d M i k.
+    then-ok (execute T C rt false y n Γ) _ j λ d M i k.
     needs-ok (eqb (d .mark) 0) _ _ _ k λ q k1.
     ok-is (λ p L. p ≡ 0) k1 refl
 

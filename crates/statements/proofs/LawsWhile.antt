@@ -1,5 +1,6 @@
--- While: condition, its sort, block; it may always go on. Assumes nothing.
+-- While: condition, its sort, block, and the mark by the condition and by where it stands. Assumes nothing.
 use mathlib.Core.Path.{_≡_, sym, subst, _∙_}
+use mathlib.Core.Bool.{Bool}
 use mathlib.Core.List.{List}
 use Prim.Native.Nat.{ℕ, _+_, _*_, _≤_, _<_}
 use native.Mathlib.Omega.{arith}
@@ -10,19 +11,20 @@ use Rattle.oat.specs.Syntax.{sizeStmt}
 use Rattle.oat.specs.Nodes.{BlockStands}
 use Rattle.typing_rules.specs.Judge.{execute}
 use Rattle.file_sections.specs.declared.Sections.{Sections}
-use Rattle.file_sections.specs.Layout.{tablesOf}
+use Rattle.file_sections.specs.Layout.{Has, tablesOf}
 use Rattle.answers.specs.declared.answer.Judgement.the-variants.{Typed, Refused}
 use Rattle.answers.specs.declared.answer.Judged.{Judged}
 use Rattle.answers.specs.Answers.{withRow, AnswerIs}
-use Rattle.expressions.specs.Contract.{accepts, Ready, Told}
+use Rattle.expressions.specs.Contract.{Ready, Told}
 use Rattle.expressions.proofs.LawsMeets.{Untyped, Unrefused, stops, passes, goes-on, part-of, child-no, child-ok}
 use Rattle.expressions.proofs.LawsAfter.{ready, typing-of, after-append}
+use Rattle.expressions.proofs.LawsChild.{has-node}
 use Rattle.expressions.proofs.LawsLabels.{expr-long, expr-closed}
-use Rattle.simple_statements.specs.Contract.{marked, AnswersStmt, ReadyStmt, ToldStmt}
+use Rattle.simple_statements.specs.Contract.{marked, MarksWhile, AnswersStmt, ReadyStmt, ToldStmt}
 use Rattle.simple_statements.proofs.LawsLabels.{on-while}
-use Rattle.simple_statements.proofs.LawsMarks.{mark-fits, rule-left}
+use Rattle.simple_statements.proofs.LawsMarks.{mark-fits}
 use Rattle.statements.specs.Contract.{ReadyBlock, ToldBlock}
-use Rattle.statements.proofs.LawsParts.{part-no, retell-block}
+use Rattle.statements.proofs.LawsParts.{part-no, marked-row, retell-block}
 use Rattle.statements.proofs.LawsBlock.{ready-block}
 
 module _ {F : List ℕ} {S : Sections} {X R W K : List ℕ} {base n s : ℕ} (g : ReadyStmt F S X R W K base n s) (kind : nodeAt (tablesOf F S) n .kind ≡ 38) where
@@ -31,17 +33,21 @@ module _ {F : List ℕ} {S : Sections} {X R W K : List ℕ} {base n s : ℕ} (g 
       on-while (λ z. s + sizeStmt z ≤ S .«built_ins» + S .nodes → Ready F S X R W K base (n + 1) s) (λ a b h l. ready (n + 1) a (g .fine) (h .1) (omega arith)) kind
       (g .tree) (g .stands) (g .room)
 
+  -- for `while_mark`
+  pub while-test : Has F S (n + 1) (S .nodes)
+  while-test = has-node (while-first .fine .good-tables) (while-first .within)
+
   module _ {R₁ W₁ K₁ : List ℕ} {r₁ : Judged} (m₁ : Told F S X R W base (n + 1) s R₁ W₁ K₁ r₁) where
-    pub while-no : {rt : ℕ} → Untyped r₁ → ToldStmt F S X R W base rt n s R₁ W₁ K₁ r₁
+    pub while-no : {rt : ℕ} {last : Bool} → Untyped r₁ → ToldStmt F S X R W base rt last n s R₁ W₁ K₁ r₁
     unfolding execute
-    while-no {rt} u = record { tells = on-while (AnswersStmt F S X R W base rt n s R₁ W₁ K₁ r₁) (λ a b h. child-no _ _ u (m₁ .tells a (h .1))) kind }
+    while-no {rt} {last} u = record { tells = on-while (AnswersStmt F S X R W base rt last n s R₁ W₁ K₁ r₁) (λ a b h. child-no _ _ u (m₁ .tells a (h .1))) kind }
 
     module _ {t k₁ : ℕ} (y₁ : r₁ .judgement ≡ Typed t) (e₁ : k₁ ≡ typeAt (tablesOf F S) t .kind) where
-      pub while-sort : {rt : ℕ} {r : Judged} → (k₁ ≡ 1 → ⊥) → r .judgement ≡ Refused 10 n → ToldStmt F S X R W base rt n s R₁ W₁ K₁ r
+      pub while-sort : {rt : ℕ} {last : Bool} {r : Judged} → (k₁ ≡ 1 → ⊥) → r .judgement ≡ Refused 10 n → ToldStmt F S X R W base rt last n s R₁ W₁ K₁ r
       unfolding execute
-      while-sort {rt} {r} f e =
+      while-sort {rt} {last} {r} f e =
           record {
-            tells = on-while (AnswersStmt F S X R W base rt n s R₁ W₁ K₁ r)
+            tells = on-while (AnswersStmt F S X R W base rt last n s R₁ W₁ K₁ r)
                 (λ a b h. child-ok _ _ t y₁ (m₁ .tells a (h .1)) λ L q p. stops _ 10 n _ (ne-eqb _ _ (λ i. f (e₁ ∙ i))) e) kind;
           }
 
@@ -54,11 +60,11 @@ module _ {F : List ℕ} {S : Sections} {X R W K : List ℕ} {base n s : ℕ} (g 
           (g .tree) (g .stands) (g .room)
 
       module _ (z₁ : k₁ ≡ 1) {rt : ℕ} {R₂ W₂ K₂ : List ℕ} {r₂ : Judged} (m₂ : ToldBlock F S X R₁ W₁ base rt (r₁ .at .node) s R₂ W₂ K₂ r₂) where
-        pub while-no-2 : {p q : ℕ} → r₂ .judgement ≡ Refused p q → ToldStmt F S X R W base rt n s R₂ W₂ K₂ r₂
+        pub while-no-2 : {last : Bool} {p q : ℕ} → r₂ .judgement ≡ Refused p q → ToldStmt F S X R W base rt last n s R₂ W₂ K₂ r₂
         unfolding execute
-        while-no-2 e =
+        while-no-2 {last} e =
             record {
-              tells = on-while (AnswersStmt F S X R W base rt n s R₂ W₂ K₂ r₂)
+              tells = on-while (AnswersStmt F S X R W base rt last n s R₂ W₂ K₂ r₂)
                   (λ a b h.
                   child-ok _ _ t y₁ (m₁ .tells a (h .1)) λ L q p.
                   passes _ 10 n _ (eq-eqb _ _ (sym e₁ ∙ z₁))
@@ -66,25 +72,24 @@ module _ {F : List ℕ} {S : Sections} {X R W K : List ℕ} {base n s : ℕ} (g 
             }
 
         module _ (u : Unrefused r₂) where
-          pub while-ends : (n * 2 + 1 < length R₂) × (n < 65536) × (0 ≤ 1)
-          while-ends =
-              on-while (λ z. (n * 2 + 1 < length R₂) × (n < 65536) × (0 ≤ 1))
+          pub while-ends : {m : ℕ} → m ≤ 1 → (n * 2 + 1 < length R₂) × (n < 65536) × (m ≤ 1)
+          while-ends {m} most =
+              on-while (λ z. (n * 2 + 1 < length R₂) × (n < 65536) × (m ≤ 1))
               (λ a b h.
               let (L, q, p) = typing-of _ (m₁ .tells a (h .1)) y₁ in
               let (i, M, q₂, d) = part-of _ (retell-block (p .after .same) (g .fine .above) (p .next) m₂ b (h .2)) u in
-              mark-fits (d .after .fine) (g .within) (omega arith)) kind (g .tree) (g .stands)
+              mark-fits (d .after .fine) (g .within) most) kind (g .tree) (g .stands)
 
-          pub while-ok : {r : Judged} {R′ : List ℕ} → AnswerIs (marked 0) (r₂ .at .node) s r → R′ ≡ withRow R₂ n 0 65535
-              → ToldStmt F S X R W base rt n s R′ W₂ K₂ r
+          pub while-ok : {last : Bool} {m : ℕ} {r : Judged} {R′ : List ℕ} → MarksWhile F S (n + 1) last m → AnswerIs (marked m) (r₂ .at .node) s r → R′ ≡ withRow R₂ n m 65535
+              → ToldStmt F S X R W base rt last n s R′ W₂ K₂ r
           unfolding execute
-          while-ok {r} {R′} er eR =
+          while-ok {last} {m} {r} {R′} em er eR =
               record {
-                tells = on-while (AnswersStmt F S X R W base rt n s R′ W₂ K₂ r)
+                tells = on-while (AnswersStmt F S X R W base rt last n s R′ W₂ K₂ r)
                     (λ a b h.
                     child-ok _ _ t y₁ (m₁ .tells a (h .1)) λ L q p.
                     passes _ 10 n _ (eq-eqb _ _ (sym e₁ ∙ z₁))
                     (goes-on _ _ u (retell-block (p .after .same) (g .fine .above) (p .next) m₂ b (h .2)) λ i M q₂ d.
-                    accepts _ _
-                    (rule-left (g .within) (after-append (expr-long _ _ a (n + 1) _ t L q) (expr-closed _ _ a (n + 1) _ t L q) (p .after) (d .after))
-                    er (d .next ∙ omega arith) (omega arith) eR))) kind;
+                    marked-row (g .within) (after-append (expr-long _ _ a (n + 1) _ t L q) (expr-closed _ _ a (n + 1) _ t L q) (p .after) (d .after))
+                    (em .tells a (h .1)) (d .next ∙ omega arith) (omega arith) er eR)) kind;
               }

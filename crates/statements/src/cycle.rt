@@ -17,6 +17,7 @@ use file_sections::records::type_a;
 use file_sections::records::type_kind;
 use simple_statements::marks::ends;
 use simple_statements::marks::mark_of;
+use simple_statements::marks::while_mark;
 use simple_statements::marks::with_mark;
 use simple_statements::simple::assignment;
 use simple_statements::simple::call_statement;
@@ -30,10 +31,10 @@ ghost use mathlib.Core.Path.{_≡_};
 ghost use Prim.Native.Nat.{_<_};
 ghost use Rattle.oat.specs.Tables.{nodeAt};
 ghost use Rattle.file_sections.specs.Layout.{tablesOf};
-ghost use Rattle.simple_statements.specs.Contract.{ReadyStmt, ToldStmt};
+ghost use Rattle.simple_statements.specs.Contract.{ReadyStmt, ToldStmt, ToldAnywhere};
 ghost use Rattle.statements.specs.Contract.{ReadyBlock, ToldBlock, ReadyStmts, ToldStmts, ReadyArms, ToldArms, ReadyStep, ToldStep, ReadyTurn, ToldTurn};
 
-// The statement at `node`.
+// The statement at `node`, which may be the last of its block.
 fn statement(
     file: &[u8],
     frame: Frame,
@@ -42,9 +43,10 @@ fn statement(
     work: &mut [u16],
     chains: &mut Chains,
     at: At,
+    last: bool,
 ) -> Judged
     requires { ⌜ ReadyStmt (now file) (frame .sections) (now index) (now rows) (now work) (now chains) (frame .base) (at .node) (at .scope) × ((frame .result) < (frame .sections) .types) ⌝ }
-    ensures { λ r. ⌜ ToldStmt (now (file .entry)) (frame .sections) (now (index .entry)) (now (rows .entry)) (now (work .entry)) (frame .base) (frame .result) (at .node) (at .scope) (now (rows .exit)) (now (work .exit)) (now (chains .exit)) r ⌝ }
+    ensures { λ r. ⌜ ToldStmt (now (file .entry)) (frame .sections) (now (index .entry)) (now (rows .entry)) (now (work .entry)) (frame .base) (frame .result) last (at .node) (at .scope) (now (rows .exit)) (now (work .exit)) (now (chains .exit)) r ⌝ }
 {
     match node_kind(file, frame.sections, at.node) {
         30 => assignment(file, frame, index, rows, work, chains, at),
@@ -55,7 +57,7 @@ fn statement(
         35 => if_else(file, frame, index, rows, work, chains, at),
         36 => if_null(file, frame, index, rows, work, chains, at),
         37 => for_loop(file, frame, index, rows, work, chains, at),
-        _ => while_loop(file, frame, index, rows, work, chains, at),
+        _ => while_loop(file, frame, index, rows, work, chains, at, last),
     }
 }
 
@@ -75,20 +77,21 @@ fn statements(
     ensures { λ r. ⌜ ToldStmts (now (file .entry)) (frame .sections) (now (index .entry)) (now (rows .entry)) (now (work .entry)) (frame .base) (frame .result) (at .node) (at .scope) count parent (now (rows .exit)) (now (work .exit)) (now (chains .exit)) r ⌝ }
 {
     let mut here = at;
-    let mut last = parent;
+    let mut previous = parent;
     let mut mark = 0;
     let mut i = 0;
     while i < count {
         if mark != 0 {
-            return refused(14, last, here);
+            return refused(14, previous, here);
         }
-        let one = statement(file, frame, index, rows, work, chains, here);
+        let last = i + 1 == count;
+        let one = statement(file, frame, index, rows, work, chains, here, last);
         let judgement = one.judgement;
         if let Judgement::Refused(_, _) = judgement {
             return one;
         }
         mark = mark_of(judgement);
-        last = here.node;
+        previous = here.node;
         here = one.at;
         i += 1;
     }
@@ -200,7 +203,7 @@ fn if_else(
 ) -> Judged
     requires { ⌜ ReadyStmt (now file) (frame .sections) (now index) (now rows) (now work) (now chains) (frame .base) (at .node) (at .scope) × ((frame .result) < (frame .sections) .types) ⌝ }
     requires { ⌜ nodeAt (tablesOf (now file) (frame .sections)) (at .node) .kind ≡ 35 ⌝ }
-    ensures { λ r. ⌜ ToldStmt (now (file .entry)) (frame .sections) (now (index .entry)) (now (rows .entry)) (now (work .entry)) (frame .base) (frame .result) (at .node) (at .scope) (now (rows .exit)) (now (work .exit)) (now (chains .exit)) r ⌝ }
+    ensures { λ r. ⌜ ToldAnywhere (now (file .entry)) (frame .sections) (now (index .entry)) (now (rows .entry)) (now (work .entry)) (frame .base) (frame .result) (at .node) (at .scope) (now (rows .exit)) (now (work .exit)) (now (chains .exit)) r ⌝ }
 {
     let one = expression(
         file,
@@ -261,7 +264,7 @@ fn if_null(
 ) -> Judged
     requires { ⌜ ReadyStmt (now file) (frame .sections) (now index) (now rows) (now work) (now chains) (frame .base) (at .node) (at .scope) × ((frame .result) < (frame .sections) .types) ⌝ }
     requires { ⌜ nodeAt (tablesOf (now file) (frame .sections)) (at .node) .kind ≡ 36 ⌝ }
-    ensures { λ r. ⌜ ToldStmt (now (file .entry)) (frame .sections) (now (index .entry)) (now (rows .entry)) (now (work .entry)) (frame .base) (frame .result) (at .node) (at .scope) (now (rows .exit)) (now (work .exit)) (now (chains .exit)) r ⌝ }
+    ensures { λ r. ⌜ ToldAnywhere (now (file .entry)) (frame .sections) (now (index .entry)) (now (rows .entry)) (now (work .entry)) (frame .base) (frame .result) (at .node) (at .scope) (now (rows .exit)) (now (work .exit)) (now (chains .exit)) r ⌝ }
 {
     let one = expression(
         file,
@@ -333,7 +336,7 @@ fn for_loop(
 ) -> Judged
     requires { ⌜ ReadyStmt (now file) (frame .sections) (now index) (now rows) (now work) (now chains) (frame .base) (at .node) (at .scope) × ((frame .result) < (frame .sections) .types) ⌝ }
     requires { ⌜ nodeAt (tablesOf (now file) (frame .sections)) (at .node) .kind ≡ 37 ⌝ }
-    ensures { λ r. ⌜ ToldStmt (now (file .entry)) (frame .sections) (now (index .entry)) (now (rows .entry)) (now (work .entry)) (frame .base) (frame .result) (at .node) (at .scope) (now (rows .exit)) (now (work .exit)) (now (chains .exit)) r ⌝ }
+    ensures { λ r. ⌜ ToldAnywhere (now (file .entry)) (frame .sections) (now (index .entry)) (now (rows .entry)) (now (work .entry)) (frame .base) (frame .result) (at .node) (at .scope) (now (rows .exit)) (now (work .exit)) (now (chains .exit)) r ⌝ }
 {
     let one = variables(
         file,
@@ -430,7 +433,7 @@ fn turn(
     )
 }
 
-// The step of a for, or 40: a returning one breaks at itself, and what it binds is gone.
+// The step of a for, or 40: a returning one breaks at itself, and what it binds is gone. It is not the last of a block.
 fn step(
     file: &[u8],
     frame: Frame,
@@ -454,7 +457,7 @@ fn step(
             },
         );
     }
-    let one = statement(file, frame, index, rows, work, chains, at);
+    let one = statement(file, frame, index, rows, work, chains, at, false);
     let judgement = one.judgement;
     if let Judgement::Refused(_, _) = judgement {
         return one;
@@ -469,7 +472,7 @@ fn step(
     })
 }
 
-// While: condition, its sort, block. It may always go on.
+// While: condition, its sort, block. The mark is 1 where it never ends and is the last of its block.
 fn while_loop(
     file: &[u8],
     frame: Frame,
@@ -478,11 +481,13 @@ fn while_loop(
     work: &mut [u16],
     chains: &mut Chains,
     at: At,
+    last: bool,
 ) -> Judged
     requires { ⌜ ReadyStmt (now file) (frame .sections) (now index) (now rows) (now work) (now chains) (frame .base) (at .node) (at .scope) × ((frame .result) < (frame .sections) .types) ⌝ }
     requires { ⌜ nodeAt (tablesOf (now file) (frame .sections)) (at .node) .kind ≡ 38 ⌝ }
-    ensures { λ r. ⌜ ToldStmt (now (file .entry)) (frame .sections) (now (index .entry)) (now (rows .entry)) (now (work .entry)) (frame .base) (frame .result) (at .node) (at .scope) (now (rows .exit)) (now (work .exit)) (now (chains .exit)) r ⌝ }
+    ensures { λ r. ⌜ ToldStmt (now (file .entry)) (frame .sections) (now (index .entry)) (now (rows .entry)) (now (work .entry)) (frame .base) (frame .result) last (at .node) (at .scope) (now (rows .exit)) (now (work .exit)) (now (chains .exit)) r ⌝ }
 {
+    let test = at.node + 1;
     let one = expression(
         file,
         frame,
@@ -490,10 +495,7 @@ fn while_loop(
         rows,
         work,
         chains,
-        At {
-            node: at.node + 1,
-            ..at
-        },
+        At { node: test, ..at },
     );
     let first = one.judgement;
     let Judgement::Typed(t) = first else {
@@ -518,10 +520,11 @@ fn while_loop(
     if let Judgement::Refused(_, _) = second {
         return two;
     }
+    let mark = while_mark(file, frame.sections, test, last);
     ends(
         rows,
         at.node,
-        0,
+        mark,
         At {
             scope: at.scope,
             ..two.at

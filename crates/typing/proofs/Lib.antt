@@ -1,4 +1,5 @@
 pub mod Blank
+pub mod Endless
 pub mod LawsRuns
 pub mod LawsCounts
 pub mod LawsAnswers

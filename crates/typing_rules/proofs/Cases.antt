@@ -86,6 +86,54 @@ program-accepted-3 = record {
     fields = ([]);
     structs = ([]);
     builtIns = ([]);
+    nodes = (nd 2 10 12 1 ∷ nd 39 0 0 2 ∷ nd 37 0 0 3 ∷ nd 40 0 0 0 ∷ nd 38 0 0 2 ∷ nd 11 0 0 0 ∷ nd 39 0 0 0 ∷ nd 39 0 0 0
+        ∷ nd 33 0 0 0 ∷ []);
+  };
+  declarations = (function 10 12 ([]) (block (then (for noVar noCondition (step (while (literal truth) (block empty))) (block
+      empty)) (then returnVoid empty))) ∷ []);
+}
+
+pub accepted-3 : Answers program-accepted-3 0 2 0 (1 ∷ 65535 ∷ 1 ∷ 65535 ∷ 0 ∷ 65535 ∷ 0 ∷ 65535 ∷ 0 ∷ 65535 ∷ 1 ∷ 65535 ∷ 0
+    ∷ 65535 ∷ 0 ∷ 65535 ∷ 1 ∷ 65535 ∷ [])
+unfolding program-accepted-3 computed isFile
+accepted-3 = record { file = is-file widest program-accepted-3 refl; answer = refl }
+
+pub program-accepted-4 : Program
+program-accepted-4 = record {
+  tables = record {
+    types = (ty 0 0 0 0 ∷ ty 1 0 0 0 ∷ ty 2 0 0 0 ∷ ty 3 0 0 0 ∷ ty 4 1 0 0 ∷ ty 4 2 0 0 ∷ ty 4 3 0 0 ∷ ty 7 4 0 0 ∷ ty 7 5 0 0
+        ∷ ty 5 4 0 0 ∷ ty 5 5 0 0 ∷ ty 5 0 0 0 ∷ ty 6 3 0 0 ∷ ty 6 0 0 0 ∷ ty 6 0 0 1 ∷ ty 4 9 0 0 ∷ ty 7 15 0 0 ∷ ty 5 15 0 0
+        ∷ ty 6 3 1 1 ∷ ty 7 2 0 0 ∷ ty 5 2 0 0 ∷ ty 5 0 0 0 ∷ ty 4 1 0 0 ∷ ty 5 7 0 0 ∷ ty 7 11 0 0 ∷ ty 6 5 2 1 ∷ ty 6 4 3 1
+        ∷ ty 5 1 0 0 ∷ ty 6 3 4 2 ∷ ty 5 11 0 0 ∷ ty 7 13 0 0 ∷ ty 6 15 6 0 ∷ ty 6 17 6 1 ∷ ty 7 17 0 0 ∷ ty 6 21 7 0
+        ∷ ty 6 21 7 1 ∷ ty 6 11 8 1 ∷ ty 6 3 9 1 ∷ ty 6 3 10 2 ∷ ty 6 3 12 2 ∷ []);
+    list = (0 ∷ 15 ∷ 4 ∷ 5 ∷ 0 ∷ 1 ∷ 17 ∷ 21 ∷ 22 ∷ 7 ∷ 0 ∷ 0 ∷ 4 ∷ 4 ∷ []);
+    fields = ([]);
+    structs = ([]);
+    builtIns = ([]);
+    nodes = (nd 2 10 12 1 ∷ nd 39 0 0 2 ∷ nd 37 0 0 3 ∷ nd 40 0 0 0 ∷ nd 38 0 0 2 ∷ nd 12 0 0 0 ∷ nd 39 0 0 1 ∷ nd 38 0 0 2
+        ∷ nd 11 0 0 0 ∷ nd 39 0 0 0 ∷ nd 39 0 0 0 ∷ nd 33 0 0 0 ∷ []);
+  };
+  declarations = (function 10 12 ([]) (block (then (for noVar noCondition (step (while (literal falsity) (block (then (while
+      (literal truth) (block empty)) empty)))) (block empty)) (then returnVoid empty))) ∷ []);
+}
+
+pub accepted-4 : Answers program-accepted-4 0 2 0 (1 ∷ 65535 ∷ 1 ∷ 65535 ∷ 0 ∷ 65535 ∷ 0 ∷ 65535 ∷ 0 ∷ 65535 ∷ 1 ∷ 65535 ∷ 1
+    ∷ 65535 ∷ 1 ∷ 65535 ∷ 1 ∷ 65535 ∷ 0 ∷ 65535 ∷ 0 ∷ 65535 ∷ 1 ∷ 65535 ∷ [])
+unfolding program-accepted-4 computed isFile
+accepted-4 = record { file = is-file widest program-accepted-4 refl; answer = refl }
+
+pub program-accepted-5 : Program
+program-accepted-5 = record {
+  tables = record {
+    types = (ty 0 0 0 0 ∷ ty 1 0 0 0 ∷ ty 2 0 0 0 ∷ ty 3 0 0 0 ∷ ty 4 1 0 0 ∷ ty 4 2 0 0 ∷ ty 4 3 0 0 ∷ ty 7 4 0 0 ∷ ty 7 5 0 0
+        ∷ ty 5 4 0 0 ∷ ty 5 5 0 0 ∷ ty 5 0 0 0 ∷ ty 6 3 0 0 ∷ ty 6 0 0 0 ∷ ty 6 0 0 1 ∷ ty 4 9 0 0 ∷ ty 7 15 0 0 ∷ ty 5 15 0 0
+        ∷ ty 6 3 1 1 ∷ ty 7 2 0 0 ∷ ty 5 2 0 0 ∷ ty 5 0 0 0 ∷ ty 4 1 0 0 ∷ ty 5 7 0 0 ∷ ty 7 11 0 0 ∷ ty 6 5 2 1 ∷ ty 6 4 3 1
+        ∷ ty 5 1 0 0 ∷ ty 6 3 4 2 ∷ ty 5 11 0 0 ∷ ty 7 13 0 0 ∷ ty 6 15 6 0 ∷ ty 6 17 6 1 ∷ ty 7 17 0 0 ∷ ty 6 21 7 0
+        ∷ ty 6 21 7 1 ∷ ty 6 11 8 1 ∷ ty 6 3 9 1 ∷ ty 6 3 10 2 ∷ ty 6 3 12 2 ∷ []);
+    list = (0 ∷ 15 ∷ 4 ∷ 5 ∷ 0 ∷ 1 ∷ 17 ∷ 21 ∷ 22 ∷ 7 ∷ 0 ∷ 0 ∷ 4 ∷ 4 ∷ []);
+    fields = ([]);
+    structs = ([]);
+    builtIns = ([]);
     nodes = (nd 2 10 12 1 ∷ nd 39 0 0 2 ∷ nd 37 0 0 4 ∷ nd 31 20 0 1 ∷ nd 13 1 0 0 ∷ nd 26 6 0 2 ∷ nd 15 20 0 0 ∷ nd 13 9 0 0
         ∷ nd 30 0 0 2 ∷ nd 15 20 0 0 ∷ nd 26 1 0 2 ∷ nd 15 20 0 0 ∷ nd 13 1 0 0 ∷ nd 39 0 0 1 ∷ nd 31 21 0 1 ∷ nd 15 20 0 0
         ∷ nd 33 0 0 0 ∷ []);
@@ -95,34 +143,42 @@ program-accepted-3 = record {
       (name 20)) empty))) (then returnVoid empty))) ∷ []);
 }
 
-pub accepted-3 : Answers program-accepted-3 0 2 0 (1 ∷ 65535 ∷ 1 ∷ 65535 ∷ 0 ∷ 65535 ∷ 0 ∷ 65535 ∷ 0 ∷ 65535 ∷ 1 ∷ 65535 ∷ 0 ∷ 3
+pub accepted-5 : Answers program-accepted-5 0 2 0 (1 ∷ 65535 ∷ 1 ∷ 65535 ∷ 0 ∷ 65535 ∷ 0 ∷ 65535 ∷ 0 ∷ 65535 ∷ 1 ∷ 65535 ∷ 0 ∷ 3
     ∷ 0 ∷ 65535 ∷ 0 ∷ 65535 ∷ 0 ∷ 3 ∷ 0 ∷ 65535 ∷ 0 ∷ 3 ∷ 0 ∷ 65535 ∷ 0 ∷ 65535 ∷ 0 ∷ 65535 ∷ 0 ∷ 3 ∷ 1 ∷ 65535 ∷ [])
-unfolding program-accepted-3 computed isFile
-accepted-3 = record { file = is-file widest program-accepted-3 refl; answer = refl }
+unfolding program-accepted-5 computed isFile
+accepted-5 = record { file = is-file widest program-accepted-5 refl; answer = refl }
 
-pub program-accepted-4 : Program
-program-accepted-4 = record {
+pub program-accepted-6 : Program
+program-accepted-6 = record {
   tables = record {
-    types = (ty 0 0 0 0 ∷ ty 1 0 0 0 ∷ ty 2 0 0 0 ∷ ty 3 0 0 0 ∷ ty 4 0 0 0 ∷ ty 7 4 0 0 ∷ ty 6 3 0 0 ∷ ty 6 3 0 1 ∷ ty 6 3 1 2
+    types = (ty 0 0 0 0 ∷ ty 1 0 0 0 ∷ ty 2 0 0 0 ∷ ty 3 0 0 0 ∷ ty 6 3 0 0 ∷ ty 6 3 0 1 ∷ ty 6 0 1 0 ∷ ty 6 0 1 1 ∷ ty 7 2 0 0
         ∷ []);
-    list = (0 ∷ 0 ∷ 0 ∷ []);
-    fields = (fd 65535 0 ∷ []);
-    structs = (st 0 0 1 ∷ []);
-    builtIns = ([]);
-    nodes = (nd 2 10 8 3 ∷ nd 3 20 0 0 ∷ nd 3 21 0 0 ∷ nd 39 0 0 2 ∷ nd 31 30 0 1 ∷ nd 13 1 0 0 ∷ nd 33 0 0 0 ∷ nd 1 40 0 1
-        ∷ nd 21 0 4 1 ∷ nd 22 65535 0 1 ∷ nd 13 1 0 0 ∷ []);
+    list = (1 ∷ 1 ∷ []);
+    fields = ([]);
+    structs = ([]);
+    builtIns = (bi 50 4 ∷ []);
+    nodes = (nd 1 40 0 1 ∷ nd 11 0 0 0 ∷ nd 1 41 0 1 ∷ nd 13 1 0 0 ∷ nd 2 10 4 1 ∷ nd 39 0 0 1 ∷ nd 35 0 0 3 ∷ nd 11 0 0 0
+        ∷ nd 39 0 0 1 ∷ nd 38 0 0 2 ∷ nd 11 0 0 0 ∷ nd 39 0 0 3 ∷ nd 34 0 0 1 ∷ nd 15 50 0 0 ∷ nd 38 0 0 2 ∷ nd 11 0 0 0
+        ∷ nd 39 0 0 1 ∷ nd 33 0 0 0 ∷ nd 36 100 2 3 ∷ nd 10 0 8 0 ∷ nd 39 0 0 3 ∷ nd 31 101 0 1 ∷ nd 13 1 0 0 ∷ nd 30 0 0 2
+        ∷ nd 15 41 0 0 ∷ nd 13 2 0 0 ∷ nd 30 0 0 2 ∷ nd 15 41 0 0 ∷ nd 13 2 0 0 ∷ nd 39 0 0 1 ∷ nd 38 0 0 2 ∷ nd 11 0 0 0
+        ∷ nd 39 0 0 0 ∷ nd 39 0 0 1 ∷ nd 33 0 0 0 ∷ []);
   };
-  declarations = (function 10 8 (20 ∷ 21 ∷ []) (block (then (var 30 (literal (integer 1))) (then returnVoid empty))) ∷ global 40
-      (structLiteral 4 (init 65535 (literal (integer 1)) noInit)) ∷ []);
+  declarations = (global 40 (literal truth) ∷ global 41 (literal (integer 1)) ∷ function 10 4 ([]) (block (then (ifElse (literal
+      truth) (block (then (while (literal truth) (block (then (callStmt (name 50) none) (then (while (literal truth) (block (then
+      returnVoid empty))) (then (ifNull 100 2 (null 8) (block (then (var 101 (literal (integer 1))) (then (assign (nameTarget 41)
+      (literal (integer 2))) (then (assign (nameTarget 41) (literal (integer 2))) empty)))) (block (then (while (literal truth)
+      (block empty)) empty))) empty))))) empty)) (block (then returnVoid empty))) empty)) ∷ []);
 }
 
-pub accepted-4 : Answers program-accepted-4 0 5 0 (1 ∷ 65535 ∷ 0 ∷ 65535 ∷ 0 ∷ 65535 ∷ 1 ∷ 65535 ∷ 0 ∷ 65535 ∷ 0 ∷ 65535 ∷ 1
-    ∷ 65535 ∷ 4 ∷ 65535 ∷ 4 ∷ 65535 ∷ 0 ∷ 65535 ∷ 0 ∷ 65535 ∷ [])
-unfolding program-accepted-4 computed isFile
-accepted-4 = record { file = is-file widest program-accepted-4 refl; answer = refl }
+pub accepted-6 : Answers program-accepted-6 0 5 0 (1 ∷ 65535 ∷ 1 ∷ 65535 ∷ 0 ∷ 65535 ∷ 0 ∷ 65535 ∷ 1 ∷ 65535 ∷ 1 ∷ 65535 ∷ 1
+    ∷ 65535 ∷ 1 ∷ 65535 ∷ 1 ∷ 65535 ∷ 1 ∷ 65535 ∷ 1 ∷ 65535 ∷ 0 ∷ 65535 ∷ 0 ∷ 65535 ∷ 4 ∷ 40000 ∷ 0 ∷ 65535 ∷ 1 ∷ 65535 ∷ 1
+    ∷ 65535 ∷ 1 ∷ 65535 ∷ 0 ∷ 65535 ∷ 8 ∷ 65535 ∷ 0 ∷ 65535 ∷ 0 ∷ 65535 ∷ 0 ∷ 65535 ∷ 0 ∷ 65535 ∷ 0 ∷ 2 ∷ 0 ∷ 65535 ∷ 0 ∷ 65535
+    ∷ 0 ∷ 2 ∷ 0 ∷ 65535 ∷ 1 ∷ 65535 ∷ 1 ∷ 65535 ∷ 1 ∷ 65535 ∷ 0 ∷ 65535 ∷ 1 ∷ 65535 ∷ 1 ∷ 65535 ∷ [])
+unfolding program-accepted-6 computed isFile
+accepted-6 = record { file = is-file widest program-accepted-6 refl; answer = refl }
 
-pub program-accepted-5 : Program
-program-accepted-5 = record {
+pub program-accepted-7 : Program
+program-accepted-7 = record {
   tables = record {
     types = (ty 0 0 0 0 ∷ ty 1 0 0 0 ∷ ty 2 0 0 0 ∷ ty 3 0 0 0 ∷ ty 4 0 0 0 ∷ ty 4 1 0 0 ∷ ty 4 77 0 0 ∷ ty 5 0 0 0 ∷ ty 5 4 0 0
         ∷ ty 5 2 0 0 ∷ ty 7 4 0 0 ∷ ty 7 6 0 0 ∷ ty 5 6 0 0 ∷ ty 6 3 0 0 ∷ ty 6 0 0 1 ∷ ty 6 3 1 1 ∷ ty 6 5 2 0 ∷ ty 7 6 0 0
@@ -153,18 +209,18 @@ program-accepted-5 = record {
       empty)) empty)))) empty)) (block empty)) (then returnVoid empty))))) ∷ global 40 (name 20) ∷ []);
 }
 
-pub accepted-5 : Answers program-accepted-5 0 10 0 (1 ∷ 65535 ∷ 1 ∷ 65535 ∷ 0 ∷ 65535 ∷ 13 ∷ 66 ∷ 13 ∷ 0 ∷ 0 ∷ 65535 ∷ 13 ∷ 66 ∷ 0
+pub accepted-7 : Answers program-accepted-7 0 10 0 (1 ∷ 65535 ∷ 1 ∷ 65535 ∷ 0 ∷ 65535 ∷ 13 ∷ 66 ∷ 13 ∷ 0 ∷ 0 ∷ 65535 ∷ 13 ∷ 66 ∷ 0
     ∷ 65535 ∷ 19 ∷ 65535 ∷ 0 ∷ 65535 ∷ 0 ∷ 65535 ∷ 1 ∷ 65535 ∷ 0 ∷ 65535 ∷ 0 ∷ 65535 ∷ 0 ∷ 65535 ∷ 0 ∷ 65535 ∷ 14 ∷ 40001 ∷ 0
     ∷ 65535 ∷ 0 ∷ 65535 ∷ 0 ∷ 65535 ∷ 0 ∷ 65535 ∷ 1 ∷ 65535 ∷ 1 ∷ 65535 ∷ 0 ∷ 65535 ∷ 0 ∷ 65535 ∷ 16 ∷ 7 ∷ 16 ∷ 7 ∷ 0 ∷ 65535 ∷ 20
     ∷ 65535 ∷ 0 ∷ 65535 ∷ 0 ∷ 65535 ∷ 27 ∷ 65535 ∷ 2 ∷ 65535 ∷ 2 ∷ 65535 ∷ 0 ∷ 65535 ∷ 27 ∷ 30 ∷ 1 ∷ 65535 ∷ 1 ∷ 65535 ∷ 0 ∷ 65535
     ∷ 19 ∷ 65535 ∷ 0 ∷ 65535 ∷ 0 ∷ 65535 ∷ 13 ∷ 66 ∷ 0 ∷ 65535 ∷ 16 ∷ 7 ∷ 16 ∷ 7 ∷ 0 ∷ 65535 ∷ 13 ∷ 66 ∷ 13 ∷ 0 ∷ 0 ∷ 65535 ∷ 0
     ∷ 65535 ∷ 13 ∷ 66 ∷ 13 ∷ 66 ∷ 0 ∷ 65535 ∷ 16 ∷ 7 ∷ 16 ∷ 7 ∷ 0 ∷ 65535 ∷ 1 ∷ 65535 ∷ 1 ∷ 65535 ∷ 9 ∷ 65535 ∷ 9 ∷ 65535 ∷ 1
     ∷ 65535 ∷ 0 ∷ 65535 ∷ 0 ∷ 65535 ∷ 0 ∷ 65535 ∷ 1 ∷ 65535 ∷ 13 ∷ 65535 ∷ 13 ∷ 0 ∷ [])
-unfolding program-accepted-5 computed isFile
-accepted-5 = record { file = is-file widest program-accepted-5 refl; answer = refl }
+unfolding program-accepted-7 computed isFile
+accepted-7 = record { file = is-file widest program-accepted-7 refl; answer = refl }
 
-pub program-accepted-6 : Program
-program-accepted-6 = record {
+pub program-accepted-8 : Program
+program-accepted-8 = record {
   tables = record {
     types = (ty 0 0 0 0 ∷ ty 1 0 0 0 ∷ ty 2 0 0 0 ∷ ty 3 0 0 0 ∷ ty 4 0 0 0 ∷ ty 4 1 0 0 ∷ ty 4 2 0 0 ∷ ty 4 3 0 0 ∷ ty 4 77 0 0
         ∷ ty 5 0 0 0 ∷ ty 5 4 0 0 ∷ ty 5 2 0 0 ∷ ty 7 4 0 0 ∷ ty 7 8 0 0 ∷ ty 5 8 0 0 ∷ ty 6 3 0 0 ∷ ty 6 0 0 1 ∷ ty 6 3 1 1
@@ -193,18 +249,18 @@ program-accepted-6 = record {
       116) (also (literal (integer 17726)) none)) none)))) empty)))) ∷ []);
 }
 
-pub accepted-6 : Answers program-accepted-6 0 12 0 (1 ∷ 65535 ∷ 0 ∷ 65535 ∷ 1 ∷ 65535 ∷ 0 ∷ 65535 ∷ 12 ∷ 65535 ∷ 0 ∷ 65535 ∷ 0
+pub accepted-8 : Answers program-accepted-8 0 12 0 (1 ∷ 65535 ∷ 0 ∷ 65535 ∷ 1 ∷ 65535 ∷ 0 ∷ 65535 ∷ 12 ∷ 65535 ∷ 0 ∷ 65535 ∷ 0
     ∷ 65535 ∷ 0 ∷ 65535 ∷ 15 ∷ 40000 ∷ 0 ∷ 65535 ∷ 15 ∷ 40000 ∷ 0 ∷ 65535 ∷ 12 ∷ 65535 ∷ 0 ∷ 65535 ∷ 0 ∷ 65535 ∷ 12 ∷ 65535 ∷ 1
     ∷ 65535 ∷ 0 ∷ 65535 ∷ 7 ∷ 11 ∷ 1 ∷ 65535 ∷ 0 ∷ 65535 ∷ 0 ∷ 65535 ∷ 0 ∷ 65535 ∷ 0 ∷ 65535 ∷ 0 ∷ 65535 ∷ 0 ∷ 65535 ∷ 0 ∷ 65535
     ∷ 0 ∷ 65535 ∷ 0 ∷ 65535 ∷ 0 ∷ 65535 ∷ 0 ∷ 65535 ∷ 0 ∷ 65535 ∷ 0 ∷ 65535 ∷ 1 ∷ 65535 ∷ 19 ∷ 65535 ∷ 1 ∷ 65535 ∷ 1 ∷ 65535 ∷ 1
     ∷ 65535 ∷ 1 ∷ 65535 ∷ 10 ∷ 65535 ∷ 10 ∷ 65535 ∷ 4 ∷ 65535 ∷ 10 ∷ 65535 ∷ 10 ∷ 65535 ∷ 1 ∷ 65535 ∷ 1 ∷ 65535 ∷ 19 ∷ 65535 ∷ 10
     ∷ 65535 ∷ 10 ∷ 65535 ∷ 1 ∷ 65535 ∷ 1 ∷ 65535 ∷ 0 ∷ 1 ∷ 0 ∷ 65535 ∷ 0 ∷ 65535 ∷ 18 ∷ 65535 ∷ 1 ∷ 65535 ∷ 0 ∷ 65535 ∷ 0 ∷ 65535
     ∷ 16 ∷ 0 ∷ 0 ∷ 65535 ∷ 16 ∷ 40001 ∷ 0 ∷ 65535 ∷ [])
-unfolding program-accepted-6 computed isFile
-accepted-6 = record { file = is-file widest program-accepted-6 refl; answer = refl }
+unfolding program-accepted-8 computed isFile
+accepted-8 = record { file = is-file widest program-accepted-8 refl; answer = refl }
 
-pub program-accepted-7 : Program
-program-accepted-7 = record {
+pub program-accepted-9 : Program
+program-accepted-9 = record {
   tables = record {
     types = (ty 0 0 0 0 ∷ ty 1 0 0 0 ∷ ty 2 0 0 0 ∷ ty 3 0 0 0 ∷ ty 4 1 0 0 ∷ ty 4 2 0 0 ∷ ty 4 3 0 0 ∷ ty 7 4 0 0 ∷ ty 7 5 0 0
         ∷ ty 5 4 0 0 ∷ ty 5 5 0 0 ∷ ty 5 0 0 0 ∷ ty 6 3 0 0 ∷ ty 6 0 0 0 ∷ ty 6 0 0 1 ∷ ty 4 9 0 0 ∷ ty 7 15 0 0 ∷ ty 5 15 0 0
@@ -239,7 +295,7 @@ program-accepted-7 = record {
       ∷ []);
 }
 
-pub accepted-7 : Answers program-accepted-7 0 14 0 (23 ∷ 65535 ∷ 23 ∷ 65535 ∷ 7 ∷ 65535 ∷ 5 ∷ 65535 ∷ 0 ∷ 65535 ∷ 0 ∷ 65535 ∷ 0
+pub accepted-9 : Answers program-accepted-9 0 14 0 (23 ∷ 65535 ∷ 23 ∷ 65535 ∷ 7 ∷ 65535 ∷ 5 ∷ 65535 ∷ 0 ∷ 65535 ∷ 0 ∷ 65535 ∷ 0
     ∷ 65535 ∷ 0 ∷ 65535 ∷ 0 ∷ 65535 ∷ 0 ∷ 65535 ∷ 2 ∷ 65535 ∷ 2 ∷ 65535 ∷ 23 ∷ 65535 ∷ 23 ∷ 0 ∷ 1 ∷ 65535 ∷ 22 ∷ 65535 ∷ 1 ∷ 65535
     ∷ 0 ∷ 65535 ∷ 21 ∷ 65535 ∷ 0 ∷ 65535 ∷ 0 ∷ 65535 ∷ 0 ∷ 65535 ∷ 21 ∷ 17 ∷ 0 ∷ 65535 ∷ 0 ∷ 65535 ∷ 0 ∷ 65535 ∷ 22 ∷ 15 ∷ 0
     ∷ 65535 ∷ 0 ∷ 65535 ∷ 22 ∷ 15 ∷ 0 ∷ 65535 ∷ 21 ∷ 17 ∷ 0 ∷ 65535 ∷ 28 ∷ 40000 ∷ 0 ∷ 65535 ∷ 1 ∷ 65535 ∷ 1 ∷ 65535 ∷ 1 ∷ 65535
@@ -247,11 +303,11 @@ pub accepted-7 : Answers program-accepted-7 0 14 0 (23 ∷ 65535 ∷ 23 ∷ 6553
     ∷ 65535 ∷ 23 ∷ 0 ∷ 0 ∷ 65535 ∷ 0 ∷ 65535 ∷ 0 ∷ 65535 ∷ 22 ∷ 15 ∷ 4 ∷ 48 ∷ 0 ∷ 65535 ∷ 0 ∷ 65535 ∷ 0 ∷ 65535 ∷ 0 ∷ 65535 ∷ 0
     ∷ 65535 ∷ 0 ∷ 65535 ∷ 0 ∷ 65535 ∷ 0 ∷ 65535 ∷ 0 ∷ 58 ∷ 0 ∷ 65535 ∷ 0 ∷ 58 ∷ 0 ∷ 65535 ∷ 0 ∷ 65535 ∷ 1 ∷ 65535 ∷ 0 ∷ 65535 ∷ 1
     ∷ 65535 ∷ 11 ∷ 65535 ∷ 0 ∷ 65535 ∷ 0 ∷ 72 ∷ 1 ∷ 65535 ∷ 1 ∷ 65535 ∷ 1 ∷ 65535 ∷ [])
-unfolding program-accepted-7 computed isFile
-accepted-7 = record { file = is-file widest program-accepted-7 refl; answer = refl }
+unfolding program-accepted-9 computed isFile
+accepted-9 = record { file = is-file widest program-accepted-9 refl; answer = refl }
 
-pub program-accepted-8 : Program
-program-accepted-8 = record {
+pub program-accepted-10 : Program
+program-accepted-10 = record {
   tables = record {
     types = (ty 0 0 0 0 ∷ ty 1 0 0 0 ∷ ty 2 0 0 0 ∷ ty 3 0 0 0 ∷ ty 4 0 0 0 ∷ ty 4 1 0 0 ∷ ty 4 2 0 0 ∷ ty 4 77 0 0 ∷ ty 5 0 0 0
         ∷ ty 5 4 0 0 ∷ ty 5 2 0 0 ∷ ty 7 4 0 0 ∷ ty 7 7 0 0 ∷ ty 5 7 0 0 ∷ ty 6 3 0 0 ∷ ty 6 0 0 1 ∷ ty 6 3 1 1 ∷ ty 6 15 2 2
@@ -287,7 +343,7 @@ program-accepted-8 = record {
       (returnValue (literal (integer 46586))) empty))) ∷ function 21 14 ([]) (block (then returnVoid empty)) ∷ []);
 }
 
-pub accepted-8 : Answers program-accepted-8 0 18 0 (29 ∷ 65535 ∷ 29 ∷ 65535 ∷ 2 ∷ 65535 ∷ 2 ∷ 65535 ∷ 1 ∷ 65535 ∷ 0 ∷ 65535 ∷ 1
+pub accepted-10 : Answers program-accepted-10 0 18 0 (29 ∷ 65535 ∷ 29 ∷ 65535 ∷ 2 ∷ 65535 ∷ 2 ∷ 65535 ∷ 1 ∷ 65535 ∷ 0 ∷ 65535 ∷ 1
     ∷ 65535 ∷ 0 ∷ 65535 ∷ 19 ∷ 65535 ∷ 0 ∷ 65535 ∷ 0 ∷ 65535 ∷ 25 ∷ 65535 ∷ 0 ∷ 65535 ∷ 0 ∷ 65535 ∷ 15 ∷ 4 ∷ 0 ∷ 5 ∷ 0 ∷ 65535
     ∷ 15 ∷ 40001 ∷ 0 ∷ 65535 ∷ 5 ∷ 65535 ∷ 0 ∷ 65535 ∷ 1 ∷ 65535 ∷ 0 ∷ 5 ∷ 0 ∷ 65535 ∷ 0 ∷ 65535 ∷ 0 ∷ 5 ∷ 0 ∷ 65535 ∷ 0 ∷ 65535
     ∷ 1 ∷ 65535 ∷ 1 ∷ 65535 ∷ 1 ∷ 65535 ∷ 1 ∷ 65535 ∷ 0 ∷ 65535 ∷ 0 ∷ 65535 ∷ 0 ∷ 65535 ∷ 0 ∷ 65535 ∷ 1 ∷ 65535 ∷ 4 ∷ 65535 ∷ 6
@@ -296,8 +352,8 @@ pub accepted-8 : Answers program-accepted-8 0 18 0 (29 ∷ 65535 ∷ 29 ∷ 6553
     ∷ 65535 ∷ 0 ∷ 65535 ∷ 19 ∷ 65535 ∷ 0 ∷ 65535 ∷ 24 ∷ 40005 ∷ 6 ∷ 65535 ∷ 25 ∷ 10 ∷ 0 ∷ 65535 ∷ 15 ∷ 40001 ∷ 0 ∷ 65535 ∷ 0
     ∷ 65535 ∷ 0 ∷ 5 ∷ 29 ∷ 65535 ∷ 2 ∷ 65535 ∷ 2 ∷ 65535 ∷ 21 ∷ 65535 ∷ 22 ∷ 40004 ∷ 15 ∷ 40001 ∷ 0 ∷ 65535 ∷ 0 ∷ 65535 ∷ 1
     ∷ 65535 ∷ 0 ∷ 65535 ∷ 1 ∷ 65535 ∷ 1 ∷ 65535 ∷ 1 ∷ 65535 ∷ [])
-unfolding program-accepted-8 computed isFile
-accepted-8 = record { file = is-file widest program-accepted-8 refl; answer = refl }
+unfolding program-accepted-10 computed isFile
+accepted-10 = record { file = is-file widest program-accepted-10 refl; answer = refl }
 
 pub program-refused-7-1 : Program
 program-refused-7-1 = record {
@@ -817,15 +873,14 @@ program-refused-10-4 = record {
     fields = ([]);
     structs = ([]);
     builtIns = ([]);
-    nodes = (nd 2 10 12 1 ∷ nd 39 0 0 2 ∷ nd 38 0 0 2 ∷ nd 13 1 0 0 ∷ nd 39 0 0 1 ∷ nd 31 20 0 1 ∷ nd 15 99 0 0 ∷ nd 33 0 0 0
-        ∷ []);
+    nodes = (nd 2 10 12 1 ∷ nd 39 0 0 1 ∷ nd 38 0 0 2 ∷ nd 13 1 0 0 ∷ nd 39 0 0 2 ∷ nd 33 0 0 0 ∷ nd 33 0 0 0 ∷ []);
   };
-  declarations = (function 10 12 ([]) (block (then (while (literal (integer 1)) (block (then (var 20 (name 99)) empty))) (then
-      returnVoid empty))) ∷ []);
+  declarations = (function 10 12 ([]) (block (then (while (literal (integer 1)) (block (then returnVoid (then returnVoid empty))))
+      empty)) ∷ []);
 }
 
 pub refused-10-4 : Answers program-refused-10-4 10 1 2 (65535 ∷ 65535 ∷ 65535 ∷ 65535 ∷ 65535 ∷ 65535 ∷ 65535 ∷ 65535 ∷ 65535
-    ∷ 65535 ∷ 65535 ∷ 65535 ∷ 65535 ∷ 65535 ∷ 65535 ∷ 65535 ∷ [])
+    ∷ 65535 ∷ 65535 ∷ 65535 ∷ 65535 ∷ 65535 ∷ [])
 unfolding program-refused-10-4 computed isFile
 refused-10-4 = record { file = is-file widest program-refused-10-4 refl; answer = refl }
 
@@ -1518,24 +1573,165 @@ refused-14-3 = record { file = is-file widest program-refused-14-3 refl; answer 
 pub program-refused-14-4 : Program
 program-refused-14-4 = record {
   tables = record {
-    types = (ty 0 0 0 0 ∷ ty 1 0 0 0 ∷ ty 2 0 0 0 ∷ ty 3 0 0 0 ∷ ty 4 0 0 0 ∷ ty 4 1 0 0 ∷ ty 4 2 0 0 ∷ ty 4 3 0 0 ∷ ty 4 77 0 0
-        ∷ ty 5 0 0 0 ∷ ty 5 4 0 0 ∷ ty 5 2 0 0 ∷ ty 7 4 0 0 ∷ ty 7 8 0 0 ∷ ty 5 8 0 0 ∷ ty 6 3 0 0 ∷ ty 6 0 0 1 ∷ ty 6 3 1 1
-        ∷ ty 5 1 0 0 ∷ ty 5 7 0 0 ∷ ty 6 2 2 3 ∷ ty 5 8 0 0 ∷ ty 7 5 0 0 ∷ ty 7 19 0 0 ∷ []);
-    list = (0 ∷ 8 ∷ 4 ∷ 0 ∷ 13 ∷ []);
-    fields = (fd 10 9 ∷ fd 1 12 ∷ fd 10 9 ∷ fd 1 12 ∷ fd 2 19 ∷ fd 3 0 ∷ fd 10 9 ∷ fd 1 12 ∷ fd 2 16 ∷ fd 3 4 ∷ []);
-    structs = (st 0 0 0 ∷ st 1 0 2 ∷ st 2 2 4 ∷ st 3 6 4 ∷ []);
-    builtIns = (bi 115 15 ∷ bi 116 16 ∷ []);
-    nodes = (nd 2 20 16 2 ∷ nd 3 60 0 0 ∷ nd 39 0 0 0 ∷ []);
+    types = (ty 0 0 0 0 ∷ ty 1 0 0 0 ∷ ty 2 0 0 0 ∷ ty 3 0 0 0 ∷ ty 6 3 0 0 ∷ ty 6 3 0 1 ∷ ty 6 0 1 0 ∷ ty 6 0 1 1 ∷ ty 7 2 0 0
+        ∷ []);
+    list = (1 ∷ 1 ∷ []);
+    fields = ([]);
+    structs = ([]);
+    builtIns = (bi 50 4 ∷ []);
+    nodes = (nd 1 40 0 1 ∷ nd 11 0 0 0 ∷ nd 1 41 0 1 ∷ nd 13 1 0 0 ∷ nd 2 10 5 2 ∷ nd 3 20 0 0 ∷ nd 39 0 0 0 ∷ []);
   };
-  declarations = (function 20 16 (60 ∷ []) (block empty) ∷ []);
+  declarations = (global 40 (literal truth) ∷ global 41 (literal (integer 1)) ∷ function 10 5 (20 ∷ []) (block empty) ∷ []);
 }
 
-pub refused-14-4 : Answers program-refused-14-4 14 11 0 (65535 ∷ 65535 ∷ 65535 ∷ 65535 ∷ 65535 ∷ 65535 ∷ [])
+pub refused-14-4 : Answers program-refused-14-4 14 4 4 (65535 ∷ 65535 ∷ 65535 ∷ 65535 ∷ 65535 ∷ 65535 ∷ 65535 ∷ 65535 ∷ 65535
+    ∷ 65535 ∷ 65535 ∷ 65535 ∷ 65535 ∷ 65535 ∷ [])
 unfolding program-refused-14-4 computed isFile
 refused-14-4 = record { file = is-file widest program-refused-14-4 refl; answer = refl }
 
 pub program-refused-14-5 : Program
 program-refused-14-5 = record {
+  tables = record {
+    types = (ty 0 0 0 0 ∷ ty 1 0 0 0 ∷ ty 2 0 0 0 ∷ ty 3 0 0 0 ∷ ty 6 3 0 0 ∷ ty 6 3 0 1 ∷ ty 6 0 1 0 ∷ ty 6 0 1 1 ∷ ty 7 2 0 0
+        ∷ []);
+    list = (1 ∷ 1 ∷ []);
+    fields = ([]);
+    structs = ([]);
+    builtIns = (bi 50 4 ∷ []);
+    nodes = (nd 1 40 0 1 ∷ nd 11 0 0 0 ∷ nd 1 41 0 1 ∷ nd 13 1 0 0 ∷ nd 2 10 4 1 ∷ nd 39 0 0 1 ∷ nd 38 0 0 2 ∷ nd 12 0 0 0
+        ∷ nd 39 0 0 3 ∷ nd 38 0 0 2 ∷ nd 15 40 0 0 ∷ nd 39 0 0 1 ∷ nd 38 0 0 2 ∷ nd 11 0 0 0 ∷ nd 39 0 0 0 ∷ nd 30 0 0 2
+        ∷ nd 15 41 0 0 ∷ nd 13 2 0 0 ∷ nd 30 0 0 2 ∷ nd 15 41 0 0 ∷ nd 13 2 0 0 ∷ []);
+  };
+  declarations = (global 40 (literal truth) ∷ global 41 (literal (integer 1)) ∷ function 10 4 ([]) (block (then (while (literal
+      falsity) (block (then (while (name 40) (block (then (while (literal truth) (block empty)) empty))) (then (assign (nameTarget
+      41) (literal (integer 2))) (then (assign (nameTarget 41) (literal (integer 2))) empty))))) empty)) ∷ []);
+}
+
+pub refused-14-5 : Answers program-refused-14-5 14 4 4 (65535 ∷ 65535 ∷ 65535 ∷ 65535 ∷ 65535 ∷ 65535 ∷ 65535 ∷ 65535 ∷ 65535
+    ∷ 65535 ∷ 65535 ∷ 65535 ∷ 65535 ∷ 65535 ∷ 65535 ∷ 65535 ∷ 65535 ∷ 65535 ∷ 65535 ∷ 65535 ∷ 65535 ∷ 65535 ∷ 65535 ∷ 65535
+    ∷ 65535 ∷ 65535 ∷ 65535 ∷ 65535 ∷ 65535 ∷ 65535 ∷ 65535 ∷ 65535 ∷ 65535 ∷ 65535 ∷ 65535 ∷ 65535 ∷ 65535 ∷ 65535 ∷ 65535
+    ∷ 65535 ∷ 65535 ∷ 65535 ∷ [])
+unfolding program-refused-14-5 computed isFile
+refused-14-5 = record { file = is-file widest program-refused-14-5 refl; answer = refl }
+
+pub program-refused-14-6 : Program
+program-refused-14-6 = record {
+  tables = record {
+    types = (ty 0 0 0 0 ∷ ty 1 0 0 0 ∷ ty 2 0 0 0 ∷ ty 3 0 0 0 ∷ ty 6 3 0 0 ∷ ty 6 3 0 1 ∷ ty 6 0 1 0 ∷ ty 6 0 1 1 ∷ ty 7 2 0 0
+        ∷ []);
+    list = (1 ∷ 1 ∷ []);
+    fields = ([]);
+    structs = ([]);
+    builtIns = (bi 50 4 ∷ []);
+    nodes = (nd 1 40 0 1 ∷ nd 11 0 0 0 ∷ nd 1 41 0 1 ∷ nd 13 1 0 0 ∷ nd 2 10 6 1 ∷ nd 39 0 0 2 ∷ nd 32 0 0 1 ∷ nd 13 1 0 0
+        ∷ nd 37 0 0 3 ∷ nd 11 0 0 0 ∷ nd 40 0 0 0 ∷ nd 39 0 0 1 ∷ nd 36 100 2 3 ∷ nd 10 0 8 0 ∷ nd 39 0 0 1 ∷ nd 36 100 2 3
+        ∷ nd 10 0 8 0 ∷ nd 39 0 0 2 ∷ nd 37 0 0 3 ∷ nd 40 0 0 0 ∷ nd 36 100 2 3 ∷ nd 10 0 8 0 ∷ nd 39 0 0 1 ∷ nd 38 0 0 2
+        ∷ nd 11 0 0 0 ∷ nd 39 0 0 0 ∷ nd 39 0 0 2 ∷ nd 34 0 0 1 ∷ nd 15 50 0 0 ∷ nd 34 0 0 1 ∷ nd 15 50 0 0 ∷ nd 39 0 0 3
+        ∷ nd 30 0 0 2 ∷ nd 15 41 0 0 ∷ nd 13 2 0 0 ∷ nd 34 0 0 1 ∷ nd 15 50 0 0 ∷ nd 31 101 0 1 ∷ nd 13 1 0 0 ∷ nd 32 0 0 1
+        ∷ nd 13 1 0 0 ∷ nd 39 0 0 2 ∷ nd 30 0 0 2 ∷ nd 15 41 0 0 ∷ nd 13 2 0 0 ∷ nd 32 0 0 1 ∷ nd 13 1 0 0 ∷ nd 39 0 0 1
+        ∷ nd 38 0 0 2 ∷ nd 11 0 0 0 ∷ nd 39 0 0 0 ∷ []);
+  };
+  declarations = (global 40 (literal truth) ∷ global 41 (literal (integer 1)) ∷ function 10 6 ([]) (block (then (returnValue
+      (literal (integer 1))) (then (for noVar (condition (literal truth)) noStep (block (then (ifNull 100 2 (null 8) (block (then
+      (ifNull 100 2 (null 8) (block (then (for noVar noCondition (step (ifNull 100 2 (null 8) (block (then (while (literal truth)
+      (block empty)) empty)) (block (then (callStmt (name 50) none) (then (callStmt (name 50) none) empty))))) (block (then
+      (assign (nameTarget 41) (literal (integer 2))) (then (callStmt (name 50) none) (then (var 101 (literal (integer 1)))
+      empty))))) (then (returnValue (literal (integer 1))) empty))) (block (then (assign (nameTarget 41) (literal (integer 2)))
+      (then (returnValue (literal (integer 1))) empty)))) empty)) (block (then (while (literal truth) (block empty)) empty)))
+      empty))) empty))) ∷ []);
+}
+
+pub refused-14-6 : Answers program-refused-14-6 14 4 6 (65535 ∷ 65535 ∷ 65535 ∷ 65535 ∷ 65535 ∷ 65535 ∷ 65535 ∷ 65535 ∷ 65535
+    ∷ 65535 ∷ 65535 ∷ 65535 ∷ 65535 ∷ 65535 ∷ 65535 ∷ 65535 ∷ 65535 ∷ 65535 ∷ 65535 ∷ 65535 ∷ 65535 ∷ 65535 ∷ 65535 ∷ 65535
+    ∷ 65535 ∷ 65535 ∷ 65535 ∷ 65535 ∷ 65535 ∷ 65535 ∷ 65535 ∷ 65535 ∷ 65535 ∷ 65535 ∷ 65535 ∷ 65535 ∷ 65535 ∷ 65535 ∷ 65535
+    ∷ 65535 ∷ 65535 ∷ 65535 ∷ 65535 ∷ 65535 ∷ 65535 ∷ 65535 ∷ 65535 ∷ 65535 ∷ 65535 ∷ 65535 ∷ 65535 ∷ 65535 ∷ 65535 ∷ 65535
+    ∷ 65535 ∷ 65535 ∷ 65535 ∷ 65535 ∷ 65535 ∷ 65535 ∷ 65535 ∷ 65535 ∷ 65535 ∷ 65535 ∷ 65535 ∷ 65535 ∷ 65535 ∷ 65535 ∷ 65535
+    ∷ 65535 ∷ 65535 ∷ 65535 ∷ 65535 ∷ 65535 ∷ 65535 ∷ 65535 ∷ 65535 ∷ 65535 ∷ 65535 ∷ 65535 ∷ 65535 ∷ 65535 ∷ 65535 ∷ 65535
+    ∷ 65535 ∷ 65535 ∷ 65535 ∷ 65535 ∷ 65535 ∷ 65535 ∷ 65535 ∷ 65535 ∷ 65535 ∷ 65535 ∷ 65535 ∷ 65535 ∷ 65535 ∷ 65535 ∷ 65535
+    ∷ 65535 ∷ 65535 ∷ 65535 ∷ [])
+unfolding program-refused-14-6 computed isFile
+refused-14-6 = record { file = is-file widest program-refused-14-6 refl; answer = refl }
+
+pub program-refused-14-7 : Program
+program-refused-14-7 = record {
+  tables = record {
+    types = (ty 0 0 0 0 ∷ ty 1 0 0 0 ∷ ty 2 0 0 0 ∷ ty 3 0 0 0 ∷ ty 6 3 0 0 ∷ ty 6 3 0 1 ∷ ty 6 0 1 0 ∷ ty 6 0 1 1 ∷ ty 7 2 0 0
+        ∷ []);
+    list = (1 ∷ 1 ∷ []);
+    fields = ([]);
+    structs = ([]);
+    builtIns = (bi 50 4 ∷ []);
+    nodes = (nd 1 40 0 1 ∷ nd 11 0 0 0 ∷ nd 1 41 0 1 ∷ nd 13 1 0 0 ∷ nd 2 10 6 1 ∷ nd 39 0 0 2 ∷ nd 35 0 0 3 ∷ nd 11 0 0 0
+        ∷ nd 39 0 0 1 ∷ nd 32 0 0 1 ∷ nd 13 1 0 0 ∷ nd 39 0 0 2 ∷ nd 35 0 0 3 ∷ nd 11 0 0 0 ∷ nd 39 0 0 1 ∷ nd 38 0 0 2
+        ∷ nd 11 0 0 0 ∷ nd 39 0 0 0 ∷ nd 39 0 0 1 ∷ nd 38 0 0 2 ∷ nd 11 0 0 0 ∷ nd 39 0 0 0 ∷ nd 32 0 0 1 ∷ nd 13 1 0 0
+        ∷ nd 32 0 0 1 ∷ nd 13 1 0 0 ∷ []);
+  };
+  declarations = (global 40 (literal truth) ∷ global 41 (literal (integer 1)) ∷ function 10 6 ([]) (block (then (ifElse (literal
+      truth) (block (then (returnValue (literal (integer 1))) empty)) (block (then (ifElse (literal truth) (block (then (while
+      (literal truth) (block empty)) empty)) (block (then (while (literal truth) (block empty)) empty))) (then (returnValue
+      (literal (integer 1))) empty)))) (then (returnValue (literal (integer 1))) empty))) ∷ []);
+}
+
+pub refused-14-7 : Answers program-refused-14-7 14 4 12 (65535 ∷ 65535 ∷ 65535 ∷ 65535 ∷ 65535 ∷ 65535 ∷ 65535 ∷ 65535 ∷ 65535
+    ∷ 65535 ∷ 65535 ∷ 65535 ∷ 65535 ∷ 65535 ∷ 65535 ∷ 65535 ∷ 65535 ∷ 65535 ∷ 65535 ∷ 65535 ∷ 65535 ∷ 65535 ∷ 65535 ∷ 65535
+    ∷ 65535 ∷ 65535 ∷ 65535 ∷ 65535 ∷ 65535 ∷ 65535 ∷ 65535 ∷ 65535 ∷ 65535 ∷ 65535 ∷ 65535 ∷ 65535 ∷ 65535 ∷ 65535 ∷ 65535
+    ∷ 65535 ∷ 65535 ∷ 65535 ∷ 65535 ∷ 65535 ∷ 65535 ∷ 65535 ∷ 65535 ∷ 65535 ∷ 65535 ∷ 65535 ∷ 65535 ∷ 65535 ∷ [])
+unfolding program-refused-14-7 computed isFile
+refused-14-7 = record { file = is-file widest program-refused-14-7 refl; answer = refl }
+
+pub program-refused-14-8 : Program
+program-refused-14-8 = record {
+  tables = record {
+    types = (ty 0 0 0 0 ∷ ty 1 0 0 0 ∷ ty 2 0 0 0 ∷ ty 3 0 0 0 ∷ ty 6 3 0 0 ∷ ty 6 3 0 1 ∷ ty 6 0 1 0 ∷ ty 6 0 1 1 ∷ ty 7 2 0 0
+        ∷ []);
+    list = (1 ∷ 1 ∷ []);
+    fields = ([]);
+    structs = ([]);
+    builtIns = (bi 50 4 ∷ []);
+    nodes = (nd 1 40 0 1 ∷ nd 11 0 0 0 ∷ nd 1 41 0 1 ∷ nd 13 1 0 0 ∷ nd 2 10 5 2 ∷ nd 3 20 0 0 ∷ nd 39 0 0 4 ∷ nd 38 0 0 2
+        ∷ nd 11 0 0 0 ∷ nd 39 0 0 0 ∷ nd 38 0 0 2 ∷ nd 11 0 0 0 ∷ nd 39 0 0 3 ∷ nd 31 101 0 1 ∷ nd 13 1 0 0 ∷ nd 33 0 0 0
+        ∷ nd 33 0 0 0 ∷ nd 38 0 0 2 ∷ nd 11 0 0 0 ∷ nd 39 0 0 0 ∷ nd 38 0 0 2 ∷ nd 11 0 0 0 ∷ nd 39 0 0 0 ∷ []);
+  };
+  declarations = (global 40 (literal truth) ∷ global 41 (literal (integer 1)) ∷ function 10 5 (20 ∷ []) (block (then (while
+      (literal truth) (block empty)) (then (while (literal truth) (block (then (var 101 (literal (integer 1))) (then returnVoid
+      (then returnVoid empty))))) (then (while (literal truth) (block empty)) (then (while (literal truth) (block empty))
+      empty))))) ∷ []);
+}
+
+pub refused-14-8 : Answers program-refused-14-8 14 4 15 (65535 ∷ 65535 ∷ 65535 ∷ 65535 ∷ 65535 ∷ 65535 ∷ 65535 ∷ 65535 ∷ 65535
+    ∷ 65535 ∷ 65535 ∷ 65535 ∷ 65535 ∷ 65535 ∷ 65535 ∷ 65535 ∷ 65535 ∷ 65535 ∷ 65535 ∷ 65535 ∷ 65535 ∷ 65535 ∷ 65535 ∷ 65535
+    ∷ 65535 ∷ 65535 ∷ 65535 ∷ 65535 ∷ 65535 ∷ 65535 ∷ 65535 ∷ 65535 ∷ 65535 ∷ 65535 ∷ 65535 ∷ 65535 ∷ 65535 ∷ 65535 ∷ 65535
+    ∷ 65535 ∷ 65535 ∷ 65535 ∷ 65535 ∷ 65535 ∷ 65535 ∷ 65535 ∷ [])
+unfolding program-refused-14-8 computed isFile
+refused-14-8 = record { file = is-file widest program-refused-14-8 refl; answer = refl }
+
+pub program-refused-14-9 : Program
+program-refused-14-9 = record {
+  tables = record {
+    types = (ty 0 0 0 0 ∷ ty 1 0 0 0 ∷ ty 2 0 0 0 ∷ ty 3 0 0 0 ∷ ty 6 3 0 0 ∷ ty 6 3 0 1 ∷ ty 6 0 1 0 ∷ ty 6 0 1 1 ∷ ty 7 2 0 0
+        ∷ []);
+    list = (1 ∷ 1 ∷ []);
+    fields = ([]);
+    structs = ([]);
+    builtIns = (bi 50 4 ∷ []);
+    nodes = (nd 1 40 0 1 ∷ nd 11 0 0 0 ∷ nd 1 41 0 1 ∷ nd 13 1 0 0 ∷ nd 2 10 4 1 ∷ nd 39 0 0 3 ∷ nd 30 0 0 2 ∷ nd 15 41 0 0
+        ∷ nd 13 2 0 0 ∷ nd 36 100 2 3 ∷ nd 10 0 8 0 ∷ nd 39 0 0 1 ∷ nd 38 0 0 2 ∷ nd 11 0 0 0 ∷ nd 39 0 0 0 ∷ nd 39 0 0 1
+        ∷ nd 33 0 0 0 ∷ nd 33 0 0 0 ∷ nd 2 11 5 2 ∷ nd 3 20 0 0 ∷ nd 39 0 0 0 ∷ []);
+  };
+  declarations = (global 40 (literal truth) ∷ global 41 (literal (integer 1)) ∷ function 10 4 ([]) (block (then (assign
+      (nameTarget 41) (literal (integer 2))) (then (ifNull 100 2 (null 8) (block (then (while (literal truth) (block empty))
+      empty)) (block (then returnVoid empty))) (then returnVoid empty)))) ∷ function 11 5 (20 ∷ []) (block empty) ∷ []);
+}
+
+pub refused-14-9 : Answers program-refused-14-9 14 5 9 (65535 ∷ 65535 ∷ 65535 ∷ 65535 ∷ 65535 ∷ 65535 ∷ 65535 ∷ 65535 ∷ 65535
+    ∷ 65535 ∷ 65535 ∷ 65535 ∷ 65535 ∷ 65535 ∷ 65535 ∷ 65535 ∷ 65535 ∷ 65535 ∷ 65535 ∷ 65535 ∷ 65535 ∷ 65535 ∷ 65535 ∷ 65535
+    ∷ 65535 ∷ 65535 ∷ 65535 ∷ 65535 ∷ 65535 ∷ 65535 ∷ 65535 ∷ 65535 ∷ 65535 ∷ 65535 ∷ 65535 ∷ 65535 ∷ 65535 ∷ 65535 ∷ 65535
+    ∷ 65535 ∷ 65535 ∷ 65535 ∷ [])
+unfolding program-refused-14-9 computed isFile
+refused-14-9 = record { file = is-file widest program-refused-14-9 refl; answer = refl }
+
+pub program-refused-14-10 : Program
+program-refused-14-10 = record {
   tables = record {
     types = (ty 0 0 0 0 ∷ ty 1 0 0 0 ∷ ty 2 0 0 0 ∷ ty 3 0 0 0 ∷ ty 4 0 0 0 ∷ ty 4 1 0 0 ∷ ty 4 77 0 0 ∷ ty 5 0 0 0 ∷ ty 5 4 0 0
         ∷ ty 5 2 0 0 ∷ ty 7 4 0 0 ∷ ty 7 6 0 0 ∷ ty 5 6 0 0 ∷ ty 6 3 0 0 ∷ ty 6 0 0 1 ∷ ty 6 3 1 1 ∷ ty 5 4 0 0 ∷ ty 5 8 0 0
@@ -1560,15 +1756,15 @@ program-refused-14-5 = record {
       (arrayLiteral 9 (also (literal (text 3)) none)) ∷ global 42 (structLiteral 5 (init 0 (literal (text 4)) noInit)) ∷ []);
 }
 
-pub refused-14-5 : Answers program-refused-14-5 14 12 24 (65535 ∷ 65535 ∷ 65535 ∷ 65535 ∷ 65535 ∷ 65535 ∷ 65535 ∷ 65535 ∷ 65535
+pub refused-14-10 : Answers program-refused-14-10 14 12 24 (65535 ∷ 65535 ∷ 65535 ∷ 65535 ∷ 65535 ∷ 65535 ∷ 65535 ∷ 65535 ∷ 65535
     ∷ 65535 ∷ 65535 ∷ 65535 ∷ 65535 ∷ 65535 ∷ 65535 ∷ 65535 ∷ 65535 ∷ 65535 ∷ 65535 ∷ 65535 ∷ 65535 ∷ 65535 ∷ 65535 ∷ 65535
     ∷ 65535 ∷ 65535 ∷ 65535 ∷ 65535 ∷ 65535 ∷ 65535 ∷ 65535 ∷ 65535 ∷ 65535 ∷ 65535 ∷ 65535 ∷ 65535 ∷ 65535 ∷ 65535 ∷ 65535
     ∷ 65535 ∷ 65535 ∷ 65535 ∷ 65535 ∷ 65535 ∷ 65535 ∷ 65535 ∷ 65535 ∷ 65535 ∷ 65535 ∷ 65535 ∷ 65535 ∷ 65535 ∷ 65535 ∷ 65535
     ∷ 65535 ∷ 65535 ∷ 65535 ∷ 65535 ∷ 65535 ∷ 65535 ∷ 65535 ∷ 65535 ∷ 65535 ∷ 65535 ∷ 65535 ∷ 65535 ∷ 65535 ∷ 65535 ∷ 65535
     ∷ 65535 ∷ 65535 ∷ 65535 ∷ 65535 ∷ 65535 ∷ 65535 ∷ 65535 ∷ 65535 ∷ 65535 ∷ 65535 ∷ 65535 ∷ 65535 ∷ 65535 ∷ 65535 ∷ 65535
     ∷ 65535 ∷ 65535 ∷ 65535 ∷ 65535 ∷ 65535 ∷ 65535 ∷ [])
-unfolding program-refused-14-5 computed isFile
-refused-14-5 = record { file = is-file widest program-refused-14-5 refl; answer = refl }
+unfolding program-refused-14-10 computed isFile
+refused-14-10 = record { file = is-file widest program-refused-14-10 refl; answer = refl }
 
 pub program-refused-15-1 : Program
 program-refused-15-1 = record {

@@ -1,7 +1,7 @@
 -- What has a derivation is accepted, with the derivation's labels: statements and blocks. A lemma for each shape takes what its children
 -- give; the recursion stands at the end. Assumes nothing.
 use mathlib.Core.Path.{_≡_, refl, ap, ap₂, sym, _∙_}
-use mathlib.Core.Bool.{true, false}
+use mathlib.Core.Bool.{Bool, true, false}
 use mathlib.Core.List.{List, [], _∷_, _++_}
 use Prim.Native.Nat.{ℕ, _+_, _<_}
 use native.Mathlib.Omega.{arith}
@@ -17,8 +17,8 @@ use Rattle.oat.specs.Nodes.{Stands, hasReferenceKind, VarsStand, ConditionStand
 use Rattle.oat.proofs.LawsBasics.{and-parts}
 use Rattle.typing_rules.specs.Contexts.{Scope, binds, isFresh, Context}
 use Rattle.typing_rules.specs.Labels.{gives, marks, Label, Labels, unlabelled}
-use Rattle.typing_rules.specs.Rules.{ExprRule, StmtRule, BlockRule, Typed, Marked, Ends, TypedAll, both, VarsChain, ConditionHolds, StepGoesOn, Chain, typ-assn, typ-decl, typ-rett, typ-retvoid, typ-scall, typ-if, typ-ifq, typ-while, typ-for, typ-block}
-use Rattle.typing_rules.specs.Derivations.{At, Node, expression, statement, blocked, AtVars, at-var, in-var, in-vars, AtCondition, in-condition, AtStmt, here-stmt, in-target, in-assigned, in-initial, in-returned, in-called, in-passed, in-test, in-then, in-else, in-nullable, in-some, in-null, in-for-vars, in-for-condition, in-for-step, in-for-body, in-while-test, in-while-body, AtStep, in-step, AtBlock, here-block, in-block, AtStmts, in-stmt, in-stmts, RuleAt, DerivesBlock}
+use Rattle.typing_rules.specs.Rules.{ExprRule, StmtRule, BlockRule, Typed, Marked, Ends, TypedAll, both, VarsChain, ConditionHolds, StepGoesOn, Chain, typ-assn, typ-decl, typ-rett, typ-retvoid, typ-scall, typ-if, typ-ifq, typ-while, typ-for, typ-block, whileMark}
+use Rattle.typing_rules.specs.Derivations.{At, Node, expression, statement, blocked, AtVars, at-var, in-var, in-vars, AtCondition, in-condition, InStmt, in-target, in-assigned, in-initial, in-returned, in-called, in-passed, in-test, in-then, in-else, in-nullable, in-some, in-null, in-for-vars, in-for-condition, in-for-step, in-for-body, in-while-test, in-while-body, AtStep, at-step, in-step, AtBlock, here-block, in-block, AtStmts, at-stmt, in-stmt, in-stmts, RuleAt, DerivesBlock, isEmpty}
 use Rattle.typing_rules.specs.Judge.{ok, markedAs, isKind, referred, isBelow, argumentsBelow, done, ends, executeVars, judgeCondition, execute, executeStep, executeBlock, executeAll}
 use Rattle.typing_rules.proofs.Claims.{File, Value, ScopeFits, fits-bind, ContextFits, eraseScope, eraseContext, eraseLabel, erase, gatherVars, gatherCondition, gatherStmt, gatherStep, gatherBlock, gatherStmts}
 use Rattle.typing_rules.proofs.LawsBridge.{fresh-erase, assigns-erase, is-base, is-void, function-parts, nullable-parts, below-sub, arguments-below, arguments-many, typesOf, Values, erase-append}
@@ -32,11 +32,11 @@ pub record AcceptedBlock (T : Tables) (C : Context ℕ) (D : Labels Ty) (rt : �
   pub result : D n .result ≡ marks mark
   pub same : erase T labels ≡ gatherBlock D b n
 
-pub record AcceptedStmt (T : Tables) (C : Context ℕ) (D : Labels Ty) (rt : ℕ) (s : Stmt) (n : ℕ) (Γ : Scope ℕ) : Type 0 where
+pub record AcceptedStmt (T : Tables) (C : Context ℕ) (D : Labels Ty) (rt : ℕ) (last : Bool) (s : Stmt) (n : ℕ) (Γ : Scope ℕ) : Type 0 where
   pub mark : ℕ
   pub scope : Scope ℕ
   pub labels : List (Label ℕ)
-  pub accepts : execute T C rt s n Γ ≡ ok (done mark scope) labels
+  pub accepts : execute T C rt last s n Γ ≡ ok (done mark scope) labels
   pub result : D n .result ≡ marks mark
   pub after : D n .after ≡ eraseScope T scope
   pub fits : ScopeFits T scope
@@ -48,9 +48,9 @@ pub record AcceptedStep (T : Tables) (C : Context ℕ) (D : Labels Ty) (rt : ℕ
   pub same : erase T labels ≡ gatherStep D s n
 
 -- statements after the one at `last` with the mark p; q is the mark of the last
-pub record AcceptedStmts (T : Tables) (C : Context ℕ) (D : Labels Ty) (rt : ℕ) (ss : Stmts) (n last p : ℕ) (Γ : Scope ℕ) (q : ℕ) : Type 0 where
+pub record AcceptedStmts (T : Tables) (C : Context ℕ) (D : Labels Ty) (rt : ℕ) (ss : Stmts) (n previous p : ℕ) (Γ : Scope ℕ) (q : ℕ) : Type 0 where
   pub labels : List (Label ℕ)
-  pub accepts : executeAll T C rt ss n last p Γ ≡ ok q labels
+  pub accepts : executeAll T C rt ss n previous p Γ ≡ ok q labels
   pub same : erase T labels ≡ gatherStmts D ss n
 
 -- the vars of a for, up to the scope Δ
@@ -102,10 +102,10 @@ module _ (T : Tables) where
   binds-erase Γ x t n Θ u p q = rw (p, q)
 
 -- a statement that leaves the scope as it is
-stays : (T : Tables) (C : Context ℕ) (D : Labels Ty) (rt : ℕ) (s : Stmt) (n p q : ℕ) (Γ : Scope ℕ) {L : List (Label ℕ)} {A : List (Label Ty)}
-    → ScopeFits T Γ → D n .before ≡ eraseScope T Γ → Ends D n p (D n .before) → p ≡ q → execute T C rt s n Γ ≡ ends q Γ Γ L → erase T L ≡ A
-    → D n ∷ A ≡ gatherStmt D s n → AcceptedStmt T C D rt s n Γ
-stays T C D rt s n p q Γ {L} g e k m o l a = record {
+stays : (T : Tables) (C : Context ℕ) (D : Labels Ty) (rt : ℕ) (last : Bool) (s : Stmt) (n p q : ℕ) (Γ : Scope ℕ) {L : List (Label ℕ)} {A : List (Label Ty)}
+    → ScopeFits T Γ → D n .before ≡ eraseScope T Γ → Ends D n p (D n .before) → p ≡ q → execute T C rt last s n Γ ≡ ends q Γ Γ L → erase T L ≡ A
+    → D n ∷ A ≡ gatherStmt D s n → AcceptedStmt T C D rt last s n Γ
+stays T C D rt last s n p q Γ {L} g e k m o l a = record {
   mark = q;
   scope = Γ;
   labels = markedAs q Γ Γ ∷ L;
@@ -164,22 +164,22 @@ ExprAt T C D a n Γ = D n .before ≡ eraseScope T Γ → Accepted T C D a n Γ
 abbrev BlockAt : Tables → Context ℕ → Labels Ty → ℕ → Block → ℕ → Scope ℕ → Type 0
 BlockAt T C D rt b n Γ = ScopeFits T Γ → D n .before ≡ eraseScope T Γ → AcceptedBlock T C D rt b n Γ
 
-abbrev Rule : Tables → Context ℕ → Labels Ty → ℕ → ℕ → Stmt → Type 0
-Rule T C D rt n s = StmtRule T (eraseContext T C) D (typeOf T rt) n s
+abbrev Rule : Tables → Context ℕ → Labels Ty → ℕ → Bool → ℕ → Stmt → Type 0
+Rule T C D rt last n s = StmtRule T (eraseContext T C) D (typeOf T rt) last n s
 
-module _ (T : Tables) (F : File T) (C : Context ℕ) (D : Labels Ty) (rt n : ℕ) (Γ : Scope ℕ) (g : ScopeFits T Γ) (e : D n .before ≡ eraseScope T Γ) where
-  assign-case : (h : Target) (a : Expr) → Rule T C D rt n (assign h a) → ExprAt T C D (targetExpr h) (n + 1) Γ
-      → ExprAt T C D a (n + 1 + sizeTarget h) Γ → AcceptedStmt T C D rt (assign h a) n Γ
+module _ (T : Tables) (F : File T) (C : Context ℕ) (D : Labels Ty) (rt : ℕ) (last : Bool) (n : ℕ) (Γ : Scope ℕ) (g : ScopeFits T Γ) (e : D n .before ≡ eraseScope T Γ) where
+  assign-case : (h : Target) (a : Expr) → Rule T C D rt last n (assign h a) → ExprAt T C D (targetExpr h) (n + 1) Γ
+      → ExprAt T C D a (n + 1 + sizeTarget h) Γ → AcceptedStmt T C D rt last (assign h a) n Γ
   unfolding gatherStmt
   assign-case h a (typ-assn t u z p q s k) fa fb =
       let A = fa (p .scope ∙ e) in
       let B = fb (q .scope ∙ e) in
       let to = sym (assigns-erase T C Γ h) ∙ (rw e at z) in
       let sub = is-below T F C (B .type) (A .type) u t (B .value) (A .value) (type-is q (B .result)) (type-is p (A .result)) s in
-      let o = assign-ok T C rt h a n Γ to (A .accepts) (B .accepts) sub in
-      stays T C D rt (assign h a) n 0 0 Γ g e k refl o (same-both T _ _ (A .same) (B .same)) refl
+      let o = assign-ok T C rt last h a n Γ to (A .accepts) (B .accepts) sub in
+      stays T C D rt last (assign h a) n 0 0 Γ g e k refl o (same-both T _ _ (A .same) (B .same)) refl
 
-  var-case : (x : ℕ) (a : Expr) → Rule T C D rt n (var x a) → ExprAt T C D a (n + 1) Γ → AcceptedStmt T C D rt (var x a) n Γ
+  var-case : (x : ℕ) (a : Expr) → Rule T C D rt last n (var x a) → ExprAt T C D a (n + 1) Γ → AcceptedStmt T C D rt last (var x a) n Γ
   unfolding gatherStmt
   var-case x a (typ-decl t p z k) fa =
       let A = fa (p .scope ∙ e) in
@@ -188,33 +188,33 @@ module _ (T : Tables) (F : File T) (C : Context ℕ) (D : Labels Ty) (rt n : ℕ
         mark = 0;
         scope = binds Γ x (A .type) n;
         labels = markedAs 0 Γ (binds Γ x (A .type) n) ∷ A .labels;
-        accepts = var-ok T C rt x a n Γ (A .accepts) (is-fresh T x Γ (D n .before) e z);
+        accepts = var-ok T C rt last x a n Γ (A .accepts) (is-fresh T x Γ (D n .before) e z);
         result = k .mark;
         after = k .after ∙ after;
         fits = fits-bind g (A .value);
         same = same-node T _ _ (ends-label T D n 0 0 Γ (binds Γ x (A .type) n) _ k refl e after) (A .same);
       }
 
-  return-case : (a : Expr) → rt < length (T .types) → Rule T C D rt n (returnValue a) → ExprAt T C D a (n + 1) Γ
-      → AcceptedStmt T C D rt (returnValue a) n Γ
+  return-case : (a : Expr) → rt < length (T .types) → Rule T C D rt last n (returnValue a) → ExprAt T C D a (n + 1) Γ
+      → AcceptedStmt T C D rt last (returnValue a) n Γ
   unfolding gatherStmt
   return-case a r (typ-rett t z p s k) fa =
       let A = fa (p .scope ∙ e) in
       let (kind, value) = not-void T F rt r z in
       let sub = is-below T F C (A .type) rt t (typeOf T rt) (A .value) value (type-is p (A .result)) refl s in
-      stays T C D rt (returnValue a) n 1 1 Γ g e k refl (return-ok T C rt a n Γ kind (A .accepts) sub) (A .same) refl
+      stays T C D rt last (returnValue a) n 1 1 Γ g e k refl (return-ok T C rt last a n Γ kind (A .accepts) sub) (A .same) refl
 
-  return-void-case : rt < length (T .types) → Rule T C D rt n returnVoid → AcceptedStmt T C D rt returnVoid n Γ
+  return-void-case : rt < length (T .types) → Rule T C D rt last n returnVoid → AcceptedStmt T C D rt last returnVoid n Γ
   unfolding gatherStmt erase
   return-void-case r (typ-retvoid z k) =
-      stays T C D rt returnVoid n 1 1 Γ g e k refl (return-void-ok T C rt n Γ (is-void T F rt r .1 z)) refl refl
+      stays T C D rt last returnVoid n 1 1 Γ g e k refl (return-void-ok T C rt last n Γ (is-void T F rt r .1 z)) refl refl
 
   -- arguments that have types
   abbrev ArgumentsAt : Exprs → ℕ → Type 0
   ArgumentsAt es m = (ts : Tys) → TypedAll D (eraseScope T Γ) m es ts → AcceptedAll T C D es m Γ ts
 
-  call-case : (a : Expr) (es : Exprs) → Rule T C D rt n (callStmt a es) → ExprAt T C D a (n + 1) Γ → ArgumentsAt es (n + 1 + size a)
-      → AcceptedStmt T C D rt (callStmt a es) n Γ
+  call-case : (a : Expr) (es : Exprs) → Rule T C D rt last n (callStmt a es) → ExprAt T C D a (n + 1) Γ → ArgumentsAt es (n + 1 + size a)
+      → AcceptedStmt T C D rt last (callStmt a es) n Γ
   unfolding gatherStmt
   call-case a es (typ-scall us ts p q s k) fa fb =
       let A = fa (p .scope ∙ e) in
@@ -222,11 +222,11 @@ module _ (T : Tables) (F : File T) (C : Context ℕ) (D : Labels Ty) (rt n : ℕ
       let (kind, params, returns, within) = function-parts T F (A .type) (A .value .within) us void (sym (type-is p (A .result))) in
       let returned = is-void T F (referred T (A .type)) within .1 (sym returns) in
       let (many, sub) = arguments-right T F C (A .type) (B .types) us ts (A .value) kind (B .values) params (B .written) s in
-      let o = call-ok T C rt a es n Γ (A .accepts) kind returned (B .many ∙ many) (B .accepts) sub in
-      stays T C D rt (callStmt a es) n 0 0 Γ g e k refl o (same-both T _ _ (A .same) (B .same)) refl
+      let o = call-ok T C rt last a es n Γ (A .accepts) kind returned (B .many ∙ many) (B .accepts) sub in
+      stays T C D rt last (callStmt a es) n 0 0 Γ g e k refl o (same-both T _ _ (A .same) (B .same)) refl
 
-  if-case : (a : Expr) (b c : Block) → Rule T C D rt n (ifElse a b c) → ExprAt T C D a (n + 1) Γ → BlockAt T C D rt b (n + 1 + size a) Γ
-      → BlockAt T C D rt c (n + 1 + size a + sizeBlock b) Γ → AcceptedStmt T C D rt (ifElse a b c) n Γ
+  if-case : (a : Expr) (b c : Block) → Rule T C D rt last n (ifElse a b c) → ExprAt T C D a (n + 1) Γ → BlockAt T C D rt b (n + 1 + size a) Γ
+      → BlockAt T C D rt c (n + 1 + size a + sizeBlock b) Γ → AcceptedStmt T C D rt last (ifElse a b c) n Γ
   unfolding gatherStmt
   if-case a b c (typ-if p q h i j k) fa fb fc =
       let A = fa (h .scope ∙ e) in
@@ -234,12 +234,12 @@ module _ (T : Tables) (F : File T) (C : Context ℕ) (D : Labels Ty) (rt n : ℕ
       let Y = fc g (j .scope ∙ e) in
       let test = is-bool T F (A .type) (A .value) (type-is h (A .result)) in
       let mark = ap₂ (λ (x y : ℕ). both x y) (mark-is i (X .result)) (mark-is j (Y .result)) in
-      let o = if-ok T C rt a b c n Γ (A .accepts) test (X .accepts) (Y .accepts) in
-      stays T C D rt (ifElse a b c) n (both p q) (both (X .mark) (Y .mark)) Γ g e k mark o (same-three T _ _ _ (A .same) (X .same) (Y .same)) refl
+      let o = if-ok T C rt last a b c n Γ (A .accepts) test (X .accepts) (Y .accepts) in
+      stays T C D rt last (ifElse a b c) n (both p q) (both (X .mark) (Y .mark)) Γ g e k mark o (same-three T _ _ _ (A .same) (X .same) (Y .same)) refl
 
-  if-null-case : (x t : ℕ) (a : Expr) (b c : Block) → hasReferenceKind T t ≡ true → Rule T C D rt n (ifNull x t a b c) → ExprAt T C D a (n + 1) Γ
+  if-null-case : (x t : ℕ) (a : Expr) (b c : Block) → hasReferenceKind T t ≡ true → Rule T C D rt last n (ifNull x t a b c) → ExprAt T C D a (n + 1) Γ
       → BlockAt T C D rt b (n + 1 + size a) (binds Γ x t n) → BlockAt T C D rt c (n + 1 + size a + sizeBlock b) Γ
-      → AcceptedStmt T C D rt (ifNull x t a b c) n Γ
+      → AcceptedStmt T C D rt last (ifNull x t a b c) n Γ
   unfolding gatherStmt
   if-null-case x t a b c m (typ-ifq r p q h s i j k) fa fb fc =
       let v = reference-value T t m in
@@ -249,18 +249,18 @@ module _ (T : Tables) (F : File T) (C : Context ℕ) (D : Labels Ty) (rt n : ℕ
       let (kind, refers, value) = nullable-parts T F (A .type) (A .value .within) r (sym (type-is h (A .result))) in
       let sub = is-below T F C (referred T (A .type)) t r (typeOf T t) value v refers refl s in
       let mark = ap₂ (λ (x y : ℕ). both x y) (mark-is i (X .result)) (mark-is j (Y .result)) in
-      let o = if-null-ok T C rt x t a b c n Γ (A .accepts) kind sub (X .accepts) (Y .accepts) in
-      stays T C D rt (ifNull x t a b c) n (both p q) (both (X .mark) (Y .mark)) Γ g e k mark o (same-three T _ _ _ (A .same) (X .same) (Y .same)) refl
+      let o = if-null-ok T C rt last x t a b c n Γ (A .accepts) kind sub (X .accepts) (Y .accepts) in
+      stays T C D rt last (ifNull x t a b c) n (both p q) (both (X .mark) (Y .mark)) Γ g e k mark o (same-three T _ _ _ (A .same) (X .same) (Y .same)) refl
 
-  while-case : (a : Expr) (b : Block) → Rule T C D rt n (while a b) → ExprAt T C D a (n + 1) Γ → BlockAt T C D rt b (n + 1 + size a) Γ
-      → AcceptedStmt T C D rt (while a b) n Γ
+  while-case : (a : Expr) (b : Block) → Rule T C D rt last n (while a b) → ExprAt T C D a (n + 1) Γ → BlockAt T C D rt b (n + 1 + size a) Γ
+      → AcceptedStmt T C D rt last (while a b) n Γ
   unfolding gatherStmt
   while-case a b (typ-while p h i k) fa fb =
       let A = fa (h .scope ∙ e) in
       let X = fb g (i .scope ∙ e) in
       let test = is-bool T F (A .type) (A .value) (type-is h (A .result)) in
-      let o = while-ok T C rt a b n Γ (A .accepts) test (X .accepts) in
-      stays T C D rt (while a b) n 0 0 Γ g e k refl o (same-both T _ _ (A .same) (X .same)) refl
+      let o = while-ok T C rt last a b n Γ (A .accepts) test (X .accepts) in
+      stays T C D rt last (while a b) n (whileMark last a) (whileMark last a) Γ g e k refl o (same-both T _ _ (A .same) (X .same)) refl
 
   -- the parts of a for; all but its vars stand in the scope after them
   abbrev VarsAt : Vars → ℕ → Type 0
@@ -272,18 +272,19 @@ module _ (T : Tables) (F : File T) (C : Context ℕ) (D : Labels Ty) (rt n : ℕ
   abbrev StepAt : Step → ℕ → Type 0
   StepAt s m = (Θ : Scope ℕ) → ScopeFits T Θ → StepGoesOn D m (eraseScope T Θ) s → AcceptedStep T C D rt s m Θ
 
-  for-case : (vs : Vars) (c : Condition) (s : Step) (b : Block) → Rule T C D rt n (for vs c s b) → VarsAt vs (n + 1)
+  for-case : (vs : Vars) (c : Condition) (s : Step) (b : Block) → Rule T C D rt last n (for vs c s b) → VarsAt vs (n + 1)
       → ConditionAt c (n + 1 + sizeVars vs) → StepAt s (n + 1 + sizeVars vs + sizeCondition c)
-      → ((Θ : Scope ℕ) → BlockAt T C D rt b (n + 1 + sizeVars vs + sizeCondition c + sizeStep s) Θ) → AcceptedStmt T C D rt (for vs c s b) n Γ
+      → ((Θ : Scope ℕ) → BlockAt T C D rt b (n + 1 + sizeVars vs + sizeCondition c + sizeStep s) Θ) → AcceptedStmt T C D rt last (for vs c s b) n Γ
   unfolding gatherStmt
   for-case vs c s b (typ-for Δ p v h i j k) fv fc fs fb =
       let U = fv Δ (rw e at v) in
       let X = fc (U .scope) (U .fits) (rw (U .after) at h) in
       let Y = fs (U .scope) (U .fits) (rw (U .after) at i) in
       let Z = fb (U .scope) (U .fits) (j .scope ∙ U .after) in
-      let o = for-ok T C rt vs c s b n Γ (U .accepts) (X .accepts) (Y .accepts) (Z .accepts) in
-      stays T C D rt (for vs c s b) n 0 0 Γ g e k refl o (same-both T _ _ (U .same) (same-three T _ _ _ (X .same) (Y .same) (Z .same))) refl
+      let o = for-ok T C rt last vs c s b n Γ (U .accepts) (X .accepts) (Y .accepts) (Z .accepts) in
+      stays T C D rt last (for vs c s b) n 0 0 Γ g e k refl o (same-both T _ _ (U .same) (same-three T _ _ _ (X .same) (Y .same) (Z .same))) refl
 
+module _ (T : Tables) (F : File T) (C : Context ℕ) (D : Labels Ty) (rt n : ℕ) (Γ : Scope ℕ) (g : ScopeFits T Γ) (e : D n .before ≡ eraseScope T Γ) where
   -- the statements of a block
   abbrev StmtsAt : Stmts → ℕ → Type 0
   StmtsAt ss m = (q : ℕ) → Chain D m ss 0 (eraseScope T Γ) q → AcceptedStmts T C D rt ss m n 0 Γ q
@@ -307,7 +308,7 @@ module _ (T : Tables) (C : Context ℕ) (D : Labels Ty) (rt n : ℕ) (Γ : Scope
   unfolding gatherStep execute
   no-step z = record { labels = unlabelled ∷ []; accepts = refl; same = same-unlabelled T D n z }
 
-  step-case : (s : Stmt) → Marked D n (eraseScope T Γ) 0 → AcceptedStmt T C D rt s n Γ → AcceptedStep T C D rt (step s) n Γ
+  step-case : (s : Stmt) → Marked D n (eraseScope T Γ) 0 → AcceptedStmt T C D rt false s n Γ → AcceptedStep T C D rt (step s) n Γ
   unfolding gatherStep
   step-case s m S = record {
     labels = S .labels;
@@ -315,24 +316,24 @@ module _ (T : Tables) (C : Context ℕ) (D : Labels Ty) (rt n : ℕ) (Γ : Scope
     same = S .same;
   }
 
-  no-stmts : (last p q : ℕ) → q ≡ p → AcceptedStmts T C D rt empty n last p Γ q
+  no-stmts : (previous p q : ℕ) → q ≡ p → AcceptedStmts T C D rt empty n previous p Γ q
   unfolding gatherStmts executeAll erase
-  no-stmts last p q z = record { labels = []; accepts = rw z; same = refl }
+  no-stmts previous p q z = record { labels = []; accepts = rw z; same = refl }
 
   -- the statements after the first, which go on from its mark and the scope after it
   abbrev RestAt : Stmts → ℕ → ℕ → Type 0
   RestAt ss m q = (p : ℕ) (Δ : Scope ℕ) → ScopeFits T Δ → Chain D m ss p (eraseScope T Δ) q → AcceptedStmts T C D rt ss m n p Δ q
 
-  then-case : (s : Stmt) (ss : Stmts) (last p q : ℕ) → Chain D n (then s ss) p (eraseScope T Γ) q
-      → (D n .before ≡ eraseScope T Γ → AcceptedStmt T C D rt s n Γ) → RestAt ss (n + sizeStmt s) q
-      → AcceptedStmts T C D rt (then s ss) n last p Γ q
+  then-case : (s : Stmt) (ss : Stmts) (previous p q : ℕ) → Chain D n (then s ss) p (eraseScope T Γ) q
+      → (D n .before ≡ eraseScope T Γ → AcceptedStmt T C D rt (isEmpty ss) s n Γ) → RestAt ss (n + sizeStmt s) q
+      → AcceptedStmts T C D rt (then s ss) n previous p Γ q
   unfolding gatherStmts Chain
-  then-case s ss last p q (r, z, m, c) f fs =
+  then-case s ss previous p q (r, z, m, c) f fs =
       let S = f (m .scope) in
       let R = fs (S .mark) (S .scope) (S .fits) (rw (mark-is m (S .result), S .after) at c) in
       record {
         labels = S .labels ++ R .labels;
-        accepts = then-ok T C rt s ss n last p Γ z (S .accepts) (R .accepts);
+        accepts = then-ok T C rt s ss n previous p Γ z (S .accepts) (R .accepts);
         same = same-both T _ _ (S .same) (R .same);
       }
 
@@ -353,7 +354,7 @@ module _ (T : Tables) (F : File T) (C : Context ℕ) (D : Labels Ty) where
   NextAt vs m Δ = (Θ : Scope ℕ) → ScopeFits T Θ → VarsChain D m vs (eraseScope T Θ) Δ → AcceptedVars T C D vs m Θ Δ
 
   next-case : (x : ℕ) (a : Expr) (vs : Vars) (n : ℕ) (Γ : Scope ℕ) (Δ : Scope Ty) (rt : Ty) → ScopeFits T Γ
-      → VarsChain D n (nextVar x a vs) (eraseScope T Γ) Δ → StmtRule T (eraseContext T C) D rt n (var x a) → ExprAt T C D a (n + 1) Γ
+      → VarsChain D n (nextVar x a vs) (eraseScope T Γ) Δ → StmtRule T (eraseContext T C) D rt false n (var x a) → ExprAt T C D a (n + 1) Γ
       → NextAt vs (n + 1 + size a) Δ → AcceptedVars T C D (nextVar x a vs) n Γ Δ
   unfolding gatherVars VarsChain
   next-case x a vs n Γ Δ rt g (m, c) (typ-decl t p z k) fa fv =
@@ -385,7 +386,7 @@ module _ (T : Tables) (F : File T) (C : Context ℕ) (f : ContextFits T C) (D : 
   unfolding VarsChain executeVars gatherVars erase
   complete-vars noVar n Γ Δ g s d c = record { scope = Γ; labels = []; accepts = refl; after = c; fits = g; same = refl }
   complete-vars (nextVar x a vs) n Γ Δ g s d c =
-      next-case T F C D x a vs n Γ Δ rt g c (d n (statement (var x a)) at-var)
+      next-case T F C D x a vs n Γ Δ rt g c (d n (statement false (var x a)) at-var)
       (λ z. complete T F C f D a (n + 1) Γ g (s .1) (record { rule = λ m u w. d m (expression u) (in-var w) }) z)
       (λ Θ h k. complete-vars vs (n + 1 + size a) Θ Δ h (s .2) (λ m u w. d m u (in-vars w)) k)
 
@@ -400,42 +401,42 @@ module _ (T : Tables) (F : File T) (C : Context ℕ) (f : ContextFits T C) (D : 
   mutual
     unfolding StepGoesOn Chain
 
-    complete-stmt : (s : Stmt) (n : ℕ) (Γ : Scope ℕ) → ScopeFits T Γ → StmtStands T n s
-        → ((m : ℕ) (u : Node) → AtStmt s n m u → RuleAt T (eraseContext T C) D (typeOf T rt) m u) → D n .before ≡ eraseScope T Γ
-        → AcceptedStmt T C D rt s n Γ
-    complete-stmt (assign h a) n Γ g s d e =
-        assign-case T F C D rt n Γ g e h a (d n (statement (assign h a)) here-stmt)
+    complete-stmt : (last : Bool) (s : Stmt) (n : ℕ) (Γ : Scope ℕ) → ScopeFits T Γ → StmtStands T n s → Rule T C D rt last n s
+        → ((m : ℕ) (u : Node) → InStmt s n m u → RuleAt T (eraseContext T C) D (typeOf T rt) m u) → D n .before ≡ eraseScope T Γ
+        → AcceptedStmt T C D rt last s n Γ
+    complete-stmt last (assign h a) n Γ g s o d e =
+        assign-case T F C D rt last n Γ g e h a o
         (λ z. expr (targetExpr h) (n + 1) Γ g (s .1) (λ m u w. d m (expression u) (in-target w)) z)
         (λ z. expr a (n + 1 + sizeTarget h) Γ g (s .2) (λ m u w. d m (expression u) (in-assigned w)) z)
-    complete-stmt (var x a) n Γ g s d e =
-        var-case T F C D rt n Γ g e x a (d n (statement (var x a)) here-stmt)
+    complete-stmt last (var x a) n Γ g s o d e =
+        var-case T F C D rt last n Γ g e x a o
         (λ z. expr a (n + 1) Γ g (s .1) (λ m u w. d m (expression u) (in-initial w)) z)
-    complete-stmt (returnValue a) n Γ g s d e =
-        return-case T F C D rt n Γ g e a r (d n (statement (returnValue a)) here-stmt)
+    complete-stmt last (returnValue a) n Γ g s o d e =
+        return-case T F C D rt last n Γ g e a r o
         (λ z. expr a (n + 1) Γ g (s .1) (λ m u w. d m (expression u) (in-returned w)) z)
-    complete-stmt returnVoid n Γ g s d e = return-void-case T F C D rt n Γ g e r (d n (statement returnVoid) here-stmt)
-    complete-stmt (callStmt a es) n Γ g s d e =
-        call-case T F C D rt n Γ g e a es (d n (statement (callStmt a es)) here-stmt)
+    complete-stmt last returnVoid n Γ g s o d e = return-void-case T F C D rt last n Γ g e r o
+    complete-stmt last (callStmt a es) n Γ g s o d e =
+        call-case T F C D rt last n Γ g e a es o
         (λ z. expr a (n + 1) Γ g (s .1) (λ m u w. d m (expression u) (in-called w)) z)
         (λ ts t. completes T F C f D es (n + 1 + size a) Γ ts g (s .2) (λ m u w. d m (expression u) (in-passed w)) t)
-    complete-stmt (ifElse a b c) n Γ g s d e =
-        if-case T F C D rt n Γ g e a b c (d n (statement (ifElse a b c)) here-stmt)
+    complete-stmt last (ifElse a b c) n Γ g s o d e =
+        if-case T F C D rt last n Γ g e a b c o
         (λ z. expr a (n + 1) Γ g (s .1) (λ m u w. d m (expression u) (in-test w)) z)
         (λ h z. block-accepted b (n + 1 + size a) Γ h (s .2) (λ m u w. d m u (in-then w)) z)
         (λ h z. block-accepted c (n + 1 + size a + sizeBlock b) Γ h (s .3) (λ m u w. d m u (in-else w)) z)
-    complete-stmt (ifNull x t a b c) n Γ g s d e =
-        if-null-case T F C D rt n Γ g e x t a b c (s .1) (d n (statement (ifNull x t a b c)) here-stmt)
+    complete-stmt last (ifNull x t a b c) n Γ g s o d e =
+        if-null-case T F C D rt last n Γ g e x t a b c (s .1) o
         (λ z. expr a (n + 1) Γ g (s .2) (λ m u w. d m (expression u) (in-nullable w)) z)
         (λ h z. block-accepted b (n + 1 + size a) (binds Γ x t n) h (s .3) (λ m u w. d m u (in-some w)) z)
         (λ h z. block-accepted c (n + 1 + size a + sizeBlock b) Γ h (s .4) (λ m u w. d m u (in-null w)) z)
-    complete-stmt (for vs c p b) n Γ g s d e =
-        for-case T F C D rt n Γ g e vs c p b (d n (statement (for vs c p b)) here-stmt)
+    complete-stmt last (for vs c p b) n Γ g s o d e =
+        for-case T F C D rt last n Γ g e vs c p b o
         (λ Δ z. complete-vars T F C f D (typeOf T rt) vs (n + 1) Γ Δ g (s .1) (λ m u w. d m u (in-for-vars w)) z)
         (λ Θ h z. complete-condition T F C f D (typeOf T rt) c (n + 1 + sizeVars vs) n Θ h (s .2) (λ m u w. d m u (in-for-condition w)) z)
         (λ Θ h z. complete-step p (n + 1 + sizeVars vs + sizeCondition c) Θ h (s .3) (λ m u w. d m u (in-for-step w)) z)
         (λ Θ h z. block-accepted b (n + 1 + sizeVars vs + sizeCondition c + sizeStep p) Θ h (s .4) (λ m u w. d m u (in-for-body w)) z)
-    complete-stmt (while a b) n Γ g s d e =
-        while-case T F C D rt n Γ g e a b (d n (statement (while a b)) here-stmt)
+    complete-stmt last (while a b) n Γ g s o d e =
+        while-case T F C D rt last n Γ g e a b o
         (λ z. expr a (n + 1) Γ g (s .1) (λ m u w. d m (expression u) (in-while-test w)) z)
         (λ h z. block-accepted b (n + 1 + size a) Γ h (s .2) (λ m u w. d m u (in-while-body w)) z)
 
@@ -443,7 +444,7 @@ module _ (T : Tables) (F : File T) (C : Context ℕ) (f : ContextFits T C) (D : 
         → ((m : ℕ) (u : Node) → AtStep s n m u → RuleAt T (eraseContext T C) D (typeOf T rt) m u) → StepGoesOn D n (eraseScope T Γ) s
         → AcceptedStep T C D rt s n Γ
     complete-step noStep n Γ g s d h = no-step T C D rt n Γ h
-    complete-step (step p) n Γ g s d h = step-case T C D rt n Γ p h (complete-stmt p n Γ g s (λ m u w. d m u (in-step w)) (h .scope))
+    complete-step (step p) n Γ g s d h = step-case T C D rt n Γ p h (complete-stmt false p n Γ g s (d n (statement false p) at-step) (λ m u w. d m u (in-step w)) (h .scope))
 
     block-accepted : (b : Block) (n : ℕ) (Γ : Scope ℕ) → ScopeFits T Γ → BlockStands T n b
         → ((m : ℕ) (u : Node) → AtBlock b n m u → RuleAt T (eraseContext T C) D (typeOf T rt) m u) → D n .before ≡ eraseScope T Γ
@@ -452,13 +453,13 @@ module _ (T : Tables) (F : File T) (C : Context ℕ) (f : ContextFits T C) (D : 
         block-case T F C D rt n Γ g e ss (d n (blocked (block ss)) here-block)
         (λ q c. complete-stmts ss (n + 1) n 0 Γ q g (s .1) (λ m u w. d m u (in-block w)) c)
 
-    complete-stmts : (ss : Stmts) (n last p : ℕ) (Γ : Scope ℕ) (q : ℕ) → ScopeFits T Γ → StmtsStand T n ss
+    complete-stmts : (ss : Stmts) (n previous p : ℕ) (Γ : Scope ℕ) (q : ℕ) → ScopeFits T Γ → StmtsStand T n ss
         → ((m : ℕ) (u : Node) → AtStmts ss n m u → RuleAt T (eraseContext T C) D (typeOf T rt) m u) → Chain D n ss p (eraseScope T Γ) q
-        → AcceptedStmts T C D rt ss n last p Γ q
-    complete-stmts empty n last p Γ q g s d c = no-stmts T C D rt n Γ last p q c
-    complete-stmts (then t ss) n last p Γ q g s d c =
-        then-case T C D rt n Γ t ss last p q c
-        (λ z. complete-stmt t n Γ g (s .0) (λ m u w. d m u (in-stmt w)) z)
+        → AcceptedStmts T C D rt ss n previous p Γ q
+    complete-stmts empty n previous p Γ q g s d c = no-stmts T C D rt n Γ previous p q c
+    complete-stmts (then t ss) n previous p Γ q g s d c =
+        then-case T C D rt n Γ t ss previous p q c
+        (λ z. complete-stmt (isEmpty ss) t n Γ g (s .0) (d n (statement (isEmpty ss) t) at-stmt) (λ m u w. d m u (in-stmt w)) z)
         (λ k Δ h z. complete-stmts ss (n + sizeStmt t) n k Δ q h (s .1) (λ m u w. d m u (in-stmts w)) z)
 
 -- rt is the number of the function's return type

@@ -1,6 +1,6 @@
 -- The labels of an accepted block have type numbers of the file. Assumes nothing.
 use mathlib.Core.Path.{_≡_}
-use mathlib.Core.Bool.{not}
+use mathlib.Core.Bool.{Bool, false, not}
 use mathlib.Core.List.{List}
 use Prim.Native.Nat.{ℕ, _+_}
 use lib.Dec.{eqb}
@@ -9,6 +9,7 @@ use Rattle.oat.specs.Syntax.{count, targetExpr, Vars, noVar, nextVar, Condition
 use Rattle.oat.specs.Nodes.{VarsStand, ConditionStands, StmtStands, StepStands, BlockStands, StmtsStand}
 use Rattle.typing_rules.specs.Contexts.{Scope, binds, isFresh, Context}
 use Rattle.typing_rules.specs.Labels.{Label}
+use Rattle.typing_rules.specs.Derivations.{isEmpty}
 use Rattle.typing_rules.specs.Judge.{ok, isKind, referred, isBelow, argumentsBelow, judge, judges, Done, assignsTo, executeVars, judgeCondition, execute, executeStep, executeBlock, executeAll}
 use Rattle.typing_rules.proofs.Claims.{File, ScopeFits, fits-bind, ContextFits}
 use Rattle.typing_rules.proofs.CompleteStmts.{reference-value}
@@ -49,8 +50,8 @@ module _ {T : Tables} (F : File T) {C : Context ℕ} (f : ContextFits T C) where
     mutual
       unfolding execute
 
-      stmt-fit : (s : Stmt) (n : ℕ) (Γ : Scope ℕ) → ScopeFits T Γ → StmtStands T n s → (d : Done) (L : List (Label ℕ)) → execute T C rt s n Γ ≡ ok d L → DoneFits T d L
-      stmt-fit (assign t a) n Γ g s d L j =
+      stmt-fit : (last : Bool) (s : Stmt) (n : ℕ) (Γ : Scope ℕ) → ScopeFits T Γ → StmtStands T n s → (d : Done) (L : List (Label ℕ)) → execute T C rt last s n Γ ≡ ok d L → DoneFits T d L
+      stmt-fit last (assign t a) n Γ g s d L j =
           needs-ok (assignsTo C Γ t) _ _ _ j λ q k.
           then-ok (judge T C (targetExpr t) (n + 1) Γ) _ k λ u M i k1.
           then-ok (judge T C a (n + 1 + sizeTarget t) Γ) _ k1 λ v N i1 k2.
@@ -60,20 +61,20 @@ module _ {T : Tables} (F : File T) {C : Context ℕ} (f : ContextFits T C) where
             scope = g;
             labels = fit-label tt (fit-append (expr-fit F f (targetExpr t) (n + 1) Γ g (s .1) u M i) (expr-fit F f a (n + 1 + sizeTarget t) Γ g (s .2) v N i1));
           })
-      stmt-fit (var x a) n Γ g s d L j =
+      stmt-fit last (var x a) n Γ g s d L j =
           then-ok (judge T C a (n + 1) Γ) _ j λ u M i k1.
           needs-ok (isFresh x Γ) _ _ _ k1 λ q k2.
           ok-is (DoneFits T) k2
           (record { scope = fits-bind g (sound T F C f a (n + 1) Γ u M g (s .1) i .value); labels = fit-label tt (expr-fit F f a (n + 1) Γ g (s .1) u M i) })
-      stmt-fit (returnValue a) n Γ g s d L j =
+      stmt-fit last (returnValue a) n Γ g s d L j =
           needs-ok (not (isKind T rt 3)) _ _ _ j λ q k.
           then-ok (judge T C a (n + 1) Γ) _ k λ u M i k1.
           needs-ok (isBelow T C u rt) _ _ _ k1 λ q1 k2.
           ok-is (DoneFits T) k2 (record { scope = g; labels = fit-label tt (expr-fit F f a (n + 1) Γ g (s .1) u M i) })
-      stmt-fit returnVoid n Γ g s d L j =
+      stmt-fit last returnVoid n Γ g s d L j =
           needs-ok (isKind T rt 3) _ _ _ j λ q k.
           ok-is (DoneFits T) k (record { scope = g; labels = fit-label tt fit-none })
-      stmt-fit (callStmt a es) n Γ g s d L j =
+      stmt-fit last (callStmt a es) n Γ g s d L j =
           then-ok (judge T C a (n + 1) Γ) _ j λ u M i k1.
           needs-ok (isKind T u 6) _ _ _ k1 λ q1 k2.
           needs-ok (isKind T (referred T u) 3) _ _ _ k2 λ q2 k3.
@@ -85,7 +86,7 @@ module _ {T : Tables} (F : File T) {C : Context ℕ} (f : ContextFits T C) where
             scope = g;
             labels = fit-label tt (fit-append (expr-fit F f a (n + 1) Γ g (s .1) u M i) (exprs-fit F f es (n + 1 + size a) Γ g (s .2) ts N i1));
           })
-      stmt-fit (ifElse a b c) n Γ g s d L j =
+      stmt-fit last (ifElse a b c) n Γ g s d L j =
           then-ok (judge T C a (n + 1) Γ) _ j λ u M i k1.
           needs-ok (isKind T u 1) _ _ _ k1 λ q1 k2.
           then-ok (executeBlock T C rt b (n + 1 + size a) Γ) _ k2 λ p N i1 k3.
@@ -97,7 +98,7 @@ module _ {T : Tables} (F : File T) {C : Context ℕ} (f : ContextFits T C) where
                 (fit-append (expr-fit F f a (n + 1) Γ g (s .1) u M i)
                 (fit-append (block-fit b (n + 1 + size a) Γ g (s .2) p N i1) (block-fit c (n + 1 + size a + sizeBlock b) Γ g (s .3) r O i2)));
           })
-      stmt-fit (ifNull x t a b c) n Γ g s d L j =
+      stmt-fit last (ifNull x t a b c) n Γ g s d L j =
           let h : ScopeFits T (binds Γ x t n) = fits-bind g (reference-value T t (s .1)) in
           then-ok (judge T C a (n + 1) Γ) _ j λ u M i k1.
           needs-ok (isKind T u 7) _ _ _ k1 λ q1 k2.
@@ -111,7 +112,7 @@ module _ {T : Tables} (F : File T) {C : Context ℕ} (f : ContextFits T C) where
                 (fit-append (expr-fit F f a (n + 1) Γ g (s .2) u M i)
                 (fit-append (block-fit b (n + 1 + size a) (binds Γ x t n) h (s .3) p N i1) (block-fit c (n + 1 + size a + sizeBlock b) Γ g (s .4) r O i2)));
           })
-      stmt-fit (for vs c t b) n Γ g s d L j =
+      stmt-fit last (for vs c t b) n Γ g s d L j =
           then-ok (executeVars T C vs (n + 1) Γ) _ j λ Δ M i k1.
           let v = vars-fit vs (n + 1) Γ g (s .1) Δ M i in
           then-ok (judgeCondition T C c (n + 1 + sizeVars vs) n Δ) _ k1 λ E N i1 k2.
@@ -126,7 +127,7 @@ module _ {T : Tables} (F : File T) {C : Context ℕ} (f : ContextFits T C) where
                 (fit-append (step-fit t (n + 1 + sizeVars vs + sizeCondition c) Δ (v .scope) (s .3) p O i2)
                 (block-fit b (n + 1 + sizeVars vs + sizeCondition c + sizeStep t) Δ (v .scope) (s .4) r P i3))));
           })
-      stmt-fit (while a b) n Γ g s d L j =
+      stmt-fit last (while a b) n Γ g s d L j =
           then-ok (judge T C a (n + 1) Γ) _ j λ u M i k1.
           needs-ok (isKind T u 1) _ _ _ k1 λ q1 k2.
           then-ok (executeBlock T C rt b (n + 1 + size a) Γ) _ k2 λ p N i1 k3.
@@ -136,9 +137,9 @@ module _ {T : Tables} (F : File T) {C : Context ℕ} (f : ContextFits T C) where
       step-fit : (s : Step) (n : ℕ) (Γ : Scope ℕ) → ScopeFits T Γ → StepStands T n s → (p : ℕ) (L : List (Label ℕ)) → executeStep T C rt s n Γ ≡ ok p L → LabelsFit T L
       step-fit noStep n Γ g s p L j = ok-is (λ p L. LabelsFit T L) j (fit-label tt fit-none)
       step-fit (step t) n Γ g s p L j =
-          then-ok (execute T C rt t n Γ) _ j λ d M i k.
+          then-ok (execute T C rt false t n Γ) _ j λ d M i k.
           needs-ok (eqb (d .mark) 0) _ _ _ k λ q k1.
-          ok-is (λ p L. LabelsFit T L) k1 (stmt-fit t n Γ g s d M i .labels)
+          ok-is (λ p L. LabelsFit T L) k1 (stmt-fit false t n Γ g s d M i .labels)
 
       block-fit : (b : Block) (n : ℕ) (Γ : Scope ℕ) → ScopeFits T Γ → BlockStands T n b → (p : ℕ) (L : List (Label ℕ)) → executeBlock T C rt b n Γ ≡ ok p L → LabelsFit T L
       block-fit (block ss) n Γ g s p L j =
@@ -149,9 +150,9 @@ module _ {T : Tables} (F : File T) {C : Context ℕ} (f : ContextFits T C) where
       all-fit empty n last p Γ g s r L j = ok-is (λ p L. LabelsFit T L) j fit-none
       all-fit (then t ss) n last p Γ g s r L j =
           needs-ok (eqb p 0) _ _ _ j λ q k.
-          then-ok (execute T C rt t n Γ) _ k λ d M i k1.
+          then-ok (execute T C rt (isEmpty ss) t n Γ) _ k λ d M i k1.
           then-ok (executeAll T C rt ss (n + sizeStmt t) n (d .mark) (d .scope)) _ k1 λ u N i1 k2.
-          let e = stmt-fit t n Γ g (s .0) d M i in
+          let e = stmt-fit (isEmpty ss) t n Γ g (s .0) d M i in
           ok-is (λ p L. LabelsFit T L) k2 (fit-append (e .labels) (all-fit ss (n + sizeStmt t) n (d .mark) (d .scope) (e .scope) (s .1) u N i1))
 
     pub fit-block : (b : Block) (n : ℕ) (Γ : Scope ℕ) → ScopeFits T Γ → BlockStands T n b → (p : ℕ) (L : List (Label ℕ)) → executeBlock T C rt b n Γ ≡ ok p L → LabelsFit T L

@@ -14,6 +14,7 @@ use Rattle.typing_rules.specs.Contexts.{Scope, empty as emptyScope, bind
 use Rattle.typing_rules.specs.Labels.{Label}
 use Rattle.typing_rules.specs.Operators.{isEquality, operandType, unaryType}
 use Rattle.typing_rules.specs.Rules.{namesFit}
+use Rattle.typing_rules.specs.Derivations.{isEmpty}
 use Rattle.typing_rules.specs.Judge.{Out, ok, no, andThen, needs, isKind, referred, isBelow, formed, hasDefault, eachBelow, argumentsBelow, named, Number, number, unknown, fieldOf, fieldType, onDeclared, initsBelow, judge, judges, judgeInits, assignsTo, executeVars, judgeCondition, execute, executeStep, executeBlock, executeAll}
 use Rattle.typing_rules.specs.Steps.{Step as CheckStep, structName, builtIn, heading, globalValue, structFields, body, stepsOf, distinctFields, distinctNames, parameters, emptyContext}
 use Rattle.typing_rules.specs.Check.{isMissing, isMiss, fieldsFormed, runStep, Segment, Ran, accepted, refused, withSegment, onStep, run}
@@ -174,47 +175,47 @@ module _ (T : Tables) (C : Context ℕ) where
     mutual
       unfolding execute
 
-      stmt-in : (s : Stmt) (n : ℕ) (Γ : Scope ℕ) → InRange (execute T C rt s n Γ)
-      stmt-in (assign g a) n Γ =
+      stmt-in : (last : Bool) (s : Stmt) (n : ℕ) (Γ : Scope ℕ) → InRange (execute T C rt last s n Γ)
+      stmt-in last (assign g a) n Γ =
           needs-in (assignsTo C Γ g) n p15
           (then-in (expr-in (targetExpr g) (n + 1) Γ) λ t L.
           then-in (expr-in a (n + 1 + sizeTarget g) Γ) λ u M.
           needs-in (isBelow T C u t) n p11 ok-in)
-      stmt-in (var x a) n Γ =
+      stmt-in last (var x a) n Γ =
           then-in (expr-in a (n + 1) Γ) λ t L.
           needs-in (isFresh x Γ) n p7 ok-in
-      stmt-in (returnValue a) n Γ =
+      stmt-in last (returnValue a) n Γ =
           needs-in (not (isKind T rt 3)) n p13
           (then-in (expr-in a (n + 1) Γ) λ t L.
           needs-in (isBelow T C t rt) n p11 ok-in)
-      stmt-in returnVoid n Γ = needs-in (isKind T rt 3) n p13 ok-in
-      stmt-in (callStmt a es) n Γ =
+      stmt-in last returnVoid n Γ = needs-in (isKind T rt 3) n p13 ok-in
+      stmt-in last (callStmt a es) n Γ =
           then-in (expr-in a (n + 1) Γ) λ f L.
           needs-in (isKind T f 6) n p10
           (needs-in (isKind T (referred T f) 3) n p13
           (needs-in (eqb (count es) (typeAt T f .c)) n p12
           (then-in (exprs-in es (n + 1 + size a) Γ) λ ts M.
           needs-in (argumentsBelow T C ts (typeAt T f .b)) n p11 ok-in)))
-      stmt-in (ifElse a b c) n Γ =
+      stmt-in last (ifElse a b c) n Γ =
           then-in (expr-in a (n + 1) Γ) λ t L.
           needs-in (isKind T t 1) n p10
           (then-in (block-in b (n + 1 + size a) Γ) λ p M.
           then-in (block-in c (n + 1 + size a + sizeBlock b) Γ) λ q N.
           ok-in)
-      stmt-in (ifNull x t a b c) n Γ =
+      stmt-in last (ifNull x t a b c) n Γ =
           then-in (expr-in a (n + 1) Γ) λ u L.
           needs-in (isKind T u 7) n p10
           (needs-in (isBelow T C (referred T u) t) n p11
           (then-in (block-in b (n + 1 + size a) (binds Γ x t n)) λ p M.
           then-in (block-in c (n + 1 + size a + sizeBlock b) Γ) λ q N.
           ok-in))
-      stmt-in (for vs c s b) n Γ =
+      stmt-in last (for vs c s b) n Γ =
           then-in (vars-in vs (n + 1) Γ) λ Δ L.
           then-in (condition-in c (n + 1 + sizeVars vs) n Δ) λ Δ₁ M.
           then-in (step-in s (n + 1 + sizeVars vs + sizeCondition c) Δ) λ p N.
           then-in (block-in b (n + 1 + sizeVars vs + sizeCondition c + sizeStep s) Δ) λ q O.
           ok-in
-      stmt-in (while a b) n Γ =
+      stmt-in last (while a b) n Γ =
           then-in (expr-in a (n + 1) Γ) λ t L.
           needs-in (isKind T t 1) n p10
           (then-in (block-in b (n + 1 + size a) Γ) λ p M.
@@ -223,7 +224,7 @@ module _ (T : Tables) (C : Context ℕ) where
       step-in : (s : Step) (n : ℕ) (Γ : Scope ℕ) → InRange (executeStep T C rt s n Γ)
       step-in noStep n Γ = ok-in
       step-in (step s) n Γ =
-          then-in (stmt-in s n Γ) λ d L.
+          then-in (stmt-in false s n Γ) λ d L.
           needs-in (eqb (d .mark) 0) n p14 ok-in
 
       block-in : (b : Block) (n : ℕ) (Γ : Scope ℕ) → InRange (executeBlock T C rt b n Γ)
@@ -235,7 +236,7 @@ module _ (T : Tables) (C : Context ℕ) where
       all-in empty n last p Γ = ok-in
       all-in (then s ss) n last p Γ =
           needs-in (eqb p 0) last p14
-          (then-in (stmt-in s n Γ) λ d L.
+          (then-in (stmt-in (isEmpty ss) s n Γ) λ d L.
           then-in (all-in ss (n + sizeStmt s) n (d .mark) (d .scope)) λ q M.
           ok-in)
 

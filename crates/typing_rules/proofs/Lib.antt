@@ -2,6 +2,7 @@ pub mod Cases
 pub mod Claims
 pub mod Complete
 pub mod CompleteStmts
+pub mod Endless
 pub mod LawsBridge
 pub mod LawsComputed
 pub mod LawsExecute
@@ -13,6 +14,7 @@ pub mod LawsHolds
 pub mod LawsJudge
 pub mod LawsNumbers
 pub mod LawsOutcome
+pub mod LawsPlaced
 pub mod LawsProgram
 pub mod LawsRows
 pub mod LawsRuns

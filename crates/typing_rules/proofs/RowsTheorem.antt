@@ -35,7 +35,7 @@ global-in p s i =
     in-right (tabulate (length (p .tables .structs)) structName)
     (in-right (tabulate (length (p .tables .builtIns)) builtIn) (in-right (headings 0 (p .declarations)) (in-left _ i)))
 
-body-in : (p : Program) (s : Step) → In s (bodies 0 (p .declarations)) → In s (stepsOf p)
+pub body-in : (p : Program) (s : Step) → In s (bodies 0 (p .declarations)) → In s (stepsOf p)
 unfolding stepsOf
 body-in p s i =
     in-right (tabulate (length (p .tables .structs)) structName)

@@ -14,7 +14,8 @@ use Rattle.oat.specs.Syntax.{Expr, null, literal, name, arrayLiteral, defaultAr
 use Rattle.typing_rules.specs.Contexts.{Scope, binds, Hit, hit, miss, find, isFresh, Context, findName, isFixed, orElse}
 use Rattle.typing_rules.specs.Operators.{isEquality, operandType, resultType, unaryType, literalType}
 use Rattle.typing_rules.specs.Labels.{gives, marks, Label, unlabelled}
-use Rattle.typing_rules.specs.Rules.{namesFit, Member, has, lacks, member, both}
+use Rattle.typing_rules.specs.Rules.{namesFit, Member, has, lacks, member, both, whileMark}
+use Rattle.typing_rules.specs.Derivations.{isEmpty}
 
 -- accepted with a value and labels, or refused with a number and a place
 pub data Out (A : Type 0) : Type 0 where
@@ -209,59 +210,59 @@ judgeCondition T C (condition a) m n Γ =
     andThen (judge T C a m Γ) λ t L.
     needs (isKind T t 1) 10 n (ok Γ L)
 
--- rt is the number of the return type
+-- rt is the number of the return type, `last` says whether the statement is the last of its block
 unfoldable mutual
-  pub execute : Tables → Context ℕ → ℕ → Stmt → ℕ → Scope ℕ → Out Done
-  execute T C rt (assign g a) n Γ =
+  pub execute : Tables → Context ℕ → ℕ → Bool → Stmt → ℕ → Scope ℕ → Out Done
+  execute T C rt last (assign g a) n Γ =
       needs (assignsTo C Γ g) 15 n
       (andThen (judge T C (targetExpr g) (n + 1) Γ) λ t L.
       andThen (judge T C a (n + 1 + sizeTarget g) Γ) λ u M.
       needs (isBelow T C u t) 11 n (ends 0 Γ Γ (L ++ M)))
-  execute T C rt (var x a) n Γ =
+  execute T C rt last (var x a) n Γ =
       andThen (judge T C a (n + 1) Γ) λ t L.
       needs (isFresh x Γ) 7 n (ends 0 Γ (binds Γ x t n) L)
-  execute T C rt (returnValue a) n Γ =
+  execute T C rt last (returnValue a) n Γ =
       needs (not (isKind T rt 3)) 13 n
       (andThen (judge T C a (n + 1) Γ) λ t L.
       needs (isBelow T C t rt) 11 n (ends 1 Γ Γ L))
-  execute T C rt returnVoid n Γ = needs (isKind T rt 3) 13 n (ends 1 Γ Γ [])
-  execute T C rt (callStmt a es) n Γ =
+  execute T C rt last returnVoid n Γ = needs (isKind T rt 3) 13 n (ends 1 Γ Γ [])
+  execute T C rt last (callStmt a es) n Γ =
       andThen (judge T C a (n + 1) Γ) λ f L.
       needs (isKind T f 6) 10 n
       (needs (isKind T (referred T f) 3) 13 n
       (needs (eqb (count es) (typeAt T f .c)) 12 n
       (andThen (judges T C es (n + 1 + size a) Γ) λ ts M.
       needs (argumentsBelow T C ts (typeAt T f .b)) 11 n (ends 0 Γ Γ (L ++ M)))))
-  execute T C rt (ifElse a b c) n Γ =
+  execute T C rt last (ifElse a b c) n Γ =
       andThen (judge T C a (n + 1) Γ) λ t L.
       needs (isKind T t 1) 10 n
       (andThen (executeBlock T C rt b (n + 1 + size a) Γ) λ p M.
       andThen (executeBlock T C rt c (n + 1 + size a + sizeBlock b) Γ) λ q N.
       ends (both p q) Γ Γ (L ++ (M ++ N)))
-  execute T C rt (ifNull x t a b c) n Γ =
+  execute T C rt last (ifNull x t a b c) n Γ =
       andThen (judge T C a (n + 1) Γ) λ u L.
       needs (isKind T u 7) 10 n
       (needs (isBelow T C (referred T u) t) 11 n
       (andThen (executeBlock T C rt b (n + 1 + size a) (binds Γ x t n)) λ p M.
       andThen (executeBlock T C rt c (n + 1 + size a + sizeBlock b) Γ) λ q N.
       ends (both p q) Γ Γ (L ++ (M ++ N))))
-  execute T C rt (for vs c s b) n Γ =
+  execute T C rt last (for vs c s b) n Γ =
       andThen (executeVars T C vs (n + 1) Γ) λ Δ L.
       andThen (judgeCondition T C c (n + 1 + sizeVars vs) n Δ) λ Δ₁ M.
       andThen (executeStep T C rt s (n + 1 + sizeVars vs + sizeCondition c) Δ) λ p N.
       andThen (executeBlock T C rt b (n + 1 + sizeVars vs + sizeCondition c + sizeStep s) Δ) λ q O.
       ends 0 Γ Γ (L ++ (M ++ (N ++ O)))
-  execute T C rt (while a b) n Γ =
+  execute T C rt last (while a b) n Γ =
       andThen (judge T C a (n + 1) Γ) λ t L.
       needs (isKind T t 1) 10 n
       (andThen (executeBlock T C rt b (n + 1 + size a) Γ) λ p M.
-      ends 0 Γ Γ (L ++ M))
+      ends (whileMark last a) Γ Γ (L ++ M))
 
   -- a returning step breaks at itself
   pub executeStep : Tables → Context ℕ → ℕ → Step → ℕ → Scope ℕ → Out ℕ
   executeStep T C rt noStep n Γ = ok 0 (unlabelled ∷ [])
   executeStep T C rt (step s) n Γ =
-      andThen (execute T C rt s n Γ) λ d L.
+      andThen (execute T C rt false s n Γ) λ d L.
       needs (eqb (d .mark) 0) 14 n (ok 0 L)
 
   -- a block's mark
@@ -270,11 +271,11 @@ unfoldable mutual
       andThen (executeAll T C rt ss (n + 1) n 0 Γ) λ p L.
       ok p (markedAs p Γ Γ ∷ L)
 
-  -- the statements from n on, after the one at `last` with the mark p, which must go on if it isn't the last; the mark of the last
+  -- the statements from n on, after the one at `previous` with the mark p, which must go on if it isn't the last; the mark of the last
   pub executeAll : Tables → Context ℕ → ℕ → Stmts → ℕ → ℕ → ℕ → Scope ℕ → Out ℕ
-  executeAll T C rt empty n last p Γ = ok p []
-  executeAll T C rt (then s ss) n last p Γ =
-      needs (eqb p 0) 14 last
-      (andThen (execute T C rt s n Γ) λ d L.
+  executeAll T C rt empty n previous p Γ = ok p []
+  executeAll T C rt (then s ss) n previous p Γ =
+      needs (eqb p 0) 14 previous
+      (andThen (execute T C rt (isEmpty ss) s n Γ) λ d L.
       andThen (executeAll T C rt ss (n + sizeStmt s) n (d .mark) (d .scope)) λ q M.
       ok q (L ++ M))

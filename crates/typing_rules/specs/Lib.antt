@@ -8,3 +8,4 @@ pub mod Steps
 pub mod Check
 pub mod PanCases
 pub mod Rows
+pub mod Endless

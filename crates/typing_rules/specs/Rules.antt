@@ -1,6 +1,7 @@
--- Document 001, section 4, as document 01 reads it: the typing rules, one constructor for each printed rule and named after it (rules
--- that differ in a table of operators or literals alone share one), premises in written order. A rule relates the label of a node to
--- those of its children; nothing is threaded. T has the file's types, C is the context, D labels the nodes. Assumes nothing.
+-- Document 001, section 4, as document 01 reads it, with while as in document 02, (i): the typing rules, one constructor for each printed rule
+-- and named after it (rules that differ in a table of operators or literals alone share one), premises in written order. A rule relates
+-- the label of a node to those of its children; nothing is threaded. T has the file's types, C is the context, D labels the nodes. Assumes
+-- nothing.
 use mathlib.Core.Path.{_≡_}
 use mathlib.Core.Bool.{Bool, true, false, not, _&&_}
 use mathlib.Core.List.{List, [], _∷_}
@@ -11,7 +12,7 @@ use Rattle.oat.specs.Basics.{pick}
 use Rattle.oat.specs.Tables.{Tables}
 use Rattle.oat.specs.Types.{Ty, int, bool, void, struct, array, function, nullable, Tys, noTy, andTy, typeOf, Field, Struct, found, lookup}
 use Rattle.oat.specs.Subtyping.{Sub, SubAll, Formed}
-use Rattle.oat.specs.Syntax.{Literal, Expr, null, literal, name, arrayLiteral, defaultArray, arrayWith, index, lengthOf, structLiteral, field, call, unary, binary, Exprs, none, also, Inits, noInit, init, Target, nameTarget, indexTarget, fieldTarget, Vars, noVar, nextVar, Condition, noCondition, condition, Stmt, assign, var, returnValue, returnVoid, callStmt, ifElse, ifNull, for, while, Step, noStep, step, Block, block, Stmts, empty, then, size, sizeTarget, sizeVars, sizeCondition, sizeStep, sizeBlock, sizeStmt, countInits}
+use Rattle.oat.specs.Syntax.{Literal, truth, falsity, integer, text, Expr, null, literal, name, arrayLiteral, defaultArray, arrayWith, index, lengthOf, structLiteral, field, call, unary, binary, Exprs, none, also, Inits, noInit, init, Target, nameTarget, indexTarget, fieldTarget, Vars, noVar, nextVar, Condition, noCondition, condition, Stmt, assign, var, returnValue, returnVoid, callStmt, ifElse, ifNull, for, while, Step, noStep, step, Block, block, Stmts, empty, then, size, sizeTarget, sizeVars, sizeCondition, sizeStep, sizeBlock, sizeStmt, countInits}
 use Rattle.typing_rules.specs.Contexts.{Scope, binds, hit, miss, find, isFresh, Context, findName, isFixed}
 use Rattle.typing_rules.specs.Operators.{isEquality, operandType, resultType, unaryType, baseType, literalType}
 use Rattle.typing_rules.specs.Labels.{gives, marks, Labels, unlabelled}
@@ -122,6 +123,30 @@ assigns C Γ (fieldTarget x a) = true
 abbrev pub both : ℕ → ℕ → ℕ
 both p q = pick (eqb p 0) 0 q
 
+-- the expression is the node `true`
+abbrev pub isTrue : Expr → Bool
+isTrue (literal truth) = true
+isTrue (literal falsity) = false
+isTrue (literal (integer x)) = false
+isTrue (literal (text x)) = false
+isTrue (null t) = false
+isTrue (name x) = false
+isTrue (arrayLiteral t es) = false
+isTrue (defaultArray t a) = false
+isTrue (arrayWith t x a b) = false
+isTrue (index a b) = false
+isTrue (lengthOf a) = false
+isTrue (structLiteral t is) = false
+isTrue (field x a) = false
+isTrue (call a es) = false
+isTrue (unary x a) = false
+isTrue (binary x a b) = false
+
+-- document 02, (i): a while whose condition a is the node `true` returns where it is the last statement of its block, since it never ends;
+-- any other while, and as a for's step this one too, goes on
+abbrev pub whileMark : Bool → Expr → ℕ
+whileMark last a = pick (last && isTrue a) 1 0
+
 -- the vars of a for from m on, from the scope Γ to the scope Δ
 unfoldable pub VarsChain : Labels Ty → ℕ → Vars → Scope Ty → Scope Ty → Type 0
 VarsChain D m noVar Γ Δ = Δ ≡ Γ
@@ -142,18 +167,18 @@ unfoldable pub Chain : Labels Ty → ℕ → Stmts → ℕ → Scope Ty → ℕ 
 Chain D m empty p Γ q = q ≡ p
 Chain D m (then s ss) p Γ q = (r : ℕ) × (p ≡ 0) × Marked D m Γ r × Chain D (m + sizeStmt s) ss r (D m .after) q
 
--- the rules of statements; rt is the return type
-pub data StmtRule (T : Tables) (C : Context Ty) (D : Labels Ty) (rt : Ty) (n : ℕ) : Stmt → Type 0 where
-  typ-assn : {g : Target} {a : Expr} (t u : Ty) → assigns C (D n .before) g ≡ true → Typed D (n + 1) (D n .before) t → Typed D (n + 1 + sizeTarget g) (D n .before) u → Sub (C .structs) u t → Ends D n 0 (D n .before) → StmtRule T C D rt n (assign g a)
+-- the rules of statements; rt is the return type, `last` says whether the statement is the last of its block
+pub data StmtRule (T : Tables) (C : Context Ty) (D : Labels Ty) (rt : Ty) (last : Bool) (n : ℕ) : Stmt → Type 0 where
+  typ-assn : {g : Target} {a : Expr} (t u : Ty) → assigns C (D n .before) g ≡ true → Typed D (n + 1) (D n .before) t → Typed D (n + 1 + sizeTarget g) (D n .before) u → Sub (C .structs) u t → Ends D n 0 (D n .before) → StmtRule T C D rt last n (assign g a)
   -- TYP_STMTDECL with TYP_DECL
-  typ-decl : {x : ℕ} {a : Expr} (t : Ty) → Typed D (n + 1) (D n .before) t → isFresh x (D n .before) ≡ true → Ends D n 0 (binds (D n .before) x t n) → StmtRule T C D rt n (var x a)
-  typ-rett : {a : Expr} (t : Ty) → (rt ≡ void → ⊥) → Typed D (n + 1) (D n .before) t → Sub (C .structs) t rt → Ends D n 1 (D n .before) → StmtRule T C D rt n (returnValue a)
-  typ-retvoid : rt ≡ void → Ends D n 1 (D n .before) → StmtRule T C D rt n returnVoid
-  typ-scall : {a : Expr} {es : Exprs} (us ts : Tys) → Typed D (n + 1) (D n .before) (function us void) → TypedAll D (D n .before) (n + 1 + size a) es ts → SubAll (C .structs) ts us → Ends D n 0 (D n .before) → StmtRule T C D rt n (callStmt a es)
-  typ-if : {a : Expr} {b c : Block} (p q : ℕ) → Typed D (n + 1) (D n .before) bool → Marked D (n + 1 + size a) (D n .before) p → Marked D (n + 1 + size a + sizeBlock b) (D n .before) q → Ends D n (both p q) (D n .before) → StmtRule T C D rt n (ifElse a b c)
-  typ-ifq : {x t : ℕ} {a : Expr} {b c : Block} (r : Ty) (p q : ℕ) → Typed D (n + 1) (D n .before) (nullable r) → Sub (C .structs) r (typeOf T t) → Marked D (n + 1 + size a) (binds (D n .before) x (typeOf T t) n) p → Marked D (n + 1 + size a + sizeBlock b) (D n .before) q → Ends D n (both p q) (D n .before) → StmtRule T C D rt n (ifNull x t a b c)
-  typ-while : {a : Expr} {b : Block} (p : ℕ) → Typed D (n + 1) (D n .before) bool → Marked D (n + 1 + size a) (D n .before) p → Ends D n 0 (D n .before) → StmtRule T C D rt n (while a b)
-  typ-for : {vs : Vars} {c : Condition} {s : Step} {b : Block} (Δ : Scope Ty) (p : ℕ) → VarsChain D (n + 1) vs (D n .before) Δ → ConditionHolds D (n + 1 + sizeVars vs) Δ c → StepGoesOn D (n + 1 + sizeVars vs + sizeCondition c) Δ s → Marked D (n + 1 + sizeVars vs + sizeCondition c + sizeStep s) Δ p → Ends D n 0 (D n .before) → StmtRule T C D rt n (for vs c s b)
+  typ-decl : {x : ℕ} {a : Expr} (t : Ty) → Typed D (n + 1) (D n .before) t → isFresh x (D n .before) ≡ true → Ends D n 0 (binds (D n .before) x t n) → StmtRule T C D rt last n (var x a)
+  typ-rett : {a : Expr} (t : Ty) → (rt ≡ void → ⊥) → Typed D (n + 1) (D n .before) t → Sub (C .structs) t rt → Ends D n 1 (D n .before) → StmtRule T C D rt last n (returnValue a)
+  typ-retvoid : rt ≡ void → Ends D n 1 (D n .before) → StmtRule T C D rt last n returnVoid
+  typ-scall : {a : Expr} {es : Exprs} (us ts : Tys) → Typed D (n + 1) (D n .before) (function us void) → TypedAll D (D n .before) (n + 1 + size a) es ts → SubAll (C .structs) ts us → Ends D n 0 (D n .before) → StmtRule T C D rt last n (callStmt a es)
+  typ-if : {a : Expr} {b c : Block} (p q : ℕ) → Typed D (n + 1) (D n .before) bool → Marked D (n + 1 + size a) (D n .before) p → Marked D (n + 1 + size a + sizeBlock b) (D n .before) q → Ends D n (both p q) (D n .before) → StmtRule T C D rt last n (ifElse a b c)
+  typ-ifq : {x t : ℕ} {a : Expr} {b c : Block} (r : Ty) (p q : ℕ) → Typed D (n + 1) (D n .before) (nullable r) → Sub (C .structs) r (typeOf T t) → Marked D (n + 1 + size a) (binds (D n .before) x (typeOf T t) n) p → Marked D (n + 1 + size a + sizeBlock b) (D n .before) q → Ends D n (both p q) (D n .before) → StmtRule T C D rt last n (ifNull x t a b c)
+  typ-while : {a : Expr} {b : Block} (p : ℕ) → Typed D (n + 1) (D n .before) bool → Marked D (n + 1 + size a) (D n .before) p → Ends D n (whileMark last a) (D n .before) → StmtRule T C D rt last n (while a b)
+  typ-for : {vs : Vars} {c : Condition} {s : Step} {b : Block} (Δ : Scope Ty) (p : ℕ) → VarsChain D (n + 1) vs (D n .before) Δ → ConditionHolds D (n + 1 + sizeVars vs) Δ c → StepGoesOn D (n + 1 + sizeVars vs + sizeCondition c) Δ s → Marked D (n + 1 + sizeVars vs + sizeCondition c + sizeStep s) Δ p → Ends D n 0 (D n .before) → StmtRule T C D rt last n (for vs c s b)
 
 -- TYP_BLOCK
 pub data BlockRule (D : Labels Ty) (n : ℕ) : Block → Type 0 where

@@ -30,7 +30,7 @@ impl Rules for Mutant {
 }
 
 /// The part of document 01 that a mutant breaks, or document 02's limits, its
-/// empty file, zero bytes, or its comparing of field names.
+/// empty file, zero bytes, its comparing of field names, or its endless loops.
 #[derive(Clone, Copy, PartialEq, Eq, Debug)]
 pub enum Part {
     Reading,
@@ -41,6 +41,7 @@ pub enum Part {
     Limits,
     Empty,
     Names,
+    Endless,
 }
 
 macro_rules! mutants {
@@ -263,7 +264,6 @@ mutants! {
         AbsentRow: "an absent part's result is 65,535",
         WhileConditionFree: "a while's condition may be of any type",
         WhileReturns: "a while returns if its block does",
-        EndlessWhileReturns: "while(true) returns",
     }
     Declarations {
         GlobalsBeforeHeadings: "globals come before function headings",
@@ -355,5 +355,29 @@ mutants! {
         NamedNeighboursOnly: "of initializers that name a field twice only neighbours are seen",
         NamesLowByte: "a struct literal's names are compared in their low bytes",
         FarNamesFree: "a struct literal's names past the 32nd are not compared",
+    }
+    Endless {
+        WhileGoesOn: "a while may always go on, as before the request",
+        EndlessNotLast: "while(true) returns where it isn't last too",
+        EndlessStep: "while(true) returns as a for's step too",
+        EndlessLastButOne: "while(true) returns as the last but one, not as the last",
+        EndlessLastTwo: "while(true) returns as the last but one too",
+        EndlessAlone: "while(true) returns only where its block has no other statement",
+        EndlessAnyCondition: "a last while returns, whatever its condition",
+        EndlessFalse: "while(false) returns, while(true) does not",
+        EndlessNot: "while(!false) returns too",
+        EndlessAnd: "while(true & true) returns too",
+        EndlessName: "a while whose condition is a global that is true returns too",
+        EndlessInBodyOnly: "while(true) returns only in the function's own block",
+        EndlessNotInArms: "while(true) at the end of an arm goes on",
+        EndlessNotInLoops: "while(true) at the end of a loop's block goes on",
+        EndlessInVoidOnly: "while(true) returns only in a void function",
+        EndlessUnlessReturns: "while(true) goes on if its block returns",
+        EndlessIfReturns: "while(true) goes on unless its block returns",
+        EndlessFor: "a last for whose condition is true returns",
+        EndlessForWithout: "a last for without a condition returns",
+        EndlessIfNotLast: "an if that returns by while(true) goes on where it isn't last",
+        EndlessIfStep: "an if that returns by while(true) may be a for's step",
+        EndlessRowNone: "the row of while(true) is 0",
     }
 }

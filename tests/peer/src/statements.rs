@@ -1,5 +1,6 @@
 //! Statements and blocks: document 01, "Typing, and where the print is
-//! damaged", and document 001, section 4, from variable declarations on.
+//! damaged", document 02's request (i), and document 001, section 4, from
+//! variable declarations on.
 //! A mark is true for a statement that definitely returns.
 
 use crate::expressions::BOOL;
@@ -19,8 +20,8 @@ impl<R: Rules> Checker<'_, R> {
         let mut late = Ok(());
         for k in 1..=last {
             let child = self.next;
-            mark = self.statement()?;
-            if mark && k < last {
+            mark = self.statement(Some(last - k))?;
+            if mark && k < last && !self.goes_on_by_loop(EndlessIfNotLast, child) {
                 let dead = fault(14, if self.breaks(DeadCodePlace) { at } else { child });
                 if self.breaks(DeadCodeLate) {
                     late = late.and(dead);
@@ -37,8 +38,9 @@ impl<R: Rules> Checker<'_, R> {
         Ok(mark)
     }
 
-    /// Types the statement at `next` and gives its mark.
-    fn statement(&mut self) -> Judged<bool> {
+    /// Types the statement at `next` and gives its mark. `behind` counts the
+    /// statements of its block that stand behind it; a for's step has no block.
+    fn statement(&mut self, behind: Option<u16>) -> Judged<bool> {
         let at = self.next;
         self.next += 1;
         let n = self.file.node(at);
@@ -50,10 +52,11 @@ impl<R: Rules> Checker<'_, R> {
             34 => self.call(at, n, true).map(|_| self.breaks(CallStatementReturns))?,
             35 => self.if_bool(at)?,
             36 => self.if_null(at, n)?,
-            37 => self.for_loop(at, n)?,
-            _ => self.while_loop(at)?,
+            37 => self.for_loop(at, n, behind)?,
+            _ => self.while_loop(at, behind)?,
         };
-        self.rows[at] = [u16::from(mark), NONE];
+        let shown = mark && !(n.kind() == 38 && self.breaks(EndlessRowNone));
+        self.rows[at] = [u16::from(shown), NONE];
         Ok(mark)
     }
 
@@ -172,11 +175,12 @@ impl<R: Rules> Checker<'_, R> {
     }
 
     /// Vars, condition, step, block; all bindings are gone after it.
-    fn for_loop(&mut self, at: usize, n: Four) -> Judged<bool> {
+    fn for_loop(&mut self, at: usize, n: Four, behind: Option<u16>) -> Judged<bool> {
         let outside = self.scope;
         for _ in 0..n.children() - 3 {
-            self.statement()?;
+            self.statement(None)?;
         }
+        let condition = self.next;
         if !self.absent() {
             let parent = if self.breaks(ForConditionPlace) { self.next } else { at };
             self.expression_of(BOOL, parent)?;
@@ -189,13 +193,16 @@ impl<R: Rules> Checker<'_, R> {
         let mark = self.block()?;
         late?;
         self.leave(if self.breaks(ForVarsStay) { inside } else { outside });
-        Ok(mark && self.breaks(ForReturns))
+        Ok(mark && self.breaks(ForReturns) || self.for_returns(condition, behind))
     }
 
     /// A step that returns breaks at itself; only a mutant hands that on.
     fn for_step(&mut self, at: usize) -> Judged<Judged<()>> {
         let child = self.next;
-        if self.absent() || !self.statement()? || self.breaks(ForStepMayReturn) {
+        if self.absent() || !self.statement(None)? || self.breaks(ForStepMayReturn) {
+            return Ok(Ok(()));
+        }
+        if self.goes_on_by_loop(EndlessIfStep, child) {
             return Ok(Ok(()));
         }
         let returns = fault(14, if self.breaks(ForStepPlace) { at } else { child });
@@ -212,15 +219,17 @@ impl<R: Rules> Checker<'_, R> {
         true
     }
 
-    /// Condition, block; it may always go on.
-    fn while_loop(&mut self, at: usize) -> Judged<bool> {
+    /// Condition, block. It may go on, unless its condition is the node `true`
+    /// and it is the last statement of its block: document 02, (i).
+    fn while_loop(&mut self, at: usize, behind: Option<u16>) -> Judged<bool> {
         if self.breaks(WhileConditionFree) {
             self.expression()?;
         } else {
             self.expression_of(BOOL, at)?;
         }
-        let mark = self.block()?;
-        let endless = self.file.node(at + 1).kind() == 11 && self.breaks(EndlessWhileReturns);
-        Ok(mark && self.breaks(WhileReturns) || endless)
+        let block = self.block()?;
+        let endless = self.file.node(at + 1).kind() == 11;
+        let mark = endless && behind == Some(0);
+        Ok(self.other_while(at, behind, block).unwrap_or(mark))
     }
 }

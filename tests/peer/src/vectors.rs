@@ -81,14 +81,14 @@ pub fn files(question: Question) -> Vec<u8> {
 /// The cases written by hand alone, for each question.
 pub fn hand_written() -> [Vec<u8>; 4] {
     let reading = pack(cases::reading().into_iter().map(|c| c.1));
-    let checked = typing_cases().into_iter().chain(name_cases());
+    let checked = typing_cases().into_iter().chain(name_cases()).chain(endless_cases());
     [pack(checked), reading, pack(subtyping_cases()), pack_limited(limit_cases_by_hand())]
 }
 
 /// Generated files alone, for each question.
 pub fn generated() -> [Vec<u8>; 4] {
     let programs = generator::programs(6, 12_000);
-    let checked = [programs.clone(), generator::field_names(13, 1000)].concat();
+    let checked = [programs.clone(), generator::field_names(13, 1000), generator::endless(16, 1000)].concat();
     [checked, programs, generator::type_tables(7, 400), generator::limited(8, 1000)]
 }
 
@@ -104,6 +104,10 @@ fn name_cases() -> Vec<Vec<u8>> {
     cases::names().into_iter().map(|c| c.file).collect()
 }
 
+fn endless_cases() -> Vec<Vec<u8>> {
+    cases::endless().into_iter().map(|m| m.case.file).collect()
+}
+
 fn subtyping_cases() -> Vec<Vec<u8>> {
     let mut files: Vec<Vec<u8>> = Vec::new();
     for q in cases::subtyping() {
@@ -116,14 +120,17 @@ fn subtyping_cases() -> Vec<Vec<u8>> {
 
 /// All cases written by hand, a sample of the generator, and more of its files
 /// for each mutant of typing that few of these catch; then those about field
-/// names, which came later, so that all others keep their places.
+/// names, and those about endless loops, each later than the ones before, so
+/// that all others keep their places.
 fn check_files() -> Vec<Vec<u8>> {
     let mut files = typing_cases();
     files.extend(small(&generator::programs(1, 360), 4000));
     files.extend(generator::large_files());
-    add_catching(&mut files);
+    files.extend(catching());
     files.extend(name_cases());
     files.extend(small(&generator::field_names(10, 80), 1200));
+    files.extend(endless_cases());
+    files.extend(small(&generator::endless(15, 80), 1200));
     files
 }
 
@@ -157,22 +164,20 @@ fn small(many: &[u8], size: usize) -> Vec<Vec<u8>> {
     unpack(many).into_iter().filter(|f| f.len() < size).map(<[u8]>::to_vec).collect()
 }
 
-/// At least this many files catch each mutant of typing.
-const CATCHING: usize = 4;
+/// Which of the generator's files catch mutants: of 6,000 the first that have
+/// less than 2,000 bytes, until at least four of all files caught each mutant of
+/// typing. The choice stays as it is, so that files keep their places.
+const CATCHING: [usize; 70] = [
+    1058, 1098, 1522, 1523, 3323, 4543, 90, 150, 850, 844, 23, 1263, 4465, 281, 1197, 2217, 2265, 4, 2544, 3084, 1520,
+    1560, 1676, 884, 1444, 1264, 2324, 1397, 826, 3, 904, 3704, 18, 26, 206, 1756, 2540, 2820, 164, 2838, 2984, 4825,
+    237, 68, 88, 2805, 4442, 444, 1564, 3805, 5577, 2784, 5244, 1422, 2760, 1388, 1244, 3124, 5104, 4143, 4163, 423,
+    923, 1003, 918, 1198, 2163, 801, 1121, 2021,
+];
 
-fn add_catching(files: &mut Vec<Vec<u8>>) {
-    let pool = small(&generator::programs(5, 6000), 2000);
-    let right: Vec<String> = pool.iter().map(|f| Question::Check.show(Limited::widest(f))).collect();
-    let of_typing = |part| matches!(part, Part::Expressions | Part::Statements | Part::Declarations);
-    for &(mutant, part, _) in ALL.iter().filter(|m| of_typing(m.1)) {
-        let own: Vec<Limited> = files.iter().map(|f| Limited::widest(f)).collect();
-        let own_right: Vec<String> = own.iter().map(|&f| Question::Check.show(f)).collect();
-        let missing = CATCHING.saturating_sub(caught(Question::Check, &own, &own_right, (mutant, part)));
-        let catching = |(f, r): &(&Vec<u8>, &String)| {
-            caught(Question::Check, &[Limited::widest(f)], std::slice::from_ref(r), (mutant, part)) > 0
-        };
-        files.extend(pool.iter().zip(&right).filter(catching).take(missing).map(|(f, _)| f.clone()));
-    }
+fn catching() -> [Vec<u8>; CATCHING.len()] {
+    let many = generator::programs(5, 6000);
+    let pool = unpack(&many);
+    CATCHING.map(|i| pool[i].to_vec())
 }
 
 /// For each mutant: how many cases of each question catch it.
@@ -184,7 +189,7 @@ pub fn table(packed: &[Vec<u8>; 4]) -> Vec<(Mutant, Part, [usize; 4])> {
     ALL.iter().map(|&(m, part, _)| (m, part, count(m, part))).collect()
 }
 
-const PARTS: [Part; 8] = [
+const PARTS: [Part; 9] = [
     Part::Reading,
     Part::Subtyping,
     Part::Expressions,
@@ -193,6 +198,7 @@ const PARTS: [Part; 8] = [
     Part::Limits,
     Part::Empty,
     Part::Names,
+    Part::Endless,
 ];
 
 /// What `mutants` prints: a line for each part, as docs/TESTING.md has it, and a line for each mutant.

@@ -1,6 +1,7 @@
 //! The examples: each program file has a text beside it with the answer that the peer gives.
 
-use oat_peer::print;
+use oat_peer::mutants::Mutant::WhileGoesOn;
+use oat_peer::print::{self, Limited};
 use std::collections::BTreeSet;
 use std::path::{Path, PathBuf};
 
@@ -43,4 +44,14 @@ fn accepted_and_refused_under_each_number_of_typing() {
     };
     let numbers: BTreeSet<u16> = names(".oat").iter().map(first).collect();
     assert!([0, 1, 3].into_iter().chain(7..=16).all(|n| numbers.contains(&n)), "{numbers:?}");
+}
+
+/// Document 02's request (i) moved the two examples about loops that never end.
+#[test]
+fn endless_loops() {
+    for (name, before, now) in [("endless", "14 5 0\n", "0 6 0\n"), ("endless_not_last", "0 2 0\n", "14 1 3\n")] {
+        let file = std::fs::read(folder().join(name.to_string() + ".oat")).expect("an example");
+        assert!(print::check_with(Limited::widest(&file), WhileGoesOn).starts_with(before), "{name}");
+        assert!(print::check(&file).starts_with(now), "{name}");
+    }
 }

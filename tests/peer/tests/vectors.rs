@@ -75,6 +75,9 @@ fn every_mutant_is_caught() {
     assert!(ALL.iter().filter(|m| m.1 == Part::Empty).count() >= 15);
     assert!(ALL.iter().filter(|m| m.1 == Part::Names).count() >= 5);
     assert_eq!(ALL.iter().filter(|m| m.2.starts_with("slip: ")).count(), 5);
+    let of_loops = || table.iter().filter(|m| m.1 == Part::Endless);
+    assert!(of_loops().count() >= 20);
+    assert!(of_loops().all(|m| m.2[0] >= 4), "{:?}", of_loops().filter(|m| m.2[0] < 4).collect::<Vec<_>>());
 }
 
 /// Each number but 6 has at least 2 % of the generator's files.

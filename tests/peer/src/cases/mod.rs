@@ -2,6 +2,7 @@
 //! it, each reading with its program, each Pan case. A case's name begins with
 //! the number of the reading it shows, if it shows one.
 
+mod endless;
 mod limits;
 mod names;
 mod reading;
@@ -9,6 +10,7 @@ pub mod rows;
 mod subtyping;
 mod typing;
 
+pub use endless::{Marked, endless};
 pub use limits::{LimitCase, limits};
 pub use names::names;
 pub use reading::reading;
@@ -26,7 +28,7 @@ pub struct Case {
 
 /// Readable files with their answers, all of them.
 pub fn checked() -> Vec<Case> {
-    typing().into_iter().chain(names()).collect()
+    typing().into_iter().chain(names()).chain(endless().into_iter().map(|m| m.case)).collect()
 }
 
 /// Types of the usual table.

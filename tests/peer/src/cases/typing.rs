@@ -83,7 +83,7 @@ fn marks(cases: &mut Cases) {
     put(cases, [14, 1, 2], "T14 two returns", only(TO_VOID, vec![done(), done()]));
     let both = || when(tru(), vec![done()], vec![done()]);
     put(cases, [14, 1, 2], "T15 a returning if", only(TO_VOID, vec![both(), done()]));
-    put(cases, [14, 1, 0], "T16 a while has mark 0", only(TO_VOID, vec![during(tru(), vec![done()])]));
+    put(cases, [0, 2, 0], "a last while(true) has mark 1", only(TO_VOID, vec![during(tru(), vec![done()])]));
     let forever = repeat(vec![], absent(), absent(), vec![done()]);
     put(cases, [14, 1, 0], "T16 a for has mark 0", only(TO_VOID, vec![forever]));
     put(

@@ -431,7 +431,8 @@ impl Maker<'_> {
         }
     }
 
-    /// The second block of an if that goes on: empty if the first may return.
+    /// The second block of an if that goes on: empty if the first may return. A
+    /// while counts as one that goes on, so a few of these ifs return after all.
     fn other_block(&mut self, result: u16, depth: usize, first: &[Tree]) -> Vec<Tree> {
         let last = first.last().map_or(0, |s| s.kind);
         if [32, 33, 35, 36].contains(&last) { vec![] } else { self.block(result, depth - 1, false) }

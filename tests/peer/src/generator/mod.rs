@@ -1,8 +1,9 @@
 //! The generator: well-typed programs, near misses, damaged files, files of the
-//! largest sizes and files about field names, from a seed.
+//! largest sizes, files about field names and about endless loops, from a seed.
 
 mod bodies;
 mod damage;
+mod endless;
 mod large;
 mod limits;
 mod misses;
@@ -10,8 +11,9 @@ mod names;
 mod rng;
 mod tables;
 
+use crate::mutants::{Exact, Mutant::WhileGoesOn, Rules};
 use crate::print::{pack, pack_limited, unpack};
-use crate::{Limits, check, node_count};
+use crate::{Limits, check_under, node_count};
 pub use limits::settings_around;
 use rng::Rng;
 
@@ -39,6 +41,12 @@ pub fn field_names(seed: u64, count: usize) -> Vec<u8> {
     pack((0..count).map(|_| names::file(&mut rng)))
 }
 
+/// Packed files about loops that never end.
+pub fn endless(seed: u64, count: usize) -> Vec<u8> {
+    let mut rng = Rng::new(seed ^ 0x6C6F_6F70);
+    pack((0..count).map(|_| endless::file(&mut rng)))
+}
+
 /// Packed cases of limits: the files of `programs`, each under four settings in a row.
 pub fn limited(seed: u64, count: usize) -> Vec<u8> {
     let many = programs(seed, count);
@@ -56,25 +64,27 @@ pub fn large_files() -> [Vec<u8>; 4] {
 pub fn tally(many: &[u8]) -> [usize; 17] {
     let mut counts = [0; 17];
     for file in unpack(many) {
-        counts[number(file) as usize] += 1;
+        counts[number(file, Exact) as usize] += 1;
     }
     counts
 }
 
-fn number(file: &[u8]) -> u16 {
+fn number<R: Rules>(file: &[u8], rules: R) -> u16 {
     let size = 2 * node_count(file);
-    check(file, Limits::WIDEST, &mut vec![0; size], &mut vec![0; size]).number
+    check_under(file, Limits::WIDEST, &mut vec![0; size], &mut vec![0; size], rules).number
 }
 
-/// One file, with the number asked for if it can be had in some tries. A file
-/// for 1 that is cut down to zero bytes is kept, though it is accepted.
+/// One file, with the number asked for if it can be had in some tries. It has
+/// that number under document 01's rule for while, so that a seed gives the
+/// files that it gave before document 02's request (i). A file for 1 that is cut
+/// down to zero bytes is kept, though it is accepted.
 fn program(rng: &mut Rng, wanted: u16) -> Vec<u8> {
     if rng.below(250) == 0 {
         return large::file(rng, wanted);
     }
     for _ in 0..TRIES {
         let file = attempt(rng, wanted);
-        if number(&file) == wanted || file.is_empty() {
+        if number(&file, WhileGoesOn) == wanted || file.is_empty() {
             return file;
         }
     }

@@ -15,7 +15,7 @@ use Rattle.simple_statements.proofs.simple.return_value.Reads as return-value-r
 use Rattle.simple_statements.proofs.simple.return_void.Reads as return-void-reads
 use Rattle.simple_statements.proofs.simple.variable.Reads as variable-reads
 use Rattle.statements.proofs.cycle.+arms+block+for_loop+if_else+if_null+statement+statements+step+turn+while_loop.Proof.Measures.{statement-at, for-loop-below, if-else-below, if-null-below, while-loop-below}
-use Rattle.statements.proofs.LawsStatement.{stmt-node, stmt-kind-at, while-kind, any-told}
+use Rattle.statements.proofs.LawsStatement.{stmt-node, stmt-kind-at, while-kind, told-anywhere, any-told}
 
 abbrev claims : ℕ → statement-lts.Claims
 claims t = (node-kind-reads.Asked, node-kind-reads.Learnt, assignment-reads.Asked, assignment-reads.Learnt, variable-reads.Asked, variable-reads.Learnt, return-value-reads.Asked, return-value-reads.Learnt, return-void-reads.Asked, return-void-reads.Learnt, call-statement-reads.Asked, call-statement-reads.Learnt, if-else-below t, if-else.Post, if-null-below t, if-null.Post, for-loop-below t, for-loop.Post, while-loop-below t, while-loop.Post)
@@ -99,12 +99,12 @@ returns-2 t c =
 returns-3 : (t : ℕ) → statement-lts.Need-returns-3 (claims t) (statement-at t) statement′.Post
 returns-3 t c =
     let at-return-value = c .before .before .before .before in
-    at-return-value .return-value .ensures
+    told-anywhere (at-return-value .return-value .ensures)
 
 returns-4 : (t : ℕ) → statement-lts.Need-returns-4 (claims t) (statement-at t) statement′.Post
 returns-4 t c =
     let at-return-void = c .before .before .before .before in
-    at-return-void .return-void .ensures
+    told-anywhere (at-return-void .return-void .ensures)
 
 returns-5 : (t : ℕ) → statement-lts.Need-returns-5 (claims t) (statement-at t) statement′.Post
 returns-5 t c =
@@ -114,17 +114,17 @@ returns-5 t c =
 returns-6 : (t : ℕ) → statement-lts.Need-returns-6 (claims t) (statement-at t) statement′.Post
 returns-6 t c =
     let at-if-else = c .before .before .before .before in
-    at-if-else .if-else .ensures
+    told-anywhere (at-if-else .if-else .ensures)
 
 returns-7 : (t : ℕ) → statement-lts.Need-returns-7 (claims t) (statement-at t) statement′.Post
 returns-7 t c =
     let at-if-null = c .before .before .before .before in
-    at-if-null .if-null .ensures
+    told-anywhere (at-if-null .if-null .ensures)
 
 returns-8 : (t : ℕ) → statement-lts.Need-returns-8 (claims t) (statement-at t) statement′.Post
 returns-8 t c =
     let at-for-loop = c .before .before .before .before in
-    at-for-loop .for-loop .ensures
+    told-anywhere (at-for-loop .for-loop .ensures)
 
 returns-9 : (t : ℕ) → statement-lts.Need-returns-9 (claims t) (statement-at t) statement′.Post
 returns-9 t c =

@@ -19,10 +19,10 @@ abbrev claims : ℕ → statements-lts.Claims
 claims t = (refused-reads.Asked, refused-reads.Learnt, statement-below t, statement′.Post, mark-of-reads.Asked, mark-of-reads.Learnt, with-mark-reads.Asked, with-mark-reads.Learnt)
 
 abbrev Inv-loop : statements-lts.InvT-loop
-Inv-loop = λ file frame index rows₀ work₀ chains₀ count parent here₀ last₀ mark₀ i₀ rows work chains here last mark i. WalkedStmts file (frame .sections) index (frame .base) (frame .result) (here₀ .node) (here₀ .scope) rows₀ work₀ count parent (here .node) (here .scope) last mark i rows work chains × (length rows ≡ length rows₀) × (length work ≡ length work₀)
+Inv-loop = λ file frame index rows₀ work₀ chains₀ count parent here₀ previous₀ mark₀ i₀ rows work chains here previous mark i. WalkedStmts file (frame .sections) index (frame .base) (frame .result) (here₀ .node) (here₀ .scope) rows₀ work₀ count parent (here .node) (here .scope) previous mark i rows work chains × (length rows ≡ length rows₀) × (length work ≡ length work₀)
 
 abbrev μ-loop : statements-lts.MeasureT-loop
-μ-loop = λ file frame index rows₀ work₀ chains₀ count parent here₀ last₀ mark₀ i₀ rows work chains here last mark i. count - i
+μ-loop = λ file frame index rows₀ work₀ chains₀ count parent here₀ previous₀ mark₀ i₀ rows work chains here previous mark i. count - i
 
 loop-holds : (t : ℕ) → statements-lts.Need-loop-holds (claims t) (statements-at t) statements.Post Inv-loop μ-loop
 loop-holds t c = (run-start (c .before .before .before .before .pre .1), refl, refl)
@@ -33,6 +33,12 @@ returns t c =
     let at-loop = at-loop-test .before in
     let at-start = at-loop .before .before .before .before .before in
     run-stops (at-start .pre .1) (at-loop .loop .inv .0) (at-loop-test .loop-test .taken) (c .before .if1 .taken) (c .refused .ensures .0)
+
+add-last : (t : ℕ) → statements-lts.Need-add-last (claims t) (statements-at t) statements.Post Inv-loop μ-loop
+add-last t c =
+    let at-loop-test = c .before in
+    let at-start = at-loop-test .before .before .before .before .before .before in
+    omega (arith, at-loop-test .loop-test .taken, at-start .fits .count)
 
 statement-requires : (t : ℕ) → statements-lts.Need-statement-requires (claims t) (statements-at t) statements.Post Inv-loop μ-loop
 statement-requires t c κs =
@@ -82,4 +88,4 @@ returns-3 t c =
     run-done (at-start .pre .1) (at-loop .loop .inv .0) (c .before .loop-test .left) (answered (c .with-mark .ensures) refl refl)
 
 pub closed : {M : Type 1} (t : ℕ) → statements-lts.Closed (claims t) (statements-at t) statements.Post M
-closed t = statements-lts.spec (claims t) (statements-at t) statements.Post Inv-loop μ-loop (loop-holds t) (λ c κs. search needs) (λ c. search needs) (λ c. search needs) (returns t) (statement-requires t) (λ c. search needs) (λ c. search needs) (λ c. search needs) (returns-2 t) (λ c κs. search needs) (add-i t) (loop-less t) (loop-again t) (λ c κs. search needs) (λ c. search needs) (λ c. search needs) (returns-3 t)
+closed t = statements-lts.spec (claims t) (statements-at t) statements.Post Inv-loop μ-loop (loop-holds t) (λ c κs. search needs) (λ c. search needs) (λ c. search needs) (returns t) (add-last t) (statement-requires t) (λ c. search needs) (λ c. search needs) (λ c. search needs) (returns-2 t) (λ c κs. search needs) (add-i t) (loop-less t) (loop-again t) (λ c κs. search needs) (λ c. search needs) (λ c. search needs) (returns-3 t)
