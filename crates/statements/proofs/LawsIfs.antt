@@ -27,15 +27,15 @@ use Rattle.bindings.proofs.LawsBindings.{scope-bound, scope-same, names-same}
 use Rattle.answers.specs.declared.answer.Judgement.the-variants.{Typed, Refused}
 use Rattle.answers.specs.declared.answer.Judged.{Judged}
 use Rattle.answers.specs.Answers.{withRow, AnswerIs}
-use Rattle.expressions.specs.Contract.{contextOf, Fine, After, Typing, Meets, accepts, Ready, Told}
+use Rattle.expressions.specs.Contract.{contextOf, Fine, Typing, Meets, Ready, Told}
 use Rattle.expressions.proofs.LawsMeets.{Untyped, Unrefused, stops, passes, goes-on, child-no, child-ok}
 use Rattle.expressions.proofs.LawsAfter.{ready, typing-of, after-append}
 use Rattle.expressions.proofs.LawsLabels.{expr-long, expr-closed}
 use Rattle.expressions.proofs.LawsShape.{size-one}
 use Rattle.expressions.proofs.LawsChild.{has-node, child-within, child-type, child-fine, reference-within}
-use Rattle.simple_statements.specs.Contract.{markOf, marked, Marking, AnswersStmt, ReadyStmt, ToldAnywhere}
+use Rattle.simple_statements.specs.Contract.{markOf, marked, AnswersStmt, ReadyStmt, ToldAnywhere}
 use Rattle.simple_statements.proofs.LawsLabels.{on-if, on-if-null, block-within}
-use Rattle.simple_statements.proofs.LawsMarks.{mark-fits, rule-left, judged-as}
+use Rattle.simple_statements.proofs.LawsMarks.{mark-fits}
 use Rattle.statements.specs.Contract.{Blocking, eitherOf, ReadyArms, ToldArms}
 use Rattle.statements.proofs.LawsParts.{mark-is, part-no, after-stack, marked-row}
 use Rattle.statements.proofs.LawsArms.{either-mark, arms-fine}

@@ -1,6 +1,6 @@
 -- Loops that never end (document 02, (i)): the mark of a while in every derivation, by its place and its condition; a block that ends in
 -- such a loop returns, so that a function's body which does needs no return; and the row of a while. Assumes nothing.
-use mathlib.Core.Path.{_≡_, refl, ap, sym, subst, _∙_}
+use mathlib.Core.Path.{_≡_, ap, sym, subst, _∙_}
 use mathlib.Core.Bool.{Bool, true, false, _&&_}
 use mathlib.Core.List.{List, _∷_, _++_, append-assoc}
 use Prim.Native.Nat.{ℕ, zero, suc, _+_, _*_, _-_, _≤_, _<_}
@@ -15,7 +15,7 @@ use Rattle.oat.specs.ProgramFile.{Program}
 use Rattle.typing_rules.specs.Contexts.{Scope, empty as no-scope, Context}
 use Rattle.typing_rules.specs.Labels.{Result, gives, marks, nothing, Label, Labels}
 use Rattle.typing_rules.specs.Rules.{Chain, isTrue, whileMark, StmtRule, typ-while, typ-for, BlockRule, typ-block}
-use Rattle.typing_rules.specs.Derivations.{Node, statement, AtBlock, here-block, in-block, AtStmts, at-stmt, in-stmts, DerivesBlock}
+use Rattle.typing_rules.specs.Derivations.{statement, AtBlock, here-block, in-block, AtStmts, at-stmt, in-stmts, DerivesBlock}
 use Rattle.typing_rules.specs.Endless.{InBodies, in-body, in-others, endingIn}
 use Rattle.typing_rules.specs.Steps.{Step as CheckStep, body, bodies, stepsOf, distinctNames, Unlabelled, parameters, StepRule, typ-fdeclok, emptyContext, StepsRule, next-step, DerivesFile}
 use Rattle.typing_rules.specs.Rows.{ResultIs, RowsAre, rows-node, labelsFrom, DeclRows, global-rows, function-rows}
