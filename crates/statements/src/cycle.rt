@@ -34,7 +34,7 @@ ghost use Rattle.file_sections.specs.Layout.{tablesOf};
 ghost use Rattle.simple_statements.specs.Contract.{ReadyStmt, ToldStmt, ToldAnywhere};
 ghost use Rattle.statements.specs.Contract.{ReadyBlock, ToldBlock, ReadyStmts, ToldStmts, ReadyArms, ToldArms, ReadyStep, ToldStep, ReadyTurn, ToldTurn};
 
-// The statement at `node`, which may be the last of its block.
+// The statement at `node`; `last` says whether it is the last of its block.
 fn statement(
     file: &[u8],
     frame: Frame,
