@@ -1,7 +1,7 @@
 -- Laws of the bindings: the binder, the type and the name of a position, what a name means in the scope that the buffers hold, the way
 -- along a chain, one binding more and one less. Assumes nothing.
 use mathlib.Core.Path.{_≡_, refl, ap, sym, subst, _∙_}
-use mathlib.Core.Bool.{Bool, true, false, not}
+use mathlib.Core.Bool.{Bool, true, false, not, _&&_}
 use mathlib.Core.List.{List, _∷_}
 use Prim.Native.Nat.{ℕ, zero, suc, _+_, _-_, _*_, _%_, _≤_, _<_}
 use native.Mathlib.Numerals.{add-one}
@@ -11,12 +11,12 @@ use lib.ListN.{length, getD, set, length-set}
 use lib.Seq.{getD-set-same, getD-set-other}
 use lib.Dec.{eqb, ltb}
 use borrow.Author.Count.{below-more}
-use borrow.Author.Tests.{ltb-true, ltb-false, lt-ltb, le-ltb}
+use borrow.Author.Tests.{eq-eqb, ne-eqb, ltb-true, ltb-false, lt-ltb, le-ltb}
 use Rattle.oat.specs.Basics.{pick}
 use Rattle.oat.specs.Tables.{Tables, builtInAt, nodeAt}
 use Rattle.chains.specs.Chains.{highest, Chains}
 use Rattle.chains.proofs.LawsChains.{Walks, highest-most, highest-reaches, walk-starts, walk-falls, walk-on, walk-highest, chains-same, chains-none, linked, unlinked}
-use Rattle.typing_rules.specs.Contexts.{empty, binds, Hit, hit, miss, Entry, find, findName, isFresh, isFixed, orElse}
+use Rattle.typing_rules.specs.Contexts.{Scope, empty, binds, inner, Hit, hit, miss, isMiss, nearest, Entry, find, findName, isUnbound, isFreshAt, isFresh, isFixed, orElse}
 use Rattle.file_sections.specs.declared.Sections.{Sections}
 use Rattle.file_sections.specs.Layout.{Laid, Has, tablesOf}
 use Rattle.file_sections.specs.Frames.{Same}
@@ -24,7 +24,7 @@ use Rattle.file_sections.proofs.LawsRecords.{built-ins-long}
 use Rattle.file_sections.proofs.LawsFrames.{same-refl}
 use Rattle.bindings.specs.declared.Found.{Found}
 use Rattle.bindings.specs.declared.Found.the-variants.{At, Nothing}
-use Rattle.bindings.specs.Bindings.{entryOf, binderOf, typeBound, nameBound, isGlobal, namesOf, scopeOf, foundBelow, latest, Chained, Position, Scoped, Some, SomeFrom, Finds, Freshness, Assignability, Bindable, Bound}
+use Rattle.bindings.specs.Bindings.{entryOf, binderOf, typeBound, nameBound, isGlobal, namesOf, scopeOf, foundBelow, latest, Chained, Holds, Position, Scoped, Some, SomeFrom, Finds, Freshness, Assignability, Bindable, Bound}
 
 -- a position of a built-in
 module _ (F : List ℕ) (S : Sections) (W : List ℕ) (j : ℕ) (h : j < S .«built_ins») where
@@ -163,14 +163,14 @@ scope-more : (T : Tables) (W : List ℕ) (base n : ℕ) → base ≤ n → scope
 unfolding scopeOf
 scope-more T W base n h = rw (le-ltb n base h)
 
--- what a position says of a name: what the name means, whether no local binds it, whether it can be assigned
+-- what a position says of a name: what the name means, whether no position from `start` on binds it, whether it can be assigned
 abbrev meant : Tables → List ℕ → Found → Hit ℕ
 meant T W (At j) = hit (typeBound T W j) (binderOf T W j)
 meant T W Nothing = miss
 
 abbrev freshFrom : ℕ → Found → Bool
-freshFrom base (At j) = ltb j base
-freshFrom base Nothing = true
+freshFrom start (At j) = ltb j start
+freshFrom start Nothing = true
 
 abbrev assignFrom : Tables → List ℕ → ℕ → Found → Bool
 assignFrom T W base (At j) = pick (ltb j base) (isGlobal T W j) true
@@ -187,7 +187,7 @@ module _ (T : Tables) (W : List ℕ) (x : ℕ) where
       go false r = r
 
   scope-meant : (base s : ℕ) → base ≤ s → orElse (find x (scopeOf T W base s)) (findName x (namesOf T W base)) ≡ meant T W (latest T W x s)
-  unfolding find latest highest
+  unfolding nearest latest highest
   scope-meant base s h = from-base
       (λ n. orElse (find x (scopeOf T W base n)) (findName x (namesOf T W base)) ≡ meant T W (latest T W x n))
       base
@@ -200,26 +200,26 @@ module _ (T : Tables) (W : List ℕ) (x : ℕ) where
       go n true r = refl
       go n false r = r
 
-  fresh-from : (base s : ℕ) → isFresh x (scopeOf T W base s) ≡ freshFrom base (latest T W x s)
-  unfolding isFresh scopeOf latest highest
-  fresh-from base zero = refl
-  fresh-from base (suc n) = go (ltb n base) refl (fresh-from base n)
+  fresh-from : (start s : ℕ) → isUnbound x (scopeOf T W start s) ≡ freshFrom start (latest T W x s)
+  unfolding nearest scopeOf latest highest
+  fresh-from start zero = refl
+  fresh-from start (suc n) = go (ltb n start) refl (fresh-from start n)
     where
-      old-step : (n : ℕ) (b : Bool) → n < base → freshFrom base (latest T W x n) ≡ true → freshFrom base (foundBelow (pick b (suc n) (highest (nameBound T W) x n))) ≡ true
-      old-step n true l r = lt-ltb n base l
+      old-step : (n : ℕ) (b : Bool) → n < start → freshFrom start (latest T W x n) ≡ true → freshFrom start (foundBelow (pick b (suc n) (highest (nameBound T W) x n))) ≡ true
+      old-step n true l r = lt-ltb n start l
       old-step n false l r = r
 
-      old : (n : ℕ) → n ≤ base → freshFrom base (latest T W x n) ≡ true
+      old : (n : ℕ) → n ≤ start → freshFrom start (latest T W x n) ≡ true
       old zero l = refl
       old (suc n) l = old-step n (eqb (nameBound T W n) x) (omega arith) (old n (omega arith))
 
-      own : (b : Bool) → base ≤ n → isFresh x (scopeOf T W base n) ≡ freshFrom base (latest T W x n) → pick b false (isFresh x (scopeOf T W base n)) ≡ freshFrom base (foundBelow (pick b (suc n) (highest (nameBound T W) x n)))
-      own true l r = sym (le-ltb n base l)
+      own : (b : Bool) → start ≤ n → isUnbound x (scopeOf T W start n) ≡ freshFrom start (latest T W x n) → isMiss (pick b (hit (typeBound T W n) (binderOf T W n)) (find x (scopeOf T W start n))) ≡ freshFrom start (foundBelow (pick b (suc n) (highest (nameBound T W) x n)))
+      own true l r = sym (le-ltb n start l)
       own false l r = r
 
-      go : (a : Bool) → ltb n base ≡ a → isFresh x (scopeOf T W base n) ≡ freshFrom base (latest T W x n) → isFresh x (pick a empty (binds (scopeOf T W base n) (nameBound T W n) (typeBound T W n) (binderOf T W n))) ≡ freshFrom base (latest T W x (suc n))
-      go true e r = sym (old (suc n) (omega (arith, ltb-true n base e)))
-      go false e r = own (eqb (nameBound T W n) x) (ltb-false n base e) r
+      go : (a : Bool) → ltb n start ≡ a → isUnbound x (scopeOf T W start n) ≡ freshFrom start (latest T W x n) → isUnbound x (pick a empty (binds (scopeOf T W start n) (nameBound T W n) (typeBound T W n) (binderOf T W n))) ≡ freshFrom start (latest T W x (suc n))
+      go true e r = sym (old (suc n) (omega (arith, ltb-true n start e)))
+      go false e r = own (eqb (nameBound T W n) x) (ltb-false n start e) r
 
   assign-names : (base n : ℕ) → n ≤ base → not (isFixed x (namesOf T W n)) ≡ assignFrom T W base (latest T W x n)
   unfolding isFixed namesOf latest highest
@@ -231,17 +231,17 @@ module _ (T : Tables) (W : List ℕ) (x : ℕ) where
       go true false e l r = rw (lt-ltb n base l, e)
       go false g e l r = r
 
-  assign-from : (base s : ℕ) → base ≤ s → pick (isFresh x (scopeOf T W base s)) (not (isFixed x (namesOf T W base))) true ≡ assignFrom T W base (latest T W x s)
-  unfolding isFresh latest highest
+  assign-from : (base s : ℕ) → base ≤ s → pick (isUnbound x (scopeOf T W base s)) (not (isFixed x (namesOf T W base))) true ≡ assignFrom T W base (latest T W x s)
+  unfolding nearest latest highest
   assign-from base s h = from-base
-      (λ n. pick (isFresh x (scopeOf T W base n)) (not (isFixed x (namesOf T W base))) true ≡ assignFrom T W base (latest T W x n))
+      (λ n. pick (isUnbound x (scopeOf T W base n)) (not (isFixed x (namesOf T W base))) true ≡ assignFrom T W base (latest T W x n))
       base
       (rw (scope-none T W base) (assign-names base base (omega arith)))
       (λ n l r. rw (scope-more T W base n l) (go n (eqb (nameBound T W n) x) l r))
       s
       h
     where
-      go : (n : ℕ) (b : Bool) → base ≤ n → pick (isFresh x (scopeOf T W base n)) (not (isFixed x (namesOf T W base))) true ≡ assignFrom T W base (latest T W x n) → pick (pick b false (isFresh x (scopeOf T W base n))) (not (isFixed x (namesOf T W base))) true ≡ assignFrom T W base (foundBelow (pick b (suc n) (highest (nameBound T W) x n)))
+      go : (n : ℕ) (b : Bool) → base ≤ n → pick (isUnbound x (scopeOf T W base n)) (not (isFixed x (namesOf T W base))) true ≡ assignFrom T W base (latest T W x n) → pick (isMiss (pick b (hit (typeBound T W n) (binderOf T W n)) (find x (scopeOf T W base n)))) (not (isFixed x (namesOf T W base))) true ≡ assignFrom T W base (foundBelow (pick b (suc n) (highest (nameBound T W) x n)))
       go n true l r = rw (le-ltb n base l)
       go n false l r = r
 
@@ -340,18 +340,19 @@ module _ {F : List ℕ} {S : Sections} {W K : List ℕ} {x : ℕ} (r : Found) (f
   pub found-there : (b : ℕ) → S .«built_ins» ≤ j → b ≡ binderOf (tablesOf F S) W j → Has F S b (S .nodes)
   found-there b h eb = binder-there F S W j h found-position b eb
 
-module _ {F : List ℕ} {S : Sections} {W K : List ℕ} {x : ℕ} (base : ℕ) (r : Found) (found : Finds F S W K x r) where
-  fresh-is : (t : Bool) → freshFrom base r ≡ t → Freshness F S W K base x t
+module _ {F : List ℕ} {S : Sections} {W K : List ℕ} {x : ℕ} (start : ℕ) (r : Found) (found : Finds F S W K x r) where
+  fresh-is : (t : Bool) → freshFrom start r ≡ t → Freshness F S W K start x t
   fresh-is t e = record {
-    tells = λ s c. sym (fresh-from (tablesOf F S) W x base s ∙ ap (freshFrom base) (sym (found .found s c)) ∙ e);
+    tells = λ s c. sym (fresh-from (tablesOf F S) W x start s ∙ ap (freshFrom start) (sym (found .found s c)) ∙ e);
   }
 
-  pub fresh-none : r ≡ Nothing → Freshness F S W K base x true
-  fresh-none e = fresh-is true (ap (freshFrom base) e)
+  pub fresh-none : r ≡ Nothing → Freshness F S W K start x true
+  fresh-none e = fresh-is true (ap (freshFrom start) e)
 
-  pub fresh-at : (j : ℕ) → r ≡ At j → Freshness F S W K base x (ltb j base)
-  fresh-at j e = fresh-is (ltb j base) (ap (freshFrom base) e)
+  pub fresh-at : (j : ℕ) → r ≡ At j → Freshness F S W K start x (ltb j start)
+  fresh-at j e = fresh-is (ltb j start) (ap (freshFrom start) e)
 
+module _ {F : List ℕ} {S : Sections} {W K : List ℕ} {x : ℕ} (base : ℕ) (r : Found) (found : Finds F S W K x r) where
   module _ (o : SomeFrom F S W K base) where
     assign-is : (t : Bool) → assignFrom (tablesOf F S) W base r ≡ t → Assignability F S W K base x t
     assign-is t e = record {
@@ -478,6 +479,65 @@ module _ {F : List ℕ} {S : Sections} {W K W′ K′ : List ℕ} {s node t : �
 
   pub names-bound : namesOf (tablesOf F S) W′ base ≡ namesOf (tablesOf F S) W base
   names-bound = names-same (tablesOf F S) s (b .same) base h
+
+-- the scope that the stack holds: where the stack is the same, from an inner block, and with one binding more
+module _ {T : Tables} {W : List ℕ} {base start s : ℕ} {Γ : Scope ℕ} (h : Holds T W base start s Γ) where
+  pub holds-same : {W′ : List ℕ} → Same (entryOf T s) W W′ → Holds T W′ base start s Γ
+  holds-same same = record {
+    low = h .low;
+    means = λ x. h .means x ∙ ap (find x) (sym (scope-same T s same base));
+    fresh = λ x. h .fresh x ∙ ap (isUnbound x) (sym (scope-same T s same start));
+    deepest = h .deepest;
+  }
+
+  pub holds-inner : Holds T W base s s (inner Γ)
+  unfolding nearest
+  holds-inner = record {
+    low = omega arith;
+    means = h .means;
+    fresh = λ x. h .deepest (suc (Γ .level)) x (omega arith) ∙ ap (isUnbound x) (sym (scope-none T W s));
+    deepest = λ l x k. h .deepest l x (omega arith);
+  }
+
+  holds-more : base ≤ s → Holds T W base start (suc s) (binds Γ (nameBound T W s) (typeBound T W s) (binderOf T W s))
+  unfolding nearest isFreshAt
+  holds-more l = record {
+    low = omega (arith, h .low);
+    means = λ x. ap (λ m. pick (eqb (nameBound T W s) x) (hit (typeBound T W s) (binderOf T W s)) m) (h .means x) ∙ ap (find x) (sym (scope-more T W base s l));
+    fresh = λ x. own x ∙ ap (λ m. pick (eqb (nameBound T W s) x) false m) (h .fresh x) ∙ taken (eqb (nameBound T W s) x) _ ∙ ap (isUnbound x) (sym (scope-more T W start s (h .low)));
+    deepest = λ k x g. rw (ne-eqb (Γ .level) k (λ e. omega arith)) (h .deepest k x g);
+  }
+    where
+      own : (x : ℕ) → isFresh x (binds Γ (nameBound T W s) (typeBound T W s) (binderOf T W s)) ≡ pick (eqb (nameBound T W s) x) false (isFresh x Γ)
+      own x = rw (eq-eqb (Γ .level) (Γ .level) refl)
+
+      taken : (a : Bool) (m : Hit ℕ) → pick a false (isMiss m) ≡ isMiss (pick a (hit (typeBound T W s) (binderOf T W s)) m)
+      taken true m = refl
+      taken false m = refl
+
+pub holds-bound : {F : List ℕ} {S : Sections} {W K W′ K′ : List ℕ} {base start s node t : ℕ} {Γ : Scope ℕ} → Holds (tablesOf F S) W base start s Γ → base ≤ s → Bound F S W K s node t W′ K′ → Holds (tablesOf F S) W′ base start (s + 1) (binds Γ (nodeAt (tablesOf F S) node .x) t node)
+holds-bound h l b = rw (add-one, ← b .name, ← b .type, ← b .binder) (holds-more (holds-same h (b .same)) l)
+
+-- a scope of one block: that of a body, with its parameters
+pub holds-own : (T : Tables) (W : List ℕ) (base s : ℕ) → base ≤ s → Holds T W base base s (scopeOf T W base s)
+unfolding nearest isFreshAt
+holds-own T W base s h = from-base (λ n. Holds T W base base n (scopeOf T W base n)) base none (λ n l r. rw (scope-more T W base n l) (holds-more r l)) s h
+  where
+    none : Holds T W base base base (scopeOf T W base base)
+    none = record {
+      low = omega arith;
+      means = λ x. refl;
+      fresh = λ x. rw (scope-none T W base);
+      deepest = λ l x k. rw (scope-none T W base);
+    }
+
+-- some scope is held, wherever its own block begins
+pub holds-some : (T : Tables) (W : List ℕ) (base start s : ℕ) → base ≤ start → start ≤ s → (Γ : Scope ℕ) × Holds T W base start s Γ
+holds-some T W base start s l h =
+    from-base (λ n. (Γ : Scope ℕ) × Holds T W base start n Γ) start
+    (inner (scopeOf T W base start), holds-inner (holds-own T W base start l))
+    (λ n k r. (binds (r .0) (nameBound T W n) (typeBound T W n) (binderOf T W n), holds-more (r .1) (omega arith)))
+    s h
 
 -- no binding yet
 pub scoped-none : (F : List ℕ) (S : Sections) (W K : List ℕ) → Laid F S → S .nodes * 2 ≤ length W → 4736 ≤ length K → ((h : ℕ) → h < 512 → getD K h 0 ≡ 0) → Scoped F S W K 0

@@ -9,7 +9,7 @@ use lib.Dec.{eqb, ltb}
 use Rattle.oat.specs.Basics.{pick}
 use Rattle.oat.specs.Tables.{Tables, builtInAt, nodeAt}
 use Rattle.chains.specs.Chains.{highest, Chains}
-use Rattle.typing_rules.specs.Contexts.{Scope, empty, binds, Entry, isFresh, isFixed}
+use Rattle.typing_rules.specs.Contexts.{Scope, empty, binds, Entry, find, isUnbound, isFreshAt, isFresh, isFixed}
 use Rattle.file_sections.specs.declared.Sections.{Sections}
 use Rattle.file_sections.specs.Layout.{Laid, tablesOf}
 use Rattle.file_sections.specs.Frames.{Same}
@@ -39,7 +39,7 @@ namesOf T W zero = []
 namesOf T W (suc j) =
     record { name = nameBound T W j; type = typeBound T W j; binder = binderOf T W j; assignable = isGlobal T W j } ∷ namesOf T W j
 
--- the scope of the height s: the positions from `base` on
+-- the positions from `base` on and below s, as a scope of one block
 unfoldable pub scopeOf : Tables → List ℕ → ℕ → ℕ → Scope ℕ
 scopeOf T W base zero = empty
 scopeOf T W base (suc j) = pick (ltb j base) empty (binds (scopeOf T W base j) (nameBound T W j) (typeBound T W j) (binderOf T W j))
@@ -84,16 +84,23 @@ pub record SomeFrom (F : List ℕ) (S : Sections) (W K : List ℕ) (base : ℕ) 
   pub some : Some F S W K
   pub low : base ≤ some .height
 
+-- the stack W holds the scope Γ at the height s: its locals stand from `base` on, those of its own block from `start` on
+pub record Holds (T : Tables) (W : List ℕ) (base start s : ℕ) (Γ : Scope ℕ) : Type 0 where
+  pub low : start ≤ s
+  pub means : (x : ℕ) → find x Γ ≡ find x (scopeOf T W base s)
+  pub fresh : (x : ℕ) → isFresh x Γ ≡ isUnbound x (scopeOf T W start s)
+  pub deepest : (l x : ℕ) → Γ .level < l → isFreshAt l x (Γ .bindings) ≡ true
+
 -- what `find`, `is_fresh` and `is_assignable` answer, in the scope that the buffers hold
 pub record Finds (F : List ℕ) (S : Sections) (W K : List ℕ) (x : ℕ) (r : Found) : Type 0 where
   pub found : (s : ℕ) → Scoped F S W K s → r ≡ latest (tablesOf F S) W x s
 
-pub record Freshness (F : List ℕ) (S : Sections) (W K : List ℕ) (base x : ℕ) (r : Bool) : Type 0 where
-  pub tells : (s : ℕ) → Scoped F S W K s → r ≡ isFresh x (scopeOf (tablesOf F S) W base s)
+pub record Freshness (F : List ℕ) (S : Sections) (W K : List ℕ) (start x : ℕ) (r : Bool) : Type 0 where
+  pub tells : (s : ℕ) → Scoped F S W K s → r ≡ isUnbound x (scopeOf (tablesOf F S) W start s)
 
 pub record Assignability (F : List ℕ) (S : Sections) (W K : List ℕ) (base x : ℕ) (r : Bool) : Type 0 where
   pub tells : (s : ℕ) → Scoped F S W K s
-      → r ≡ pick (isFresh x (scopeOf (tablesOf F S) W base s)) (not (isFixed x (namesOf (tablesOf F S) W base))) true
+      → r ≡ pick (isUnbound x (scopeOf (tablesOf F S) W base s)) (not (isFixed x (namesOf (tablesOf F S) W base))) true
 
 -- there is room for a binding of the node, with the type t, at the height s
 pub record Bindable (F : List ℕ) (S : Sections) (W K : List ℕ) (s node t : ℕ) : Type 0 where

@@ -97,23 +97,23 @@ pub fn find(file: &[u8], sections: Sections, work: &[u16], chains: &[u16], name:
     Found::Nothing
 }
 
-// The name is bound by no local; locals stand from the position `base` on.
+// The block whose bindings stand from the position `start` on has not bound the name.
 pub fn is_fresh(
     file: &[u8],
     sections: Sections,
     work: &[u16],
     chains: &[u16],
-    base: usize,
+    start: usize,
     name: usize,
 ) -> bool
     requires { ⌜ Some (now file) sections (now work) (now chains) ⌝ }
-    ensures { λ r. ⌜ Freshness (now (file .entry)) sections (now (work .entry)) (now (chains .entry)) base name r ⌝ }
+    ensures { λ r. ⌜ Freshness (now (file .entry)) sections (now (work .entry)) (now (chains .entry)) start name r ⌝ }
 {
     let found = find(file, sections, work, chains, name);
     let Found::At(position) = found else {
         return true;
     };
-    position < base
+    position < start
 }
 
 // The name is not that of a function or of a built-in, or a local hides it.

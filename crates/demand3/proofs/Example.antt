@@ -12,7 +12,7 @@ use Rattle.oat.specs.Types.{Ty, bool, written, firstTypes, typeOf}
 use Rattle.oat.specs.Syntax.{name}
 use Rattle.oat.specs.ProgramFile.{limitsOf, fromOneTo, inRange, widest, IsFile}
 use Rattle.oat.proofs.LawsLimits.{widest-in-range}
-use Rattle.typing_rules.specs.Contexts.{empty, hit, miss, find, Context, findName}
+use Rattle.typing_rules.specs.Contexts.{empty, hit, miss, nearest, find, Context, findName}
 use Rattle.typing_rules.specs.Labels.{Labels}
 use Rattle.typing_rules.specs.Rules.{ExprRule, typ-literal, typ-local, typ-global}
 use Rattle.typing_rules.specs.Derivations.{here}
@@ -60,7 +60,7 @@ unbound-file = is-file widest unbound refl
 
 -- no rule gives a name a type where nothing is bound
 no-name : {T : Tables} {D : Labels Ty} {n x : ℕ} → D n .before ≡ empty → ExprRule T emptyContext D n (name x) → ⊥
-unfolding find findName
+unfolding nearest findName
 no-name {x = x} e (typ-local t b f h) = let m : miss ≡ hit t b = ap (find x) (sym e) ∙ f in let z : _≡_ {A = ℕ} 0 1 = cc in omega arith
 no-name e (typ-global t b m f h) = let z : _≡_ {A = ℕ} 0 1 = cc in omega arith
 

@@ -13,14 +13,14 @@ use Rattle.oat.specs.Types.{Field, Lookup, found, missing, lookup, structOf}
 use Rattle.oat.specs.Syntax.{Expr, null, literal, name, arrayLiteral, defaultArray, arrayWith, index, lengthOf, structLiteral, field, call, unary, binary, Exprs, none, also, count, Inits, noInit, init, targetExpr, Vars, noVar, nextVar, Condition, noCondition, condition, Stmt, assign, var, returnValue, returnVoid, callStmt, ifElse, ifNull, for, while, Step, noStep, step, Block, block, Stmts, empty, then, Decl, global, function, size, sizes, sizeInits, sizeTarget, sizeVars, sizeCondition, sizeStep, sizeBlock, sizeStmt, sizeStmts, sizeDecl, sizeDecls}
 use Rattle.oat.specs.ProgramFile.{widest, Program, IsFile}
 use Rattle.oat.proofs.LawsBasics.{tabulate-long}
-use Rattle.typing_rules.specs.Contexts.{Scope, empty as emptyScope, binds, Hit, hit, miss, find, isFresh, Context, findName, orElse}
+use Rattle.typing_rules.specs.Contexts.{Scope, empty as emptyScope, binds, Hit, hit, miss, inner, find, isMiss, isFresh, Context, findName, orElse}
 use Rattle.typing_rules.specs.Labels.{Label}
 use Rattle.typing_rules.specs.Operators.{isEquality, operandType, unaryType}
 use Rattle.typing_rules.specs.Rules.{namesFit}
 use Rattle.typing_rules.specs.Derivations.{isEmpty}
 use Rattle.typing_rules.specs.Judge.{Out, ok, no, andThen, needs, isKind, referred, isBelow, formed, hasDefault, eachBelow, argumentsBelow, named, Number, number, unknown, fieldOf, fieldType, onDeclared, initsBelow, judge, judges, judgeInits, assignsTo, executeVars, judgeCondition, execute, executeStep, executeBlock, executeAll}
 use Rattle.typing_rules.specs.Steps.{Step as CheckStep, structName, builtIn, heading, globalValue, structFields, body, headings, globals, bodies, stepsOf, distinctFields, distinctNames, parameters, emptyContext}
-use Rattle.typing_rules.specs.Check.{isMissing, isMiss, fieldsFormed, runStep, Segment, Ran, accepted, refused, withSegment, onStep, run}
+use Rattle.typing_rules.specs.Check.{isMissing, fieldsFormed, runStep, Segment, Ran, accepted, refused, withSegment, onStep, run}
 use Rattle.typing_rules.proofs.Theorem.{runOf, accepted-derives, refused-step}
 use Rattle.typing_rules.proofs.LawsPlaced.{some-node}
 use Rattle.typing_rules.proofs.LawsNumbers.{refused-number}
@@ -79,9 +79,8 @@ module _ (most : ℕ) where
           needs-at (formed T C (referred T t)) 9 l
           (then-at (expr-at a (n + 1) Γ (omega arith)) λ u L.
           needs-at (isKind T u 0) 10 l
-          (needs-at (isFresh x Γ) 7 l
-          (then-at (expr-at b (n + 1 + size a) (binds Γ x 0 n) (omega arith)) λ v M.
-          needs-at (isBelow T C v (referred T t)) 11 l ok-at)))
+          (then-at (expr-at b (n + 1 + size a) (binds (inner Γ) x 0 n) (omega arith)) λ v M.
+          needs-at (isBelow T C v (referred T t)) 11 l ok-at))
       expr-at (index a b) n Γ h =
           let l : n < most = omega arith in
           then-at (expr-at a (n + 1) Γ (omega arith)) λ t L.
@@ -185,27 +184,27 @@ module _ (most : ℕ) where
         stmt-at last (ifElse a b c) n Γ h =
             then-at (expr-at a (n + 1) Γ (omega arith)) λ t L.
             needs-at (isKind T t 1) 10 (omega arith)
-            (then-at (block-at b (n + 1 + size a) Γ (omega arith)) λ p M.
-            then-at (block-at c (n + 1 + size a + sizeBlock b) Γ (omega arith)) λ q N.
+            (then-at (block-at b (n + 1 + size a) (inner Γ) (omega arith)) λ p M.
+            then-at (block-at c (n + 1 + size a + sizeBlock b) (inner Γ) (omega arith)) λ q N.
             ok-at)
         stmt-at last (ifNull x t a b c) n Γ h =
             let l : n < most = omega arith in
             then-at (expr-at a (n + 1) Γ (omega arith)) λ u L.
             needs-at (isKind T u 7) 10 l
             (needs-at (isBelow T C (referred T u) t) 11 l
-            (then-at (block-at b (n + 1 + size a) (binds Γ x t n) (omega arith)) λ p M.
-            then-at (block-at c (n + 1 + size a + sizeBlock b) Γ (omega arith)) λ q N.
+            (then-at (block-at b (n + 1 + size a) (inner (binds (inner Γ) x t n)) (omega arith)) λ p M.
+            then-at (block-at c (n + 1 + size a + sizeBlock b) (inner Γ) (omega arith)) λ q N.
             ok-at))
         stmt-at last (for vs c s b) n Γ h =
-            then-at (vars-at vs (n + 1) Γ (omega arith)) λ Δ L.
+            then-at (vars-at vs (n + 1) (inner Γ) (omega arith)) λ Δ L.
             then-at (condition-at c (n + 1 + sizeVars vs) n Δ (omega arith) (omega arith)) λ Δ₁ M.
             then-at (step-at s (n + 1 + sizeVars vs + sizeCondition c) Δ (omega arith)) λ p N.
-            then-at (block-at b (n + 1 + sizeVars vs + sizeCondition c + sizeStep s) Δ (omega arith)) λ q O.
+            then-at (block-at b (n + 1 + sizeVars vs + sizeCondition c + sizeStep s) (inner Δ) (omega arith)) λ q O.
             ok-at
         stmt-at last (while a b) n Γ h =
             then-at (expr-at a (n + 1) Γ (omega arith)) λ t L.
             needs-at (isKind T t 1) 10 (omega arith)
-            (then-at (block-at b (n + 1 + size a) Γ (omega arith)) λ p M.
+            (then-at (block-at b (n + 1 + size a) (inner Γ) (omega arith)) λ p M.
             ok-at)
 
         step-at : (s : Step) (n : ℕ) (Γ : Scope ℕ) → n + sizeStep s ≤ most → Placed (executeStep T C rt s n Γ)

@@ -12,8 +12,9 @@ use Rattle.oat.specs.Decide.{below, isFormed}
 use Rattle.oat.specs.Syntax.{Expr, arrayWith, size}
 use Rattle.oat.specs.Nodes.{Stands}
 use Rattle.oat.proofs.LawsTables.{has-kind}
-use Rattle.typing_rules.specs.Contexts.{binds, isFresh}
+use Rattle.typing_rules.specs.Contexts.{binds, inner}
 use Rattle.typing_rules.specs.Labels.{Label}
+use Rattle.typing_rules.proofs.LawsAlike.{agree-index}
 use Rattle.typing_rules.specs.Judge.{ok, andThen, needs, plain, isKind, referred, isBelow, formed, judge}
 use Rattle.file_sections.specs.declared.Sections.{Sections}
 use Rattle.file_sections.specs.Layout.{Has, tablesOf, GoodTables}
@@ -21,7 +22,7 @@ use Rattle.file_sections.specs.Frames.{Same}
 use Rattle.file_sections.proofs.LawsRecords.{nodes-long}
 use Rattle.file_sections.proofs.LawsFrames.{same-trans}
 use Rattle.type_index.specs.Index.{declared, formedEntry, Entered, Indexed}
-use Rattle.bindings.specs.Bindings.{entryOf, scopeOf, Scoped, Some, Freshness, Bindable, Bound}
+use Rattle.bindings.specs.Bindings.{entryOf, scopeOf, Scoped, Bindable, Bound}
 use Rattle.bindings.proofs.LawsBindings.{scope-bound, names-bound, scope-same, names-same}
 use Rattle.answers.specs.declared.answer.Judgement.the-variants.{Typed, Refused}
 use Rattle.answers.specs.declared.answer.At.{At}
@@ -30,6 +31,7 @@ use Rattle.answers.specs.Answers.{withRow}
 use Rattle.expressions.specs.Contract.{contextOf, Fine, After, Typing, Meets, accepts, Answers, Ready, Told, fills, ReadyFilling, ToldFilling}
 use Rattle.expressions.proofs.LawsMeets.{Untyped, stops, passes, then-tested, child-no, child-ok}
 use Rattle.expressions.proofs.LawsAfter.{ready, typing-of, after-append, rule-typed}
+use Rattle.expressions.proofs.LawsScope.{typed-in}
 use Rattle.expressions.proofs.LawsLabels.{expr-long, expr-closed}
 use Rattle.expressions.proofs.LawsChild.{has-node, has-type, base-within, kind-within, element-within, type-entered, formed-is}
 use Rattle.expressions.proofs.LawsRules.{needs-true, First, first-no, first-sort}
@@ -59,15 +61,16 @@ after-leave {F} {S} {s = s} l b a c =
       };
     }
 
--- the value sees the scope and the names before it, and the index name
+-- the value sees the scope and the names before it, and the index name in a block of its own
 retell-bound : {F : List ℕ} {S : Sections} {X R W K W₁ K₁ R₂ W₂ K₂ : List ℕ} {base n m s : ℕ} {r : Judged} → base ≤ s
     → Bound F S W K s n 0 W₁ K₁ → Told F S X R W₁ base m (s + 1) R₂ W₂ K₂ r → (e : Expr) → Stands (tablesOf F S) m e
     → Meets (Typing F S X base m (size e) (s + 1) R W₁ R₂ W₂ K₂ r) r
-    (judge (tablesOf F S) (contextOf (tablesOf F S) W base) e m (binds (scopeOf (tablesOf F S) W base s) (nodeAt (tablesOf F S) n .x) 0 n))
+    (judge (tablesOf F S) (contextOf (tablesOf F S) W base) e m (binds (inner (scopeOf (tablesOf F S) W base s)) (nodeAt (tablesOf F S) n .x) 0 n))
 retell-bound {F} {S} {X} {R} {W} {K} {W₁} {K₁} {R₂} {W₂} {K₂} {base} {n} {m} {s} {r} l b told e h =
-    subst (λ Γ. Meets (Typing F S X base m (size e) (s + 1) R W₁ R₂ W₂ K₂ r) r (judge (tablesOf F S) (contextOf (tablesOf F S) W base) e m Γ)) (scope-bound base b l)
+    typed-in _ _ e m (agree-index (scopeOf (tablesOf F S) W base s) (nodeAt (tablesOf F S) n .x) 0 n)
+    (subst (λ Γ. Meets (Typing F S X base m (size e) (s + 1) R W₁ R₂ W₂ K₂ r) r (judge (tablesOf F S) (contextOf (tablesOf F S) W base) e m Γ)) (scope-bound base b l)
     (subst (λ N. Meets (Typing F S X base m (size e) (s + 1) R W₁ R₂ W₂ K₂ r) r (judge (tablesOf F S) (record { structs = declared (tablesOf F S); names = N }) e m (scopeOf (tablesOf F S) W₁ base (s + 1))))
-    (names-bound base b l) (told .tells e h))
+    (names-bound base b l) (told .tells e h)))
 
 -- `filling`
 module _ {F : List ℕ} {S : Sections} {X R W K : List ℕ} {base n s m : ℕ} (g : ReadyFilling F S X R W K base n s m) where
@@ -158,14 +161,14 @@ module _ {F : List ℕ} {S : Sections} {X R W K : List ℕ} {base n s m : ℕ} (
 retell-filling : {F : List ℕ} {S : Sections} {X W R₁ W₁ R₂ W₂ K₂ : List ℕ} {base n s m i : ℕ} {r : Judged} → Same (entryOf (tablesOf F S) s) W W₁ → base ≤ s → m ≡ i
     → ToldFilling F S X R₁ W₁ base n s m R₂ W₂ K₂ r → (t x : ℕ) → nodeAt (tablesOf F S) n .t ≡ t → nodeAt (tablesOf F S) n .x ≡ x → (e : Expr) → Stands (tablesOf F S) i e
     → Meets (Typing F S X base i (size e) s R₁ W₁ R₂ W₂ K₂ r) r
-    (andThen (judge (tablesOf F S) (contextOf (tablesOf F S) W base) e i (binds (scopeOf (tablesOf F S) W base s) x 0 n)) λ v M.
+    (andThen (judge (tablesOf F S) (contextOf (tablesOf F S) W base) e i (binds (inner (scopeOf (tablesOf F S) W base s)) x 0 n)) λ v M.
     needs (isBelow (tablesOf F S) (contextOf (tablesOf F S) W base) v (referred (tablesOf F S) t)) 11 n (ok v M))
 retell-filling {F} {S} {X} {W} {R₁} {W₁} {R₂} {W₂} {K₂} {base} {n} {s} {m} {i} {r} a l e told t x et ex d h =
     subst (λ y. Meets (Typing F S X base i (size d) s R₁ W₁ R₂ W₂ K₂ r) r
-    (andThen (judge (tablesOf F S) (contextOf (tablesOf F S) W base) d i (binds (scopeOf (tablesOf F S) W base s) y 0 n)) λ v M.
+    (andThen (judge (tablesOf F S) (contextOf (tablesOf F S) W base) d i (binds (inner (scopeOf (tablesOf F S) W base s)) y 0 n)) λ v M.
     needs (isBelow (tablesOf F S) (contextOf (tablesOf F S) W base) v (referred (tablesOf F S) t)) 11 n (ok v M))) ex
     (subst (λ u. Meets (Typing F S X base i (size d) s R₁ W₁ R₂ W₂ K₂ r) r
-    (andThen (judge (tablesOf F S) (contextOf (tablesOf F S) W base) d i (binds (scopeOf (tablesOf F S) W base s) (nodeAt (tablesOf F S) n .x) 0 n)) λ v M.
+    (andThen (judge (tablesOf F S) (contextOf (tablesOf F S) W base) d i (binds (inner (scopeOf (tablesOf F S) W base s)) (nodeAt (tablesOf F S) n .x) 0 n)) λ v M.
     needs (isBelow (tablesOf F S) (contextOf (tablesOf F S) W base) v (referred (tablesOf F S) u)) 11 n (ok v M))) et
     (subst (λ Γ. Meets (Typing F S X base i (size d) s R₁ W₁ R₂ W₂ K₂ r) r (fills (tablesOf F S) (contextOf (tablesOf F S) W base) d i n Γ)) (scope-same (tablesOf F S) s a base)
     (subst (λ N. Meets (Typing F S X base i (size d) s R₁ W₁ R₂ W₂ K₂ r) r (fills (tablesOf F S) (record { structs = declared (tablesOf F S); names = N }) d i n (scopeOf (tablesOf F S) W₁ base s)))
@@ -194,10 +197,6 @@ module _ {F : List ℕ} {S : Sections} {X R W K : List ℕ} {base n s : ℕ} (g 
     first-fine =
         on-filled (λ e. Fine F S X R₁ W₁ K₁ base s)
         (λ t x a b h. typing-of _ (m₁ .tells a (h .2)) y₁ .2 .after .fine) kind (g .tree) (g .stands)
-
-    -- for `is_fresh`
-    pub filled-some : Some F S W₁ K₁
-    filled-some = record { height = s; scoped = first-fine .scoped }
 
     -- for `filling`
     pub filled-filling : ReadyFilling F S X R₁ W₁ K₁ base n s (r₁ .at .node)
@@ -258,55 +257,34 @@ module _ {F : List ℕ} {S : Sections} {X R W K : List ℕ} {base n s : ℕ} (g 
             pub filled-sort : {r : Judged} → (k₁ ≡ 0 → ⊥) → r .judgement ≡ Refused 10 n → Told F S X R W base n s R₁ W₁ K₁ r
             filled-sort f = first-sort filled-child m₁ y₁ (ne-eqb _ _ (λ i. f (e₁ ∙ i)))
 
-            module _ (k : k₁ ≡ 0) {x₂ : ℕ} {b₂ : Bool} (ex : x₂ ≡ nodeAt (tablesOf F S) n .x) (fresh : Freshness F S W₁ K₁ base x₂ b₂) where
-              fresh-is : (x : ℕ) → nodeAt (tablesOf F S) n .x ≡ x → Same (entryOf (tablesOf F S) s) W W₁ → isFresh x (scopeOf (tablesOf F S) W base s) ≡ b₂
-              fresh-is x e a =
-                  sym (fresh .tells s (first-fine m₁ y₁ .scoped)
-                  ∙ ap (λ Γ. isFresh x₂ Γ) (scope-same (tablesOf F S) s a base)
-                  ∙ ap (λ i. isFresh i (scopeOf (tablesOf F S) W base s)) (ex ∙ e))
-
-              pub filled-taken : {r : Judged} → not b₂ ≡ true → r .judgement ≡ Refused 7 n → Told F S X R W base n s R₁ W₁ K₁ r
+            module _ (k : k₁ ≡ 0) {R₂ W₂ K₂ : List ℕ} {r₂ : Judged} (m₂ : ToldFilling F S X R₁ W₁ base n s (r₁ .at .node) R₂ W₂ K₂ r₂) where
+              pub filled-no-2 : Untyped r₂ → Told F S X R W base n s R₂ W₂ K₂ r₂
               unfolding judge
-              filled-taken {r} f e =
+              filled-no-2 z =
                   record {
-                    tells = on-filled (Answers F S X R W base n s R₁ W₁ K₁ r)
+                    tells = on-filled (Answers F S X R W base n s R₂ W₂ K₂ r₂)
                         (λ t x a b h.
                         passes _ 9 n _ (formed-at t (h .0 .t-is) ∙ not-false _ f₁)
                         (child-ok _ _ u y₁ (m₁ .tells a (h .2)) λ L q p.
                         passes _ 10 n _ (eq-eqb _ _ (sym e₁ ∙ k))
-                        (stops _ 7 n _ (fresh-is x (h .0 .x-is) (p .after .same) ∙ not-true _ f) e))) kind;
+                        (then-tested (judge (tablesOf F S) (contextOf (tablesOf F S) W base) b (n + 1 + size a) (binds (inner (scopeOf (tablesOf F S) W base s)) x 0 n))
+                        (λ v. isBelow (tablesOf F S) (contextOf (tablesOf F S) W base) v (referred (tablesOf F S) t)) 11 n (λ v M. plain t (scopeOf (tablesOf F S) W base s) (L ++ M))
+                        (child-no _ (λ v M. plain t (scopeOf (tablesOf F S) W base s) (L ++ M)) z (retell-filling (p .after .same) (g .fine .above) (p .next) m₂ t x (h .0 .t-is) (h .0 .x-is) b (h .3)))))) kind;
                   }
 
-              module _ (f₂ : not b₂ ≡ false) {R₂ W₂ K₂ : List ℕ} {r₂ : Judged} (m₂ : ToldFilling F S X R₁ W₁ base n s (r₁ .at .node) R₂ W₂ K₂ r₂) where
-                pub filled-no-2 : Untyped r₂ → Told F S X R W base n s R₂ W₂ K₂ r₂
-                unfolding judge
-                filled-no-2 z =
-                    record {
-                      tells = on-filled (Answers F S X R W base n s R₂ W₂ K₂ r₂)
-                          (λ t x a b h.
-                          passes _ 9 n _ (formed-at t (h .0 .t-is) ∙ not-false _ f₁)
-                          (child-ok _ _ u y₁ (m₁ .tells a (h .2)) λ L q p.
-                          passes _ 10 n _ (eq-eqb _ _ (sym e₁ ∙ k))
-                          (passes _ 7 n _ (fresh-is x (h .0 .x-is) (p .after .same) ∙ not-false _ f₂)
-                          (then-tested (judge (tablesOf F S) (contextOf (tablesOf F S) W base) b (n + 1 + size a) (binds (scopeOf (tablesOf F S) W base s) x 0 n))
-                          (λ v. isBelow (tablesOf F S) (contextOf (tablesOf F S) W base) v (referred (tablesOf F S) t)) 11 n (λ v M. plain t (scopeOf (tablesOf F S) W base s) (L ++ M))
-                          (child-no _ (λ v M. plain t (scopeOf (tablesOf F S) W base s) (L ++ M)) z (retell-filling (p .after .same) (g .fine .above) (p .next) m₂ t x (h .0 .t-is) (h .0 .x-is) b (h .3))))))) kind;
-                    }
-
-                pub filled-ok : {v : ℕ} {r : Judged} {R′ : List ℕ} → r₂ .judgement ≡ Typed v → r ≡ record { judgement = Typed t₁; at = r₂ .at }
-                    → R′ ≡ withRow R₂ n t₁ 65535 → Told F S X R W base n s R′ W₂ K₂ r
-                unfolding judge
-                filled-ok {v} {r} {R′} y₂ er eR =
-                    record {
-                      tells = on-filled (Answers F S X R W base n s R′ W₂ K₂ r)
-                          (λ t x a b h.
-                          passes _ 9 n _ (formed-at t (h .0 .t-is) ∙ not-false _ f₁)
-                          (child-ok _ _ u y₁ (m₁ .tells a (h .2)) λ L q p.
-                          passes _ 10 n _ (eq-eqb _ _ (sym e₁ ∙ k))
-                          (passes _ 7 n _ (fresh-is x (h .0 .x-is) (p .after .same) ∙ not-false _ f₂)
-                          (then-tested (judge (tablesOf F S) (contextOf (tablesOf F S) W base) b (n + 1 + size a) (binds (scopeOf (tablesOf F S) W base s) x 0 n))
-                          (λ v. isBelow (tablesOf F S) (contextOf (tablesOf F S) W base) v (referred (tablesOf F S) t)) 11 n (λ v M. plain t (scopeOf (tablesOf F S) W base s) (L ++ M))
-                          (child-ok _ (λ v M. plain t (scopeOf (tablesOf F S) W base s) (L ++ M)) v y₂ (retell-filling (p .after .same) (g .fine .above) (p .next) m₂ t x (h .0 .t-is) (h .0 .x-is) b (h .3)) λ M q₂ p₂.
-                          subst (λ i. Meets (Typing F S X base n (size (arrayWith t x a b)) s R W R′ W₂ K₂ r) r (plain i (scopeOf (tablesOf F S) W base s) (L ++ M))) (et ∙ h .0 .t-is)
-                          (accepts _ _ (rule-typed (g .within) filled-within (after-append (expr-long _ _ a (n + 1) _ u L q) (expr-closed _ _ a (n + 1) _ u L q) (p .after) (p₂ .after)) er (p₂ .next ∙ omega arith) (p₂ .scope) (omega arith) eR))))))) kind;
-                    }
+              pub filled-ok : {v : ℕ} {r : Judged} {R′ : List ℕ} → r₂ .judgement ≡ Typed v → r ≡ record { judgement = Typed t₁; at = r₂ .at }
+                  → R′ ≡ withRow R₂ n t₁ 65535 → Told F S X R W base n s R′ W₂ K₂ r
+              unfolding judge
+              filled-ok {v} {r} {R′} y₂ er eR =
+                  record {
+                    tells = on-filled (Answers F S X R W base n s R′ W₂ K₂ r)
+                        (λ t x a b h.
+                        passes _ 9 n _ (formed-at t (h .0 .t-is) ∙ not-false _ f₁)
+                        (child-ok _ _ u y₁ (m₁ .tells a (h .2)) λ L q p.
+                        passes _ 10 n _ (eq-eqb _ _ (sym e₁ ∙ k))
+                        (then-tested (judge (tablesOf F S) (contextOf (tablesOf F S) W base) b (n + 1 + size a) (binds (inner (scopeOf (tablesOf F S) W base s)) x 0 n))
+                        (λ v. isBelow (tablesOf F S) (contextOf (tablesOf F S) W base) v (referred (tablesOf F S) t)) 11 n (λ v M. plain t (scopeOf (tablesOf F S) W base s) (L ++ M))
+                        (child-ok _ (λ v M. plain t (scopeOf (tablesOf F S) W base s) (L ++ M)) v y₂ (retell-filling (p .after .same) (g .fine .above) (p .next) m₂ t x (h .0 .t-is) (h .0 .x-is) b (h .3)) λ M q₂ p₂.
+                        subst (λ i. Meets (Typing F S X base n (size (arrayWith t x a b)) s R W R′ W₂ K₂ r) r (plain i (scopeOf (tablesOf F S) W base s) (L ++ M))) (et ∙ h .0 .t-is)
+                        (accepts _ _ (rule-typed (g .within) filled-within (after-append (expr-long _ _ a (n + 1) _ u L q) (expr-closed _ _ a (n + 1) _ u L q) (p .after) (p₂ .after)) er (p₂ .next ∙ omega arith) (p₂ .scope) (omega arith) eR)))))) kind;
+                  }

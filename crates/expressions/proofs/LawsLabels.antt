@@ -10,7 +10,7 @@ use lib.Dec.{eqb}
 use Rattle.oat.specs.Tables.{Tables, typeAt}
 use Rattle.oat.specs.Types.{lookup}
 use Rattle.oat.specs.Syntax.{Expr, null, literal, name, arrayLiteral, defaultArray, arrayWith, index, lengthOf, structLiteral, field, call, unary, binary, Exprs, none, also, Inits, noInit, init, count, size, sizes, sizeInits}
-use Rattle.typing_rules.specs.Contexts.{Scope, binds, find, isFresh, Context, findName, orElse}
+use Rattle.typing_rules.specs.Contexts.{Scope, binds, find, Context, findName, orElse, inner}
 use Rattle.typing_rules.specs.Labels.{Result, gives, marks, nothing, Label, unlabelled}
 use Rattle.typing_rules.specs.Operators.{isEquality, operandType, unaryType}
 use Rattle.typing_rules.specs.Rules.{namesFit}
@@ -122,11 +122,10 @@ module _ (T : Tables) (C : Context ℕ) where
         needs-ok (formed T C (referred T u)) _ _ _ j λ q k.
         then-ok (judge T C a (n + 1) Γ) _ k λ v M i k1.
         needs-ok (isKind T v 0) _ _ _ k1 λ q1 k2.
-        needs-ok (isFresh x Γ) _ _ _ k2 λ q2 k3.
-        then-ok (judge T C b (n + 1 + size a) (binds Γ x 0 n)) _ k3 λ w N i1 k4.
-        needs-ok (isBelow T C w (referred T u)) _ _ _ k4 λ q3 k5.
-        ok-is (Typed (size (arrayWith u x a b))) k5
-        (typed (omega arith) (run-append (run-typed (labels a (n + 1) Γ v M i)) (run-typed (labels b (n + 1 + size a) (binds Γ x 0 n) w N i1))))
+        then-ok (judge T C b (n + 1 + size a) (binds (inner Γ) x 0 n)) _ k2 λ w N i1 k3.
+        needs-ok (isBelow T C w (referred T u)) _ _ _ k3 λ q2 k4.
+        ok-is (Typed (size (arrayWith u x a b))) k4
+        (typed (omega arith) (run-append (run-typed (labels a (n + 1) Γ v M i)) (run-typed (labels b (n + 1 + size a) (binds (inner Γ) x 0 n) w N i1))))
     labels (index a b) n Γ t L j =
         then-ok (judge T C a (n + 1) Γ) _ j λ u M i k1.
         needs-ok (isKind T u 5) _ _ _ k1 λ q1 k2.

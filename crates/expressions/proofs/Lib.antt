@@ -4,6 +4,7 @@ pub mod LawsShape
 pub mod LawsAfter
 pub mod LawsChild
 pub mod LawsRules
+pub mod LawsScope
 pub mod LawsSorts
 pub mod LawsPairs
 pub mod LawsList

@@ -11,7 +11,7 @@ use Rattle.oat.specs.TableRules.{hasKind}
 use Rattle.oat.specs.Types.{structOf, Field}
 use Rattle.oat.specs.Syntax.{Expr, Exprs, Inits, size, sizes, sizeInits, count, countInits}
 use Rattle.oat.specs.Nodes.{Stands, StandAll, InitsStand}
-use Rattle.typing_rules.specs.Contexts.{Scope, binds, Context}
+use Rattle.typing_rules.specs.Contexts.{Scope, binds, inner, Context}
 use Rattle.typing_rules.specs.Labels.{Label}
 use Rattle.typing_rules.specs.Judge.{Out, ok, no, andThen, needs, referred, isBelow, eachBelow, argumentsBelow, initsBelow, judge, judges, judgeInits}
 use Rattle.typing_rules.specs.Check.{rowResult}
@@ -127,10 +127,10 @@ pub record ToldInits (F : List ℕ) (S : Sections) (X R W : List ℕ) (base n s 
       → Meets (Listing F S X base n (sizeInits is) s R W R′ W′ K′ r) r
       (initialized (tablesOf F S) (contextOf (tablesOf F S) W base) (structOf (tablesOf F S) owner .fields) is n (scopeOf (tablesOf F S) W base s) parent)
 
--- the value at m of the array with initializer at n, with its index name bound
+-- the value at m of the array with initializer at n, in the block of its index name
 abbrev pub fills : Tables → Context ℕ → Expr → (m n : ℕ) → Scope ℕ → Out ℕ
 fills T C b m n Γ =
-    andThen (judge T C b m (binds Γ (nodeAt T n .x) 0 n)) λ v L.
+    andThen (judge T C b m (binds (inner Γ) (nodeAt T n .x) 0 n)) λ v L.
     needs (isBelow T C v (referred T (nodeAt T n .t))) 11 n (ok v L)
 
 pub record ReadyFilling (F : List ℕ) (S : Sections) (X R W K : List ℕ) (base n s m : ℕ) : Type 0 where

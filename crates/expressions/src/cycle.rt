@@ -20,7 +20,6 @@ use answers::leaves::still_fits;
 use answers::leaves::unary_type;
 use bindings::Chains;
 use bindings::bind;
-use bindings::is_fresh;
 use bindings::leave;
 use fields::literal::names_fit;
 use fields::lookup::FieldType;
@@ -249,7 +248,7 @@ fn default_array(
     typed(rows, at.node, t, one.at)
 }
 
-// Array with initializer: element type, length, fresh index name, value.
+// Array with initializer: element type, length, value.
 fn array_with(
     file: &[u8],
     frame: Frame,
@@ -286,16 +285,6 @@ fn array_with(
     };
     if type_kind(file, frame.sections, u) != 0 {
         return refused(10, at.node, one.at);
-    }
-    if !is_fresh(
-        file,
-        frame.sections,
-        &*work,
-        &*chains,
-        frame.base,
-        node_x(file, frame.sections, at.node),
-    ) {
-        return refused(7, at.node, one.at);
     }
     let two = array_value(file, frame, index, rows, work, chains, at, one.at);
     let second = two.judgement;

@@ -8,21 +8,23 @@ use borrow.Author.Tests.{eq-eqb, ne-eqb}
 use Rattle.oat.specs.Tables.{typeAt, nodeAt}
 use Rattle.oat.specs.Syntax.{Expr, size, Exprs, sizes, count, callStmt, sizeStmt}
 use Rattle.oat.specs.Nodes.{StandAll}
+use Rattle.typing_rules.specs.Contexts.{Scope}
 use Rattle.typing_rules.specs.Labels.{Label}
-use Rattle.typing_rules.specs.Judge.{ok, andThen, referred, argumentsBelow, ends, execute}
+use Rattle.typing_rules.specs.Judge.{ok, andThen, referred, argumentsBelow, judge, judges, ends, execute}
 use Rattle.file_sections.specs.declared.Sections.{Sections}
 use Rattle.file_sections.specs.Layout.{Has, tablesOf}
 use Rattle.file_sections.proofs.LawsRecords.{nodes-long}
-use Rattle.bindings.specs.Bindings.{scopeOf}
+use Rattle.bindings.specs.Bindings.{Holds}
 use Rattle.answers.specs.declared.answer.Judgement.the-variants.{Typed, GoesOn, Refused}
 use Rattle.answers.specs.declared.answer.Judged.{Judged}
 use Rattle.answers.specs.declared.leaves.Expected.the-variants.{Run}
 use Rattle.answers.specs.Answers.{withRow, AnswerIs}
-use Rattle.expressions.specs.Contract.{contextOf, Typing, Listing, Meets, accepts, Ready, Told, expectedBelow, ReadyList, ToldList}
+use Rattle.expressions.specs.Contract.{contextOf, Typing, Listing, Meets, accepts, Ready, Told, expectedBelow, listed, ReadyList, ToldList}
 use Rattle.expressions.proofs.LawsMeets.{Untyped, Unlisted, stops, passes, then-tested, child-no, child-ok, list-no, list-ok}
 use Rattle.expressions.proofs.LawsAfter.{ready, typing-of, after-append}
 use Rattle.expressions.proofs.LawsChild.{child-within, has-type, returned-within, parameters-within}
-use Rattle.expressions.proofs.LawsList.{exprIn, judgedIn, listedIn, listed-fine}
+use Rattle.expressions.proofs.LawsScope.{in-scope, list-in-scope}
+use Rattle.expressions.proofs.LawsList.{listed-fine}
 use Rattle.expressions.proofs.LawsListRules.{retell-list}
 use Rattle.expressions.proofs.LawsLabels.{expr-long, expr-closed}
 use Rattle.expressions.proofs.LawsShape.{stands-end}
@@ -41,7 +43,7 @@ module _ {F : List ℕ} {S : Sections} {X R W K : List ℕ} {base n s : ℕ} (g 
     unfolding execute
     call-no u =
         record {
-          tells = λ rt. record { tells = λ last. on-call-stmt (AnswersStmt F S X R W base rt last n s R₁ W₁ K₁ r₁) (λ a es h. child-no _ _ u (m₁ .tells a (h .1))) kind };
+          tells = λ rt. record { tells = λ start last. on-call-stmt (AnswersStmt F S X R W base start rt last n s R₁ W₁ K₁ r₁) (λ a es h Γ d. child-no _ _ u (in-scope d _ _ _ (m₁ .tells a (h .1)))) kind };
         }
 
     module _ {f k₁ : ℕ} (y₁ : r₁ .judgement ≡ Typed f) (e₁ : k₁ ≡ typeAt (tablesOf F S) f .kind) where
@@ -50,8 +52,8 @@ module _ {F : List ℕ} {S : Sections} {X R W K : List ℕ} {base n s : ℕ} (g 
       call-sort {r} z e =
           record {
             tells = λ rt. record {
-              tells = λ last. on-call-stmt (AnswersStmt F S X R W base rt last n s R₁ W₁ K₁ r)
-                  (λ a es h. child-ok _ _ f y₁ (m₁ .tells a (h .1)) λ L q p. stops _ 10 n _ (ne-eqb _ _ (λ i. z (e₁ ∙ i))) e) kind;
+              tells = λ start last. on-call-stmt (AnswersStmt F S X R W base start rt last n s R₁ W₁ K₁ r)
+                  (λ a es h Γ d. child-ok _ _ f y₁ (in-scope d _ _ _ (m₁ .tells a (h .1))) λ L q p. stops _ 10 n _ (ne-eqb _ _ (λ i. z (e₁ ∙ i))) e) kind;
             };
           }
 
@@ -71,32 +73,32 @@ module _ {F : List ℕ} {S : Sections} {X R W K : List ℕ} {base n s : ℕ} (g 
           call-value {r} z e =
               record {
                 tells = λ rt. record {
-                  tells = λ last. on-call-stmt (AnswersStmt F S X R W base rt last n s R₁ W₁ K₁ r)
-                      (λ a es h.
-                      child-ok _ _ f y₁ (m₁ .tells a (h .1)) λ L q p.
+                  tells = λ start last. on-call-stmt (AnswersStmt F S X R W base start rt last n s R₁ W₁ K₁ r)
+                      (λ a es h Γ d.
+                      child-ok _ _ f y₁ (in-scope d _ _ _ (m₁ .tells a (h .1))) λ L q p.
                       passes _ 10 n _ (eq-eqb _ _ (sym e₁ ∙ six))
                       (stops _ 13 n _ (ne-eqb _ _ (λ i. z (referred-kind ∙ i))) e)) kind;
                 };
               }
 
-          module _ (three : k₂ ≡ 3) {c d : ℕ} (ec : c ≡ typeAt (tablesOf F S) f .c) (ed : d ≡ nodeAt (tablesOf F S) n .children) where
-            pub call-count : {r : Judged} → (d ≡ 1 + c → ⊥) → r .judgement ≡ Refused 12 n → ToldAny F S X R W base n s R₁ W₁ K₁ r
+          module _ (three : k₂ ≡ 3) {c i : ℕ} (ec : c ≡ typeAt (tablesOf F S) f .c) (ei : i ≡ nodeAt (tablesOf F S) n .children) where
+            pub call-count : {r : Judged} → (i ≡ 1 + c → ⊥) → r .judgement ≡ Refused 12 n → ToldAny F S X R W base n s R₁ W₁ K₁ r
             unfolding execute
             call-count {r} z e =
                 record {
                   tells = λ rt. record {
-                    tells = λ last. on-call-stmt (AnswersStmt F S X R W base rt last n s R₁ W₁ K₁ r)
-                        (λ a es h.
-                        child-ok _ _ f y₁ (m₁ .tells a (h .1)) λ L q p.
+                    tells = λ start last. on-call-stmt (AnswersStmt F S X R W base start rt last n s R₁ W₁ K₁ r)
+                        (λ a es h Γ d.
+                        child-ok _ _ f y₁ (in-scope d _ _ _ (m₁ .tells a (h .1))) λ L q p.
                         passes _ 10 n _ (eq-eqb _ _ (sym e₁ ∙ six))
                         (passes _ 13 n _ (eq-eqb _ _ (sym referred-kind ∙ three))
-                        (stops _ 12 n _ (ne-eqb _ _ (λ i. z (ed ∙ h .0 .children-is ∙ ap (λ j. 1 + j) (i ∙ sym ec)))) e))) kind;
+                        (stops _ 12 n _ (ne-eqb _ _ (λ k. z (ei ∙ h .0 .children-is ∙ ap (λ j. 1 + j) (k ∙ sym ec)))) e))) kind;
                   };
                 }
 
-            module _ (many : d ≡ 1 + c) {b : ℕ} (eb : b ≡ typeAt (tablesOf F S) f .b) where
+            module _ (many : i ≡ 1 + c) {b : ℕ} (eb : b ≡ typeAt (tablesOf F S) f .b) where
               counts : (es : Exprs) → nodeAt (tablesOf F S) n .children ≡ 1 + count es → count es ≡ c
-              counts es h = omega (arith, ed, many)
+              counts es h = omega (arith, ei, many)
 
               pub call-list : ReadyList F S X R₁ W₁ K₁ base (r₁ .at .node) s c (Run b)
               call-list =
@@ -116,35 +118,37 @@ module _ {F : List ℕ} {S : Sections} {X R W K : List ℕ} {base n s : ℕ} (g 
 
               module _ {R₂ W₂ K₂ : List ℕ} {r₂ : Judged} (m₂ : ToldList F S X R₁ W₁ base (r₁ .at .node) s c (Run b) n R₂ W₂ K₂ r₂) where
                 call-told : {r : Judged} {R′ W′ K′ : List ℕ}
-                    → ((a : Expr) (es : Exprs) (L : List (Label ℕ)) → exprIn F S W base s a (n + 1) ≡ ok f L
+                    → ((start : ℕ) (Γ : Scope ℕ) (a : Expr) (es : Exprs) (L : List (Label ℕ)) → Holds (tablesOf F S) W base start s Γ
+                    → judge (tablesOf F S) (contextOf (tablesOf F S) W base) a (n + 1) Γ ≡ ok f L
                     → Typing F S X base (n + 1) (size a) s R W R₁ W₁ K₁ r₁ f L
                     → Meets (Listing F S X base (n + 1 + size a) (sizes es) s R₁ W₁ R₂ W₂ K₂ r₂) r₂
-                    (listedIn F S W base s es (n + 1 + size a) (Run (typeAt (tablesOf F S) f .b)) n)
-                    → Meets (Marking F S X base n (sizeStmt (callStmt a es)) s R W R′ W′ K′ r) r
-                    (andThen (listedIn F S W base s es (n + 1 + size a) (Run (typeAt (tablesOf F S) f .b)) n)
-                    λ ts M. ends 0 (scopeOf (tablesOf F S) W base s) (scopeOf (tablesOf F S) W base s) (L ++ M)))
+                    (listed (tablesOf F S) (contextOf (tablesOf F S) W base) es (n + 1 + size a) Γ (Run (typeAt (tablesOf F S) f .b)) n)
+                    → Meets (Marking F S X base start n (sizeStmt (callStmt a es)) s R W R′ W′ K′ r) r
+                    (andThen (listed (tablesOf F S) (contextOf (tablesOf F S) W base) es (n + 1 + size a) Γ (Run (typeAt (tablesOf F S) f .b)) n)
+                    λ ts M. ends 0 Γ Γ (L ++ M)))
                     → ToldAny F S X R W base n s R′ W′ K′ r
                 unfolding execute expectedBelow
                 call-told {r} {R′} {W′} {K′} go =
                     record {
                       tells = λ rt. record {
-                        tells = λ last. on-call-stmt (AnswersStmt F S X R W base rt last n s R′ W′ K′ r)
-                            (λ a es h.
-                            child-ok _ _ f y₁ (m₁ .tells a (h .1)) λ L q p.
+                        tells = λ start last. on-call-stmt (AnswersStmt F S X R W base start rt last n s R′ W′ K′ r)
+                            (λ a es h Γ d.
+                            child-ok _ _ f y₁ (in-scope d _ _ _ (m₁ .tells a (h .1))) λ L q p.
                             passes _ 10 n _ (eq-eqb _ _ (sym e₁ ∙ six))
                             (passes _ 13 n _ (eq-eqb _ _ (sym referred-kind ∙ three))
                             (passes _ 12 n _ (eq-eqb _ _ (counts es (h .0 .children-is) ∙ ec))
-                            (then-tested (judgedIn F S W base s es (n + 1 + size a))
+                            (then-tested (judges (tablesOf F S) (contextOf (tablesOf F S) W base) es (n + 1 + size a) Γ)
                             (λ ts. argumentsBelow (tablesOf F S) (contextOf (tablesOf F S) W base) ts (typeAt (tablesOf F S) f .b)) 11 n
-                            (λ ts M. ends 0 (scopeOf (tablesOf F S) W base s) (scopeOf (tablesOf F S) W base s) (L ++ M))
-                            (go a es L q p
+                            (λ ts M. ends 0 Γ Γ (L ++ M))
+                            (go start Γ a es L d q p
+                            (list-in-scope d _ es _ (Run (typeAt (tablesOf F S) f .b)) n
                             (retell-list (p .after .same) (g .fine .above) (p .next) refl
-                            (subst (λ i. ToldList F S X R₁ W₁ base (r₁ .at .node) s c (Run i) n R₂ W₂ K₂ r₂) eb m₂) es (h .2) (counts es (h .0 .children-is)))))))) kind;
+                            (subst (λ i. ToldList F S X R₁ W₁ base (r₁ .at .node) s c (Run i) n R₂ W₂ K₂ r₂) eb m₂) es (h .2) (counts es (h .0 .children-is))))))))) kind;
                       };
                     }
 
                 pub call-no-2 : Unlisted r₂ → ToldAny F S X R W base n s R₂ W₂ K₂ r₂
-                call-no-2 z = call-told (λ a es L q p v. list-no _ _ z v)
+                call-no-2 z = call-told (λ start Γ a es L d q p v. list-no _ _ z v)
 
                 pub call-row : r₂ .judgement ≡ GoesOn → (n * 2 + 1 < length R₂) × (n < 65536) × (0 ≤ 1)
                 call-row y = mark-fits (listed-fine call-list m₂ y) (g .within) (omega arith)
@@ -153,6 +157,6 @@ module _ {F : List ℕ} {S : Sections} {X R W K : List ℕ} {base n s : ℕ} (g 
                     → ToldAny F S X R W base n s R′ W₂ K₂ r
                 call-ok {r} {R′} y er eR =
                     call-told
-                    (λ a es L q p v.
+                    (λ start Γ a es L d q p v.
                     list-ok _ _ y v λ ts M q₂ p₂.
-                    accepts _ _ (rule-left (g .within) (after-append (expr-long _ _ a (n + 1) _ f L q) (expr-closed _ _ a (n + 1) _ f L q) (p .after) (p₂ .after)) er (p₂ .next ∙ omega arith) (omega arith) eR))
+                    accepts _ _ (rule-left (g .within) (after-append (expr-long _ _ a (n + 1) _ f L q) (expr-closed _ _ a (n + 1) _ f L q) (p .after) (p₂ .after)) er (p₂ .next ∙ omega arith) (omega arith) eR d))

@@ -8,18 +8,20 @@ use borrow.Author.Tests.{eq-eqb, ne-eqb}
 use Rattle.oat.specs.Tables.{Tables, typeAt, nodeAt}
 use Rattle.oat.specs.Syntax.{Expr, Condition, noCondition, condition, sizeCondition}
 use Rattle.oat.specs.Nodes.{Stands, ConditionStands}
+use Rattle.typing_rules.specs.Contexts.{Scope}
 use Rattle.typing_rules.specs.Labels.{unlabelled}
 use Rattle.typing_rules.specs.Judge.{judgeCondition}
 use Rattle.file_sections.specs.declared.Sections.{Sections}
 use Rattle.file_sections.specs.Layout.{Has, tablesOf}
 use Rattle.file_sections.proofs.LawsFrames.{same-refl}
-use Rattle.bindings.specs.Bindings.{scopeOf}
+use Rattle.bindings.specs.Bindings.{Holds}
 use Rattle.answers.specs.declared.answer.Judgement.the-variants.{Typed, GoesOn, Refused}
 use Rattle.answers.specs.declared.answer.Judged.{Judged}
 use Rattle.answers.specs.Answers.{withRow, AnswerIs}
 use Rattle.expressions.specs.Contract.{contextOf, Fine, RowsAt, After, Meets, accepts, Ready, Told, Listing}
 use Rattle.expressions.proofs.LawsMeets.{Untyped, stops, passes, child-no, child-ok}
 use Rattle.expressions.proofs.LawsAfter.{row-length, row-other, row-result, row-binder, fine-rows, ready}
+use Rattle.expressions.proofs.LawsScope.{in-scope}
 use Rattle.expressions.proofs.LawsChild.{has-node, child-type}
 use Rattle.expressions.proofs.LawsShape.{expr-kind}
 use Rattle.simple_statements.specs.Contract.{marked, ReadyCondition, ToldCondition}
@@ -54,8 +56,8 @@ module _ {T : Tables} {n : ℕ} where
 -- the answer to a condition
 abbrev AnswersCondition : List ℕ → Sections → (X R W : List ℕ) → (base n s parent : ℕ) → (R′ W′ K′ : List ℕ) → Judged → Condition → Type 0
 AnswersCondition F S X R W base n s parent R′ W′ K′ r q =
-    Meets (Listing F S X base n (sizeCondition q) s R W R′ W′ K′ r) r
-    (judgeCondition (tablesOf F S) (contextOf (tablesOf F S) W base) q n parent (scopeOf (tablesOf F S) W base s))
+    (start : ℕ) (Γ : Scope ℕ) → Holds (tablesOf F S) W base start s Γ
+    → Meets (Listing F S X base n (sizeCondition q) s R W R′ W′ K′ r) r (judgeCondition (tablesOf F S) (contextOf (tablesOf F S) W base) q n parent Γ)
 
 module _ {F : List ℕ} {S : Sections} {X R W K : List ℕ} {base n s : ℕ} (g : ReadyCondition F S X R W K base n s) where
   pub condition-node : Has F S n (S .nodes)
@@ -72,7 +74,7 @@ module _ {F : List ℕ} {S : Sections} {X R W K : List ℕ} {base n s : ℕ} (g 
     condition-none {parent} {R′} {r} z er eR =
         record {
           tells = on-none (AnswersCondition F S X R W base n s parent R′ W K r)
-              (λ h. accepts _ _ (record {
+              (λ h start Γ d. accepts _ _ (record {
                 goes-on = er .judged;
                 next = er .next;
                 scope = er .scope;
@@ -91,7 +93,7 @@ module _ {F : List ℕ} {S : Sections} {X R W K : List ℕ} {base n s : ℕ} (g 
         unfolding judgeCondition
         condition-no {parent} u =
             record {
-              tells = on-some (AnswersCondition F S X R W base n s parent R₁ W₁ K₁ r₁) (λ a h. child-no _ _ u (m₁ .tells a h)) (λ e. z (ek ∙ e));
+              tells = on-some (AnswersCondition F S X R W base n s parent R₁ W₁ K₁ r₁) (λ a h start Γ d. child-no _ _ u (in-scope d _ _ _ (m₁ .tells a h))) (λ e. z (ek ∙ e));
             }
 
         module _ {t : ℕ} (y₁ : r₁ .judgement ≡ Typed t) where
@@ -104,7 +106,7 @@ module _ {F : List ℕ} {S : Sections} {X R W K : List ℕ} {base n s : ℕ} (g 
             condition-sort {parent} {r} f e =
                 record {
                   tells = on-some (AnswersCondition F S X R W base n s parent R₁ W₁ K₁ r)
-                      (λ a h. child-ok _ _ t y₁ (m₁ .tells a h) λ L q p. stops _ 10 parent _ (ne-eqb _ _ (λ i. f (e₁ ∙ i))) e) (λ e. z (ek ∙ e));
+                      (λ a h start Γ d. child-ok _ _ t y₁ (in-scope d _ _ _ (m₁ .tells a h)) λ L q p. stops _ 10 parent _ (ne-eqb _ _ (λ i. f (e₁ ∙ i))) e) (λ e. z (ek ∙ e));
                 }
 
             pub condition-ok : {parent : ℕ} {r : Judged} → k₁ ≡ 1 → AnswerIs GoesOn (r₁ .at .node) (r₁ .at .scope) r → ToldCondition F S X R W base n s parent R₁ W₁ K₁ r
@@ -112,8 +114,8 @@ module _ {F : List ℕ} {S : Sections} {X R W K : List ℕ} {base n s : ℕ} (g 
             condition-ok {parent} {r} f er =
                 record {
                   tells = on-some (AnswersCondition F S X R W base n s parent R₁ W₁ K₁ r)
-                      (λ a h.
-                      child-ok _ _ t y₁ (m₁ .tells a h) λ L q p.
+                      (λ a h start Γ d.
+                      child-ok _ _ t y₁ (in-scope d _ _ _ (m₁ .tells a h)) λ L q p.
                       passes _ 10 parent _ (eq-eqb _ _ (sym e₁ ∙ f))
                       (accepts _ _ (record { goes-on = er .judged; next = er .next ∙ p .next; scope = er .scope ∙ p .scope; after = p .after }))) (λ e. z (ek ∙ e));
                 }

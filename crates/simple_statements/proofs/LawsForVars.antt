@@ -17,8 +17,8 @@ use Rattle.file_sections.specs.Layout.{tablesOf}
 use Rattle.file_sections.specs.Frames.{Same}
 use Rattle.file_sections.proofs.LawsRecords.{nodes-long}
 use Rattle.type_index.specs.Index.{declared}
-use Rattle.bindings.specs.Bindings.{entryOf, scopeOf}
-use Rattle.bindings.proofs.LawsBindings.{names-same}
+use Rattle.bindings.specs.Bindings.{entryOf, Holds}
+use Rattle.bindings.proofs.LawsBindings.{names-same, holds-some}
 use Rattle.answers.specs.declared.answer.Judgement.the-variants.{GoesOn}
 use Rattle.answers.specs.declared.answer.Judged.{Judged}
 use Rattle.answers.specs.Answers.{AnswerIs}
@@ -26,7 +26,7 @@ use Rattle.expressions.specs.Contract.{contextOf, After, Meets, accepts, refuse
 use Rattle.expressions.proofs.LawsMeets.{Unlisted, goes-unrefused, part-of}
 use Rattle.expressions.proofs.LawsAfter.{after-none}
 use Rattle.expressions.proofs.LawsLabels.{Closed, closed-none, closed-append}
-use Rattle.simple_statements.specs.Contract.{marked, Marking, Declaring, ReadyStmt, ToldAny, ReadyVars, ToldVars}
+use Rattle.simple_statements.specs.Contract.{marked, Marking, Declaring, ReadyStmt, ToldVar, ReadyVars, ToldVars}
 use Rattle.simple_statements.proofs.LawsLabels.{stmt-long, stmt-closed}
 use Rattle.simple_statements.proofs.LawsMarks.{after-both}
 
@@ -47,16 +47,16 @@ var-mark T C rt x a n Γ d L j =
     needs-ok (isFresh x Γ) _ _ _ k λ q k₁.
     ok-is (λ d L. d .mark ≡ 0) k₁ refl
 
-module _ {F : List ℕ} {S : Sections} {X : List ℕ} {base n k s : ℕ} {R W R₁ W₁ K₁ : List ℕ} {r : Judged} where
+module _ {F : List ℕ} {S : Sections} {X : List ℕ} {base start n k s : ℕ} {R W R₁ W₁ K₁ : List ℕ} {r : Judged} where
   -- a statement that is accepted goes on: one that does not is refused
   marking-no : {A D : Type 0} {Q : D → List (Label ℕ) → Type 0} (o : Out Done) (f : Done → List (Label ℕ) → Out A) (e : A → List (Label ℕ) → Out D) → ((d : Done) (L : List (Label ℕ)) → o ≡ ok d L → d .mark ≡ 0)
-      → Unlisted r → Meets (Marking F S X base n k s R W R₁ W₁ K₁ r) r o → Meets Q r (andThen (andThen o f) e)
+      → Unlisted r → Meets (Marking F S X base start n k s R W R₁ W₁ K₁ r) r o → Meets Q r (andThen (andThen o f) e)
   marking-no o f e h u (accepts d L p) = absurd (u .never (p .mark ∙ ap marked (h d L refl)))
   marking-no o f e h u (refuses p q j) = refuses p q j
 
--- the vars in the context of W, from the scope of the height s of W₁ on
-abbrev varsIn : List ℕ → Sections → (W W₁ : List ℕ) → (base s : ℕ) → Vars → ℕ → Out (Scope ℕ)
-varsIn F S W W₁ base s vs n = executeVars (tablesOf F S) (contextOf (tablesOf F S) W base) vs n (scopeOf (tablesOf F S) W₁ base s)
+-- the vars in the context of W, from the scope Γ on
+abbrev varsIn : List ℕ → Sections → (W : List ℕ) → ℕ → Vars → ℕ → Scope ℕ → Out (Scope ℕ)
+varsIn F S W base vs n Γ = executeVars (tablesOf F S) (contextOf (tablesOf F S) W base) vs n Γ
 
 -- vars of which there is one; of which there is none
 on-some : (P : Vars → Type 0) → ((x : ℕ) (a : Expr) (vs : Vars) → P (nextVar x a vs)) → (vs : Vars) → 1 ≤ countVars vs → P vs
@@ -67,8 +67,8 @@ on-none : (P : Vars → Type 0) → P noVar → (vs : Vars) → countVars vs ≤
 on-none P f noVar h = f
 on-none P f (nextVar x a vs) h = absurd (omega arith)
 
--- the first i vars of vs, which stand at n, are accepted, up to a scope of the height h; the others stand at m
-pub record PrefixVars (F : List ℕ) (S : Sections) (X : List ℕ) (base n s : ℕ) (R W : List ℕ) (left m h i : ℕ) (R₁ W₁ K₁ : List ℕ) (vs : Vars) : Type 0 where
+-- the first i vars of vs, which stand at n in the scope Γ, are accepted, up to a scope of the height h; the others stand at m
+pub record PrefixVars (F : List ℕ) (S : Sections) (X : List ℕ) (base start n s : ℕ) (R W : List ℕ) (left m h i : ℕ) (R₁ W₁ K₁ : List ℕ) (vs : Vars) (Γ : Scope ℕ) : Type 0 where
   pub labels : List (Label ℕ)
   pub rest : Vars
   pub stand : VarsStand (tablesOf F S) m rest
@@ -79,35 +79,36 @@ pub record PrefixVars (F : List ℕ) (S : Sections) (X : List ℕ) (base n s : �
   pub low : s ≤ h
   pub high : h ≤ s + length labels
   pub after : After F S X base labels n (length labels) s h R W R₁ W₁ K₁
-  pub executed : executeVars (tablesOf F S) (contextOf (tablesOf F S) W base) vs n (scopeOf (tablesOf F S) W base s)
-      ≡ afterRun labels (executeVars (tablesOf F S) (contextOf (tablesOf F S) W base) rest m (scopeOf (tablesOf F S) W₁ base h))
+  pub scope : Scope ℕ
+  pub held : Holds (tablesOf F S) W₁ base start h scope
+  pub executed : varsIn F S W base vs n Γ ≡ afterRun labels (varsIn F S W base rest m scope)
 
-pub record WalkedVars (F : List ℕ) (S : Sections) (X : List ℕ) (base n s : ℕ) (R W : List ℕ) (left m h i : ℕ) (R₁ W₁ K₁ : List ℕ) : Type 0 where
-  pub part : (vs : Vars) → VarsStand (tablesOf F S) n vs → countVars vs ≡ left → PrefixVars F S X base n s R W left m h i R₁ W₁ K₁ vs
+pub record WalkedVars (F : List ℕ) (S : Sections) (X : List ℕ) (base start n s : ℕ) (R W : List ℕ) (left m h i : ℕ) (R₁ W₁ K₁ : List ℕ) : Type 0 where
+  pub part : (vs : Vars) → VarsStand (tablesOf F S) n vs → countVars vs ≡ left → (Γ : Scope ℕ) → Holds (tablesOf F S) W base start s Γ
+      → PrefixVars F S X base start n s R W left m h i R₁ W₁ K₁ vs Γ
 
 -- a later var sees the names before
-retell-var : {F : List ℕ} {S : Sections} {X W R₁ W₁ R₂ W₂ K₂ : List ℕ} {base m s h : ℕ} {r : Judged} → Same (entryOf (tablesOf F S) s) W W₁ → base ≤ s
-    → ToldAny F S X R₁ W₁ base m h R₂ W₂ K₂ r → (x : ℕ) (a : Expr) → StmtStands (tablesOf F S) m (var x a)
-    → Meets (Marking F S X base m (sizeStmt (var x a)) h R₁ W₁ R₂ W₂ K₂ r) r
-    (execute (tablesOf F S) (contextOf (tablesOf F S) W base) 0 false (var x a) m (scopeOf (tablesOf F S) W₁ base h))
-retell-var {F} {S} {X} {W} {R₁} {W₁} {R₂} {W₂} {K₂} {base} {m} {s} {h} {r} e l told x a st =
-    subst (λ N. Meets (Marking F S X base m (sizeStmt (var x a)) h R₁ W₁ R₂ W₂ K₂ r) r
-    (execute (tablesOf F S) (record { structs = declared (tablesOf F S); names = N }) 0 false (var x a) m (scopeOf (tablesOf F S) W₁ base h)))
-    (names-same (tablesOf F S) s e base l) (told .tells 0 .tells false (var x a) st)
+retell-var : {F : List ℕ} {S : Sections} {X W R₁ W₁ R₂ W₂ K₂ : List ℕ} {base start m s h : ℕ} {r : Judged} → Same (entryOf (tablesOf F S) s) W W₁ → base ≤ s
+    → ToldVar F S X R₁ W₁ base start m h R₂ W₂ K₂ r → (x : ℕ) (a : Expr) → StmtStands (tablesOf F S) m (var x a) → (Γ : Scope ℕ) → Holds (tablesOf F S) W₁ base start h Γ
+    → Meets (Marking F S X base start m (sizeStmt (var x a)) h R₁ W₁ R₂ W₂ K₂ r) r (execute (tablesOf F S) (contextOf (tablesOf F S) W base) 0 false (var x a) m Γ)
+retell-var {F} {S} {X} {W} {R₁} {W₁} {R₂} {W₂} {K₂} {base} {start} {m} {s} {h} {r} e l told x a st Γ d =
+    subst (λ N. Meets (Marking F S X base start m (sizeStmt (var x a)) h R₁ W₁ R₂ W₂ K₂ r) r
+    (execute (tablesOf F S) (record { structs = declared (tablesOf F S); names = N }) 0 false (var x a) m Γ))
+    (names-same (tablesOf F S) s e base l) (told .tells 0 false (var x a) st Γ d)
 
-module _ {F : List ℕ} {S : Sections} {X R W : List ℕ} {base n s left m h i : ℕ} {R₁ W₁ K₁ : List ℕ} {vs : Vars} (p : PrefixVars F S X base n s R W left m h i R₁ W₁ K₁ vs) where
+module _ {F : List ℕ} {S : Sections} {X R W : List ℕ} {base start n s left m h i : ℕ} {R₁ W₁ K₁ : List ℕ} {vs : Vars} {Γ : Scope ℕ}
+    (p : PrefixVars F S X base start n s R W left m h i R₁ W₁ K₁ vs Γ) where
   -- one more var
   part-more : {R₂ W₂ K₂ : List ℕ} {r : Judged} (x : ℕ) (a : Expr) (rs : Vars) → VarsStand (tablesOf F S) m (nextVar x a rs) → countVars (nextVar x a rs) + i ≡ left
       → sizeVars vs ≡ length (p .labels) + sizeVars (nextVar x a rs)
-      → varsIn F S W W base s vs n ≡ afterRun (p .labels) (varsIn F S W W₁ base h (nextVar x a rs) m)
-      → (d : Done) (M : List (Label ℕ)) → execute (tablesOf F S) (contextOf (tablesOf F S) W base) 0 false (var x a) m (scopeOf (tablesOf F S) W₁ base h) ≡ ok d M
-      → Marking F S X base m (sizeStmt (var x a)) h R₁ W₁ R₂ W₂ K₂ r d M
-      → PrefixVars F S X base n s R W left (r .at .node) (r .at .scope) (i + 1) R₂ W₂ K₂ vs
+      → varsIn F S W base vs n Γ ≡ afterRun (p .labels) (varsIn F S W base (nextVar x a rs) m (p .scope))
+      → (d : Done) (M : List (Label ℕ)) → execute (tablesOf F S) (contextOf (tablesOf F S) W base) 0 false (var x a) m (p .scope) ≡ ok d M
+      → Marking F S X base start m (sizeStmt (var x a)) h R₁ W₁ R₂ W₂ K₂ r d M
+      → PrefixVars F S X base start n s R W left (r .at .node) (r .at .scope) (i + 1) R₂ W₂ K₂ vs Γ
   part-more {R₂} {W₂} {K₂} {r} x a rs st c z j d M q v =
       let T : Tables = tablesOf F S in
       let C : Context ℕ = contextOf (tablesOf F S) W base in
-      let Γ : Scope ℕ = scopeOf (tablesOf F S) W₁ base h in
-      let long : length M ≡ sizeStmt (var x a) = stmt-long T C 0 false (var x a) m Γ d M q in
+      let long : length M ≡ sizeStmt (var x a) = stmt-long T C 0 false (var x a) m (p .scope) d M q in
       let both : length (p .labels ++ M) ≡ length (p .labels) + sizeStmt (var x a) = length-append (p .labels) M ∙ ap (λ k. length (p .labels) + k) long in
       let there : m + 1 + size a ≡ r .at .node = omega (arith, v .next) in
       record {
@@ -116,50 +117,51 @@ module _ {F : List ℕ} {S : Sections} {X R W : List ℕ} {base n s left m h i :
         stand = subst (λ k. VarsStand T k rs) there (st .2);
         counted = omega arith;
         reached = omega (arith, v .next, p .reached, both);
-        closed = closed-append (p .closed) (stmt-closed T C 0 false (var x a) m Γ d M q);
+        closed = closed-append (p .closed) (stmt-closed T C 0 false (var x a) m (p .scope) d M q);
         sized = omega (arith, z, both);
         low = omega (arith, p .low, v .low);
         high = omega (arith, p .high, v .high, both);
         after = subst (λ k. After F S X base (p .labels ++ M) n k s (r .at .scope) R W R₂ W₂ K₂) (sym both)
             (after-both refl (p .closed) (p .low) (p .after) (subst (λ k. After F S X base M k (sizeStmt (var x a)) h (r .at .scope) R₁ W₁ R₂ W₂ K₂) (p .reached) (v .after)));
+        scope = d .scope;
+        held = v .scope;
         executed = j
-            ∙ ap (afterRun (p .labels)) (vars-next T C 0 x a rs m Γ
+            ∙ ap (afterRun (p .labels)) (vars-next T C 0 x a rs m (p .scope)
             ∙ ap (λ o. andThen o λ e L. afterRun L (executeVars T C rs (m + 1 + size a) (e .scope))) q)
             ∙ run-more (p .labels) M (executeVars T C rs (m + 1 + size a) (d .scope))
-            ∙ ap (λ k. afterRun (p .labels ++ M) (executeVars T C rs k (d .scope))) there
-            ∙ ap (λ E. afterRun (p .labels ++ M) (executeVars T C rs (r .at .node) E)) (sym (v .scope));
+            ∙ ap (λ k. afterRun (p .labels ++ M) (executeVars T C rs k (d .scope))) there;
       }
 
   module _ (done : left ≤ i) where
     -- no var is left
-    all-executed : varsIn F S W W base s vs n ≡ ok (scopeOf (tablesOf F S) W₁ base h) (p .labels)
+    all-executed : varsIn F S W base vs n Γ ≡ ok (p .scope) (p .labels)
     unfolding executeVars
     all-executed = p .executed ∙
-        on-none (λ rs. afterRun (p .labels) (varsIn F S W W₁ base h rs m) ≡ ok (scopeOf (tablesOf F S) W₁ base h) (p .labels))
+        on-none (λ rs. afterRun (p .labels) (varsIn F S W base rs m (p .scope)) ≡ ok (p .scope) (p .labels))
         (cc (append-nil (p .labels))) (p .rest) (omega (arith, p .counted))
 
     all-sized : sizeVars vs ≡ length (p .labels)
     all-sized = p .sized ∙ on-none (λ rs. length (p .labels) + sizeVars rs ≡ length (p .labels)) (omega arith) (p .rest) (omega (arith, p .counted))
 
     part-declared : {r : Judged} → AnswerIs GoesOn m h r
-        → Declaring F S X base n (sizeVars vs) s R W R₁ W₁ K₁ r (scopeOf (tablesOf F S) W₁ base h) (p .labels)
+        → Declaring F S X base start n (sizeVars vs) s R W R₁ W₁ K₁ r (p .scope) (p .labels)
     part-declared {r} e =
         let eh : r .at .scope ≡ h = e .scope in
         record {
           goes-on = e .judged;
           next = e .next ∙ omega (arith, p .reached, all-sized);
-          scope = ap (λ k. scopeOf (tablesOf F S) W₁ base k) eh;
+          scope = subst (λ k. Holds (tablesOf F S) W₁ base start k (p .scope)) (sym eh) (p .held);
           low = omega (arith, eh, p .low);
           high = omega (arith, eh, p .high, all-sized);
           after = subst (λ k. After F S X base (p .labels) n (sizeVars vs) s k R W R₁ W₁ K₁) (sym eh)
               (subst (λ k. After F S X base (p .labels) n k s h R W R₁ W₁ K₁) (sym all-sized) (p .after));
         }
 
-module _ {F : List ℕ} {S : Sections} {X R W K : List ℕ} {base n s left : ℕ} (g : ReadyVars F S X R W K base n s left) where
-  pub vars-start : WalkedVars F S X base n s R W left n s 0 R W K
+module _ {F : List ℕ} {S : Sections} {X R W K : List ℕ} {base start n s left : ℕ} (g : ReadyVars F S X R W K base start n s left) where
+  pub vars-start : WalkedVars F S X base start n s R W left n s 0 R W K
   vars-start =
       record {
-        part = λ vs h c. record {
+        part = λ vs h c Γ d. record {
           labels = [];
           rest = vs;
           stand = h;
@@ -170,13 +172,19 @@ module _ {F : List ℕ} {S : Sections} {X R W K : List ℕ} {base n s left : ℕ
           low = omega arith;
           high = omega arith;
           after = after-none n (g .fine);
+          scope = Γ;
+          held = d;
           executed = run-none _;
         };
       }
 
-  module _ {m h i : ℕ} {R₁ W₁ K₁ : List ℕ} (w : WalkedVars F S X base n s R W left m h i R₁ W₁ K₁) where
-    so-far : PrefixVars F S X base n s R W left m h i R₁ W₁ K₁ (g .vars)
-    so-far = w .part (g .vars) (g .stand) (g .counted)
+  module _ {m h i : ℕ} {R₁ W₁ K₁ : List ℕ} (w : WalkedVars F S X base start n s R W left m h i R₁ W₁ K₁) where
+    some-scope : (Γ : Scope ℕ) × Holds (tablesOf F S) W base start s Γ
+    some-scope = holds-some (tablesOf F S) W base start s (g .begins .0) (g .begins .1)
+
+    so-far : PrefixVars F S X base start n s R W left m h i R₁ W₁ K₁ (g .vars) (some-scope .0)
+    so-far = w .part (g .vars) (g .stand) (g .counted) (some-scope .0) (some-scope .1)
+
 
     module _ (more : i < left) where
       pub vars-kind : nodeAt (tablesOf F S) m .kind ≡ 31
@@ -196,40 +204,40 @@ module _ {F : List ℕ} {S : Sections} {X R W K : List ℕ} {base n s left : ℕ
           })
           (so-far .rest) (omega (arith, so-far .counted, more)) (so-far .stand) (omega (arith, so-far .high, so-far .sized, g .room))
 
-      module _ {R₂ W₂ K₂ : List ℕ} {r₁ : Judged} (m₁ : ToldAny F S X R₁ W₁ base m h R₂ W₂ K₂ r₁) where
-        pub vars-no : Unlisted r₁ → ToldVars F S X R W base n s left R₂ W₂ K₂ r₁
-        vars-no u = record { tells = λ vs st c. go vs (w .part vs st c) }
+      module _ {R₂ W₂ K₂ : List ℕ} {r₁ : Judged} (m₁ : ToldVar F S X R₁ W₁ base start m h R₂ W₂ K₂ r₁) where
+        pub vars-no : Unlisted r₁ → ToldVars F S X R W base start n s left R₂ W₂ K₂ r₁
+        vars-no u = record { tells = λ vs st c Γ d. go vs Γ (w .part vs st c Γ d) }
           where
-            go : (vs : Vars) → PrefixVars F S X base n s R W left m h i R₁ W₁ K₁ vs
-                → Meets (Declaring F S X base n (sizeVars vs) s R W R₂ W₂ K₂ r₁) r₁ (varsIn F S W W base s vs n)
-            go vs p =
-                subst (Meets (Declaring F S X base n (sizeVars vs) s R W R₂ W₂ K₂ r₁) r₁) (sym (p .executed))
-                (on-some (λ rs. VarsStand (tablesOf F S) m rs → Meets (Declaring F S X base n (sizeVars vs) s R W R₂ W₂ K₂ r₁) r₁ (afterRun (p .labels) (varsIn F S W W₁ base h rs m)))
+            go : (vs : Vars) (Γ : Scope ℕ) → PrefixVars F S X base start n s R W left m h i R₁ W₁ K₁ vs Γ
+                → Meets (Declaring F S X base start n (sizeVars vs) s R W R₂ W₂ K₂ r₁) r₁ (varsIn F S W base vs n Γ)
+            go vs Γ p =
+                subst (Meets (Declaring F S X base start n (sizeVars vs) s R W R₂ W₂ K₂ r₁) r₁) (sym (p .executed))
+                (on-some (λ rs. VarsStand (tablesOf F S) m rs → Meets (Declaring F S X base start n (sizeVars vs) s R W R₂ W₂ K₂ r₁) r₁ (afterRun (p .labels) (varsIn F S W base rs m (p .scope))))
                 (λ x a rs st.
-                subst (λ o. Meets (Declaring F S X base n (sizeVars vs) s R W R₂ W₂ K₂ r₁) r₁ (afterRun (p .labels) o))
-                (sym (vars-next (tablesOf F S) (contextOf (tablesOf F S) W base) 0 x a rs m (scopeOf (tablesOf F S) W₁ base h)))
-                (marking-no _ _ _ (var-mark (tablesOf F S) (contextOf (tablesOf F S) W base) 0 x a m (scopeOf (tablesOf F S) W₁ base h)) u
-                (retell-var (p .after .same) (g .fine .above) m₁ x a (st .0, st .1))))
+                subst (λ o. Meets (Declaring F S X base start n (sizeVars vs) s R W R₂ W₂ K₂ r₁) r₁ (afterRun (p .labels) o))
+                (sym (vars-next (tablesOf F S) (contextOf (tablesOf F S) W base) 0 x a rs m (p .scope)))
+                (marking-no _ _ _ (var-mark (tablesOf F S) (contextOf (tablesOf F S) W base) 0 x a m (p .scope)) u
+                (retell-var (p .after .same) (g .fine .above) m₁ x a (st .0, st .1) (p .scope) (p .held))))
                 (p .rest) (omega (arith, p .counted, more)) (p .stand))
 
-        pub vars-again : r₁ .judgement ≡ GoesOn → WalkedVars F S X base n s R W left (r₁ .at .node) (r₁ .at .scope) (i + 1) R₂ W₂ K₂
-        vars-again y = record { part = λ vs st c. go vs (w .part vs st c) }
+        pub vars-again : r₁ .judgement ≡ GoesOn → WalkedVars F S X base start n s R W left (r₁ .at .node) (r₁ .at .scope) (i + 1) R₂ W₂ K₂
+        vars-again y = record { part = λ vs st c Γ d. go vs Γ (w .part vs st c Γ d) }
           where
-            go : (vs : Vars) → PrefixVars F S X base n s R W left m h i R₁ W₁ K₁ vs → PrefixVars F S X base n s R W left (r₁ .at .node) (r₁ .at .scope) (i + 1) R₂ W₂ K₂ vs
-            go vs p =
+            go : (vs : Vars) (Γ : Scope ℕ) → PrefixVars F S X base start n s R W left m h i R₁ W₁ K₁ vs Γ → PrefixVars F S X base start n s R W left (r₁ .at .node) (r₁ .at .scope) (i + 1) R₂ W₂ K₂ vs Γ
+            go vs Γ p =
                 on-some
                 (λ rs. VarsStand (tablesOf F S) m rs → countVars rs + i ≡ left → sizeVars vs ≡ length (p .labels) + sizeVars rs
-                → varsIn F S W W base s vs n ≡ afterRun (p .labels) (varsIn F S W W₁ base h rs m)
-                → PrefixVars F S X base n s R W left (r₁ .at .node) (r₁ .at .scope) (i + 1) R₂ W₂ K₂ vs)
+                → varsIn F S W base vs n Γ ≡ afterRun (p .labels) (varsIn F S W base rs m (p .scope))
+                → PrefixVars F S X base start n s R W left (r₁ .at .node) (r₁ .at .scope) (i + 1) R₂ W₂ K₂ vs Γ)
                 (λ x a rs st c z j.
-                let (d, M, q, v) = part-of _ (retell-var (p .after .same) (g .fine .above) m₁ x a (st .0, st .1)) (goes-unrefused y) in
+                let (d, M, q, v) = part-of _ (retell-var (p .after .same) (g .fine .above) m₁ x a (st .0, st .1) (p .scope) (p .held)) (goes-unrefused y) in
                 part-more p x a rs st c z j d M q v)
                 (p .rest) (omega (arith, p .counted, more)) (p .stand) (p .counted) (p .sized) (p .executed)
 
-    pub vars-done : left ≤ i → {r : Judged} → AnswerIs GoesOn m h r → ToldVars F S X R W base n s left R₁ W₁ K₁ r
+    pub vars-done : left ≤ i → {r : Judged} → AnswerIs GoesOn m h r → ToldVars F S X R W base start n s left R₁ W₁ K₁ r
     vars-done done {r} e =
         record {
-          tells = λ vs st c.
-              let p = w .part vs st c in
-              subst (Meets (Declaring F S X base n (sizeVars vs) s R W R₁ W₁ K₁ r) r) (sym (all-executed p done)) (accepts _ _ (part-declared p done e));
+          tells = λ vs st c Γ d.
+              let p = w .part vs st c Γ d in
+              subst (Meets (Declaring F S X base start n (sizeVars vs) s R W R₁ W₁ K₁ r) r) (sym (all-executed p done)) (accepts _ _ (part-declared p done e));
         }

@@ -12,7 +12,7 @@ use Rattle.oat.specs.Basics.{pick}
 use Rattle.oat.specs.Tables.{Tables, typeAt, nodeAt}
 use Rattle.oat.specs.Syntax.{Expr, Exprs, count, Target, targetExpr, Vars, noVar, nextVar, Condition, noCondition, condition, Stmt, assign, var, returnValue, returnVoid, callStmt, ifElse, ifNull, for, while, Step, noStep, step, Block, block, Stmts, empty, then, size, sizeTarget, sizeVars, sizeCondition, sizeStep, sizeBlock, sizeStmt, sizeStmts}
 use Rattle.oat.specs.Nodes.{VarsStand, ConditionStands, StmtStands, StepStands, BlockStands, StmtsStand}
-use Rattle.typing_rules.specs.Contexts.{Scope, binds, isFresh, Context}
+use Rattle.typing_rules.specs.Contexts.{Scope, binds, inner, isFresh, Context}
 use Rattle.typing_rules.specs.Labels.{Result, marks, nothing, Label}
 use Rattle.typing_rules.specs.Rules.{both}
 use Rattle.typing_rules.specs.Derivations.{isEmpty}
@@ -169,37 +169,37 @@ module _ (T : Tables) (C : Context ℕ) where
       stmt-labels last (ifElse a b c) n Γ d L j =
           then-ok (judge T C a (n + 1) Γ) _ j λ u M i k1.
           needs-ok (isKind T u 1) _ _ _ k1 λ q1 k2.
-          then-ok (executeBlock T C rt b (n + 1 + size a) Γ) _ k2 λ p N i1 k3.
-          then-ok (executeBlock T C rt c (n + 1 + size a + sizeBlock b) Γ) _ k3 λ r O i2 k4.
+          then-ok (executeBlock T C rt b (n + 1 + size a) (inner Γ)) _ k2 λ p N i1 k3.
+          then-ok (executeBlock T C rt c (n + 1 + size a + sizeBlock b) (inner Γ)) _ k3 λ r O i2 k4.
           ok-is (DoneMarked (sizeStmt (ifElse a b c))) k4
           (if-marked (expr-run T C a (n + 1) Γ u M i)
-          (block-labels b (n + 1 + size a) Γ p N i1) (block-labels c (n + 1 + size a + sizeBlock b) Γ r O i2))
+          (block-labels b (n + 1 + size a) (inner Γ) p N i1) (block-labels c (n + 1 + size a + sizeBlock b) (inner Γ) r O i2))
       stmt-labels last (ifNull x t a b c) n Γ d L j =
           then-ok (judge T C a (n + 1) Γ) _ j λ u M i k1.
           needs-ok (isKind T u 7) _ _ _ k1 λ q1 k2.
           needs-ok (isBelow T C (referred T u) t) _ _ _ k2 λ q2 k3.
-          then-ok (executeBlock T C rt b (n + 1 + size a) (binds Γ x t n)) _ k3 λ p N i1 k4.
-          then-ok (executeBlock T C rt c (n + 1 + size a + sizeBlock b) Γ) _ k4 λ r O i2 k5.
+          then-ok (executeBlock T C rt b (n + 1 + size a) (inner (binds (inner Γ) x t n))) _ k3 λ p N i1 k4.
+          then-ok (executeBlock T C rt c (n + 1 + size a + sizeBlock b) (inner Γ)) _ k4 λ r O i2 k5.
           ok-is (DoneMarked (sizeStmt (ifNull x t a b c))) k5
           (if-marked (expr-run T C a (n + 1) Γ u M i)
-          (block-labels b (n + 1 + size a) (binds Γ x t n) p N i1) (block-labels c (n + 1 + size a + sizeBlock b) Γ r O i2))
+          (block-labels b (n + 1 + size a) (inner (binds (inner Γ) x t n)) p N i1) (block-labels c (n + 1 + size a + sizeBlock b) (inner Γ) r O i2))
       stmt-labels last (for vs c s b) n Γ d L j =
-          then-ok (executeVars T C vs (n + 1) Γ) _ j λ Δ M i k1.
+          then-ok (executeVars T C vs (n + 1) (inner Γ)) _ j λ Δ M i k1.
           then-ok (judgeCondition T C c (n + 1 + sizeVars vs) n Δ) _ k1 λ E N i1 k2.
           then-ok (executeStep T C rt s (n + 1 + sizeVars vs + sizeCondition c) Δ) _ k2 λ p O i2 k3.
-          then-ok (executeBlock T C rt b (n + 1 + sizeVars vs + sizeCondition c + sizeStep s) Δ) _ k3 λ r P i3 k4.
+          then-ok (executeBlock T C rt b (n + 1 + sizeVars vs + sizeCondition c + sizeStep s) (inner Δ)) _ k3 λ r P i3 k4.
           ok-is (DoneMarked (sizeStmt (for vs c s b))) k4
           (marked (omega arith) (omega arith)
-          (for-run (vars-labels vs (n + 1) Γ Δ M i) N (condition-long c (n + 1 + sizeVars vs) n Δ E N i1)
+          (for-run (vars-labels vs (n + 1) (inner Γ) Δ M i) N (condition-long c (n + 1 + sizeVars vs) n Δ E N i1)
           (step-labels s (n + 1 + sizeVars vs + sizeCondition c) Δ p O i2)
-          (block-labels b (n + 1 + sizeVars vs + sizeCondition c + sizeStep s) Δ r P i3)))
+          (block-labels b (n + 1 + sizeVars vs + sizeCondition c + sizeStep s) (inner Δ) r P i3)))
       stmt-labels last (while a b) n Γ d L j =
           then-ok (judge T C a (n + 1) Γ) _ j λ u M i k1.
           needs-ok (isKind T u 1) _ _ _ k1 λ q1 k2.
-          then-ok (executeBlock T C rt b (n + 1 + size a) Γ) _ k2 λ p N i1 k3.
+          then-ok (executeBlock T C rt b (n + 1 + size a) (inner Γ)) _ k2 λ p N i1 k3.
           ok-is (DoneMarked (sizeStmt (while a b))) k3
           (marked (omega arith) (while-most last a)
-          (run-append (expr-run T C a (n + 1) Γ u M i) (run-marked (block-labels b (n + 1 + size a) Γ p N i1))))
+          (run-append (expr-run T C a (n + 1) Γ u M i) (run-marked (block-labels b (n + 1 + size a) (inner Γ) p N i1))))
 
       step-labels : (s : Step) (n : ℕ) (Γ : Scope ℕ) (p : ℕ) (L : List (Label ℕ)) → executeStep T C rt s n Γ ≡ ok p L → Stepping (sizeStep s) L
       step-labels noStep n Γ p L j = ok-is (λ p L. Stepping 1 L) j (record { long = refl; head = λ M. refl })

@@ -20,8 +20,8 @@ use Rattle.typing_rules.specs.Judge.{markedAs, done}
 use Rattle.typing_rules.specs.Check.{nextResult}
 use Rattle.file_sections.specs.declared.Sections.{Sections}
 use Rattle.file_sections.specs.Layout.{tablesOf}
-use Rattle.bindings.specs.Bindings.{entryOf, scopeOf}
-use Rattle.bindings.proofs.LawsBindings.{scope-same}
+use Rattle.bindings.specs.Bindings.{entryOf, Holds}
+use Rattle.bindings.proofs.LawsBindings.{holds-same}
 use Rattle.answers.specs.declared.answer.Judgement.{Judgement}
 use Rattle.answers.specs.declared.answer.Judgement.the-variants.{GoesOn, Returns}
 use Rattle.answers.specs.declared.answer.At.{At}
@@ -135,16 +135,16 @@ module _ {F : List ℕ} {S : Sections} {X : List ℕ} {base : ℕ} where
       }
 
   -- an accepted statement with the mark p, the scope Δ of the height h after it
-  pub rule-marked : {L : List (Label ℕ)} {n k j m s h p : ℕ} {R W R₁ W₁ K₁ R′ : List ℕ} {r : Judged} {Γ Δ : Scope ℕ} → n < S .nodes
+  pub rule-marked : {L : List (Label ℕ)} {start n k j m s h p : ℕ} {R W R₁ W₁ K₁ R′ : List ℕ} {r : Judged} {Γ Δ : Scope ℕ} → n < S .nodes
       → After F S X base L (n + 1) k s h R W R₁ W₁ K₁ → AnswerIs (marked p) m h r → m ≡ n + 1 + k → j ≡ 1 + k
-      → R′ ≡ withRow R₁ n p 65535 → s ≤ h → h ≤ s + j → scopeOf (tablesOf F S) W₁ base h ≡ Δ
-      → Marking F S X base n j s R W R′ W₁ K₁ r (done p Δ) (markedAs p Γ Δ ∷ L)
-  rule-marked {L} {n} {k} {j} {m} {s} {h} {p} {R} {W} {R₁} {W₁} {K₁} {R′} {r} {Γ} {Δ} w a er em ej eR low high scoped =
+      → R′ ≡ withRow R₁ n p 65535 → s ≤ h → h ≤ s + j → Holds (tablesOf F S) W₁ base start h Δ
+      → Marking F S X base start n j s R W R′ W₁ K₁ r (done p Δ) (markedAs p Γ Δ ∷ L)
+  rule-marked {L} {start} {n} {k} {j} {m} {s} {h} {p} {R} {W} {R₁} {W₁} {K₁} {R′} {r} {Γ} {Δ} w a er em ej eR low high scoped =
       let eh : r .at .scope ≡ h = er .scope in
       record {
         mark = er .judged;
         next = er .next ∙ omega arith;
-        scope = ap (λ i. scopeOf (tablesOf F S) W₁ base i) eh ∙ scoped;
+        scope = subst (λ i. Holds (tablesOf F S) W₁ base start i Δ) (sym eh) scoped;
         low = subst (λ i. s ≤ i) (sym eh) low;
         high = subst (λ i. i ≤ s + j) (sym eh) high;
         after = subst (λ i. After F S X base (markedAs p Γ Δ ∷ L) n j s i R W R′ W₁ K₁) (sym eh)
@@ -153,8 +153,7 @@ module _ {F : List ℕ} {S : Sections} {X : List ℕ} {base : ℕ} where
       }
 
   -- where it binds nothing in the scope after it
-  pub rule-left : {L : List (Label ℕ)} {n k j m s p : ℕ} {R W R₁ W₁ K₁ R′ : List ℕ} {r : Judged} {Γ : Scope ℕ} → n < S .nodes
+  pub rule-left : {L : List (Label ℕ)} {start n k j m s p : ℕ} {R W R₁ W₁ K₁ R′ : List ℕ} {r : Judged} {Γ Δ : Scope ℕ} → n < S .nodes
       → After F S X base L (n + 1) k s s R W R₁ W₁ K₁ → AnswerIs (marked p) m s r → m ≡ n + 1 + k → j ≡ 1 + k
-      → R′ ≡ withRow R₁ n p 65535
-      → Marking F S X base n j s R W R′ W₁ K₁ r (done p (scopeOf (tablesOf F S) W base s)) (markedAs p Γ (scopeOf (tablesOf F S) W base s) ∷ L)
-  rule-left {s = s} w a er em ej eR = rule-marked w a er em ej eR (omega arith) (omega arith) (scope-same (tablesOf F S) s (a .same) base)
+      → R′ ≡ withRow R₁ n p 65535 → Holds (tablesOf F S) W base start s Δ → Marking F S X base start n j s R W R′ W₁ K₁ r (done p Δ) (markedAs p Γ Δ ∷ L)
+  rule-left {s = s} w a er em ej eR d = rule-marked w a er em ej eR (omega arith) (omega arith) (holds-same d (a .same))

@@ -14,7 +14,7 @@ use Rattle.typing_rules.specs.Rules.{whileMark}
 use Rattle.typing_rules.specs.Judge.{Done, assignsTo, executeVars, judgeCondition, execute}
 use Rattle.file_sections.specs.declared.Sections.{Sections}
 use Rattle.file_sections.specs.Layout.{tablesOf}
-use Rattle.bindings.specs.Bindings.{scopeOf, Scoped}
+use Rattle.bindings.specs.Bindings.{Scoped, Holds}
 use Rattle.answers.specs.declared.answer.Judgement.{Judgement}
 use Rattle.answers.specs.declared.answer.Judgement.the-variants.{Typed, GoesOn, Returns, Refused}
 use Rattle.answers.specs.declared.answer.Judged.{Judged}
@@ -34,20 +34,20 @@ marked p = pick (eqb p 1) Returns GoesOn
 pub record MarksWhile (F : List ℕ) (S : Sections) (n : ℕ) (last : Bool) (r : ℕ) : Type 0 where
   pub tells : (a : Expr) → Stands (tablesOf F S) n a → r ≡ whileMark last a
 
--- the answer to an accepted statement, with its mark and the scope after it
-pub record Marking (F : List ℕ) (S : Sections) (X : List ℕ) (base n k s : ℕ) (R W R′ W′ K′ : List ℕ) (r : Judged) (d : Done) (L : List (Label ℕ)) : Type 0 where
+-- the answer to an accepted statement, with its mark and the scope after it; the bindings of its block stand from `start` on
+pub record Marking (F : List ℕ) (S : Sections) (X : List ℕ) (base start n k s : ℕ) (R W R′ W′ K′ : List ℕ) (r : Judged) (d : Done) (L : List (Label ℕ)) : Type 0 where
   pub mark : r .judgement ≡ marked (d .mark)
   pub next : r .at .node ≡ n + k
-  pub scope : scopeOf (tablesOf F S) W′ base (r .at .scope) ≡ d .scope
+  pub scope : Holds (tablesOf F S) W′ base start (r .at .scope) (d .scope)
   pub low : s ≤ r .at .scope
   pub high : r .at .scope ≤ s + k
   pub after : After F S X base L n k s (r .at .scope) R W R′ W′ K′
 
 -- to accepted vars, with the scope after them
-pub record Declaring (F : List ℕ) (S : Sections) (X : List ℕ) (base n k s : ℕ) (R W R′ W′ K′ : List ℕ) (r : Judged) (Δ : Scope ℕ) (L : List (Label ℕ)) : Type 0 where
+pub record Declaring (F : List ℕ) (S : Sections) (X : List ℕ) (base start n k s : ℕ) (R W R′ W′ K′ : List ℕ) (r : Judged) (Δ : Scope ℕ) (L : List (Label ℕ)) : Type 0 where
   pub goes-on : r .judgement ≡ GoesOn
   pub next : r .at .node ≡ n + k
-  pub scope : scopeOf (tablesOf F S) W′ base (r .at .scope) ≡ Δ
+  pub scope : Holds (tablesOf F S) W′ base start (r .at .scope) Δ
   pub low : s ≤ r .at .scope
   pub high : r .at .scope ≤ s + k
   pub after : After F S X base L n k s (r .at .scope) R W R′ W′ K′
@@ -60,36 +60,43 @@ pub record ReadyStmt (F : List ℕ) (S : Sections) (X R W K : List ℕ) (base n 
   pub stands : StmtStands (tablesOf F S) n tree
   pub room : s + sizeStmt tree ≤ S .«built_ins» + S .nodes
 
--- r answers the statement z at n as the definition has it; `last` says whether z is the last of its block
-abbrev pub AnswersStmt : List ℕ → Sections → (X R W : List ℕ) → (base rt : ℕ) → (last : Bool) → (n s : ℕ) → (R′ W′ K′ : List ℕ) → Judged → Stmt → Type 0
-AnswersStmt F S X R W base rt last n s R′ W′ K′ r z =
-    Meets (Marking F S X base n (sizeStmt z) s R W R′ W′ K′ r) r
-    (execute (tablesOf F S) (contextOf (tablesOf F S) W base) rt last z n (scopeOf (tablesOf F S) W base s))
+-- r answers the statement z at n as the definition has it, in every scope that the stack holds; the bindings of its block stand from
+-- `start` on, and `last` says whether z is the last of its block
+abbrev pub AnswersStmt : List ℕ → Sections → (X R W : List ℕ) → (base start rt : ℕ) → (last : Bool) → (n s : ℕ) → (R′ W′ K′ : List ℕ) → Judged → Stmt → Type 0
+AnswersStmt F S X R W base start rt last n s R′ W′ K′ r z =
+    (Γ : Scope ℕ) → Holds (tablesOf F S) W base start s Γ
+    → Meets (Marking F S X base start n (sizeStmt z) s R W R′ W′ K′ r) r (execute (tablesOf F S) (contextOf (tablesOf F S) W base) rt last z n Γ)
 
--- every statement that stands at n is answered so; of all kinds but one, whether or not it is the last of its block; of some kinds,
--- whatever the return type is too
-pub record ToldStmt (F : List ℕ) (S : Sections) (X R W : List ℕ) (base rt : ℕ) (last : Bool) (n s : ℕ) (R′ W′ K′ : List ℕ) (r : Judged) : Type 0 where
-  pub tells : (z : Stmt) → StmtStands (tablesOf F S) n z → AnswersStmt F S X R W base rt last n s R′ W′ K′ r z
+-- every statement that stands at n is answered so. Of the kinds, a var depends on its block alone, a while on its return type and its
+-- place, the others on no block and no place, and some on no return type either.
+pub record ToldStmt (F : List ℕ) (S : Sections) (X R W : List ℕ) (base start rt : ℕ) (last : Bool) (n s : ℕ) (R′ W′ K′ : List ℕ) (r : Judged) : Type 0 where
+  pub tells : (z : Stmt) → StmtStands (tablesOf F S) n z → AnswersStmt F S X R W base start rt last n s R′ W′ K′ r z
+
+pub record ToldVar (F : List ℕ) (S : Sections) (X R W : List ℕ) (base start n s : ℕ) (R′ W′ K′ : List ℕ) (r : Judged) : Type 0 where
+  pub tells : (rt : ℕ) (last : Bool) (z : Stmt) → StmtStands (tablesOf F S) n z → AnswersStmt F S X R W base start rt last n s R′ W′ K′ r z
+
+pub record ToldWhile (F : List ℕ) (S : Sections) (X R W : List ℕ) (base rt : ℕ) (last : Bool) (n s : ℕ) (R′ W′ K′ : List ℕ) (r : Judged) : Type 0 where
+  pub tells : (start : ℕ) (z : Stmt) → StmtStands (tablesOf F S) n z → AnswersStmt F S X R W base start rt last n s R′ W′ K′ r z
 
 pub record ToldAnywhere (F : List ℕ) (S : Sections) (X R W : List ℕ) (base rt n s : ℕ) (R′ W′ K′ : List ℕ) (r : Judged) : Type 0 where
-  pub tells : (last : Bool) (z : Stmt) → StmtStands (tablesOf F S) n z → AnswersStmt F S X R W base rt last n s R′ W′ K′ r z
+  pub tells : (start : ℕ) (last : Bool) (z : Stmt) → StmtStands (tablesOf F S) n z → AnswersStmt F S X R W base start rt last n s R′ W′ K′ r z
 
 pub record ToldAny (F : List ℕ) (S : Sections) (X R W : List ℕ) (base n s : ℕ) (R′ W′ K′ : List ℕ) (r : Judged) : Type 0 where
   pub tells : (rt : ℕ) → ToldAnywhere F S X R W base rt n s R′ W′ K′ r
 
 -- the first `left` vars of a for stand at n
-pub record ReadyVars (F : List ℕ) (S : Sections) (X R W K : List ℕ) (base n s left : ℕ) : Type 0 where
+pub record ReadyVars (F : List ℕ) (S : Sections) (X R W K : List ℕ) (base start n s left : ℕ) : Type 0 where
   pub fine : Fine F S X R W K base s
+  pub begins : (base ≤ start) × (start ≤ s)
   pub within : n ≤ S .nodes
   pub vars : Vars
   pub stand : VarsStand (tablesOf F S) n vars
   pub counted : countVars vars ≡ left
   pub room : s + sizeVars vars ≤ S .«built_ins» + S .nodes
 
-pub record ToldVars (F : List ℕ) (S : Sections) (X R W : List ℕ) (base n s left : ℕ) (R′ W′ K′ : List ℕ) (r : Judged) : Type 0 where
-  pub tells : (vs : Vars) → VarsStand (tablesOf F S) n vs → countVars vs ≡ left
-      → Meets (Declaring F S X base n (sizeVars vs) s R W R′ W′ K′ r) r
-      (executeVars (tablesOf F S) (contextOf (tablesOf F S) W base) vs n (scopeOf (tablesOf F S) W base s))
+pub record ToldVars (F : List ℕ) (S : Sections) (X R W : List ℕ) (base start n s left : ℕ) (R′ W′ K′ : List ℕ) (r : Judged) : Type 0 where
+  pub tells : (vs : Vars) → VarsStand (tablesOf F S) n vs → countVars vs ≡ left → (Γ : Scope ℕ) → Holds (tablesOf F S) W base start s Γ
+      → Meets (Declaring F S X base start n (sizeVars vs) s R W R′ W′ K′ r) r (executeVars (tablesOf F S) (contextOf (tablesOf F S) W base) vs n Γ)
 
 -- the condition of the for at `parent`, or 40, stands at n
 pub record ReadyCondition (F : List ℕ) (S : Sections) (X R W K : List ℕ) (base n s : ℕ) : Type 0 where
@@ -100,11 +107,10 @@ pub record ReadyCondition (F : List ℕ) (S : Sections) (X R W K : List ℕ) (ba
   pub room : s + sizeCondition tree ≤ S .«built_ins» + S .nodes
 
 pub record ToldCondition (F : List ℕ) (S : Sections) (X R W : List ℕ) (base n s parent : ℕ) (R′ W′ K′ : List ℕ) (r : Judged) : Type 0 where
-  pub tells : (q : Condition) → ConditionStands (tablesOf F S) n q
-      → Meets (Listing F S X base n (sizeCondition q) s R W R′ W′ K′ r) r
-      (judgeCondition (tablesOf F S) (contextOf (tablesOf F S) W base) q n parent (scopeOf (tablesOf F S) W base s))
+  pub tells : (q : Condition) → ConditionStands (tablesOf F S) n q → (start : ℕ) (Γ : Scope ℕ) → Holds (tablesOf F S) W base start s Γ
+      → Meets (Listing F S X base n (sizeCondition q) s R W R′ W′ K′ r) r (judgeCondition (tablesOf F S) (contextOf (tablesOf F S) W base) q n parent Γ)
 
 -- the left side of the assignment at n is tested as the definition has it
 pub record Assigns (F : List ℕ) (S : Sections) (W K : List ℕ) (base n : ℕ) (r : Bool) : Type 0 where
   pub tells : (s : ℕ) → Scoped F S W K s → (g : Target) → Stands (tablesOf F S) n (targetExpr g)
-      → r ≡ assignsTo (contextOf (tablesOf F S) W base) (scopeOf (tablesOf F S) W base s) g
+      → (start : ℕ) (Γ : Scope ℕ) → Holds (tablesOf F S) W base start s Γ → r ≡ assignsTo (contextOf (tablesOf F S) W base) Γ g

@@ -27,7 +27,7 @@ ghost use Prim.Native.Nat.{_+_, _*_, _<_};
 ghost use Rattle.oat.specs.Tables.{nodeAt};
 ghost use Rattle.file_sections.specs.Layout.{tablesOf};
 ghost use Rattle.bindings.specs.Bindings.{SomeFrom};
-ghost use Rattle.simple_statements.specs.Contract.{ReadyStmt, ToldAnywhere, ToldAny, ReadyVars, ToldVars, ReadyCondition, ToldCondition, Assigns};
+ghost use Rattle.simple_statements.specs.Contract.{ReadyStmt, ToldVar, ToldAnywhere, ToldAny, ReadyVars, ToldVars, ReadyCondition, ToldCondition, Assigns};
 
 // The left side at `node` is not the name of a function or of a built-in, or a local hides it.
 fn assigns(
@@ -124,7 +124,7 @@ pub fn assignment(
     )
 }
 
-// Var: value, fresh name.
+// Var: value, fresh name. The bindings of its block stand from the position `start` on.
 pub fn variable(
     file: &[u8],
     frame: Frame,
@@ -133,10 +133,11 @@ pub fn variable(
     work: &mut [u16],
     chains: &mut Chains,
     at: At,
+    start: usize,
 ) -> Judged
     requires { ⌜ ReadyStmt (now file) (frame .sections) (now index) (now rows) (now work) (now chains) (frame .base) (at .node) (at .scope) ⌝ }
     requires { ⌜ nodeAt (tablesOf (now file) (frame .sections)) (at .node) .kind ≡ 31 ⌝ }
-    ensures { λ r. ⌜ ToldAny (now (file .entry)) (frame .sections) (now (index .entry)) (now (rows .entry)) (now (work .entry)) (frame .base) (at .node) (at .scope) (now (rows .exit)) (now (work .exit)) (now (chains .exit)) r ⌝ }
+    ensures { λ r. ⌜ ToldVar (now (file .entry)) (frame .sections) (now (index .entry)) (now (rows .entry)) (now (work .entry)) (frame .base) start (at .node) (at .scope) (now (rows .exit)) (now (work .exit)) (now (chains .exit)) r ⌝ }
 {
     let one = expression(
         file,
@@ -159,7 +160,7 @@ pub fn variable(
         frame.sections,
         &*work,
         &*chains,
-        frame.base,
+        start,
         node_x(file, frame.sections, at.node),
     ) {
         return refused(7, at.node, one.at);
@@ -176,7 +177,7 @@ pub fn variable(
     )
 }
 
-// `count` vars of a for, from `node` on.
+// `count` vars of a for, from `node` on, in the block whose bindings stand from the position `start` on.
 pub fn variables(
     file: &[u8],
     frame: Frame,
@@ -186,14 +187,15 @@ pub fn variables(
     chains: &mut Chains,
     at: At,
     count: usize,
+    start: usize,
 ) -> Judged
-    requires { ⌜ ReadyVars (now file) (frame .sections) (now index) (now rows) (now work) (now chains) (frame .base) (at .node) (at .scope) count ⌝ }
-    ensures { λ r. ⌜ ToldVars (now (file .entry)) (frame .sections) (now (index .entry)) (now (rows .entry)) (now (work .entry)) (frame .base) (at .node) (at .scope) count (now (rows .exit)) (now (work .exit)) (now (chains .exit)) r ⌝ }
+    requires { ⌜ ReadyVars (now file) (frame .sections) (now index) (now rows) (now work) (now chains) (frame .base) start (at .node) (at .scope) count ⌝ }
+    ensures { λ r. ⌜ ToldVars (now (file .entry)) (frame .sections) (now (index .entry)) (now (rows .entry)) (now (work .entry)) (frame .base) start (at .node) (at .scope) count (now (rows .exit)) (now (work .exit)) (now (chains .exit)) r ⌝ }
 {
     let mut here = at;
     let mut i = 0;
     while i < count {
-        let one = variable(file, frame, index, rows, work, chains, here);
+        let one = variable(file, frame, index, rows, work, chains, here, start);
         let judgement = one.judgement;
         let Judgement::GoesOn = judgement else {
             return one;

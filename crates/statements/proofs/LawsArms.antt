@@ -17,7 +17,8 @@ use Rattle.typing_rules.specs.Judge.{ok, executeBlock}
 use Rattle.typing_rules.proofs.LawsOutcome.{ok-is, then-ok}
 use Rattle.file_sections.specs.declared.Sections.{Sections}
 use Rattle.file_sections.specs.Layout.{tablesOf}
-use Rattle.bindings.specs.Bindings.{scopeOf, Scoped}
+use Rattle.bindings.specs.Bindings.{Scoped}
+use Rattle.bindings.proofs.LawsBindings.{holds-some}
 use Rattle.answers.specs.declared.answer.Judgement.the-variants.{GoesOn, Refused}
 use Rattle.answers.specs.declared.answer.Judged.{Judged}
 use Rattle.answers.specs.Answers.{AnswerIs}
@@ -51,22 +52,24 @@ either-mark T C rt b c n Γ Δ p L j =
     then-ok (executeBlock T C rt c (n + sizeBlock b) Δ) _ k λ w N i₂ k₂.
     ok-is (λ a M. a ≤ 1) k₂ (both-small v w (block-mark T C rt c (n + sizeBlock b) Δ w N i₂))
 
-module _ {F : List ℕ} {S : Sections} {X R W K : List ℕ} {base rt n s inner : ℕ} (g : ReadyArms F S X R W K base rt n s inner) where
-  pub arms-first : ReadyBlock F S X R W K base rt n inner
-  arms-first = ready-block n (g .first) (g .fine) (g .returned) (g .stands) (omega (arith, g .room))
+module _ {F : List ℕ} {S : Sections} {X R W K : List ℕ} {base rt n s top : ℕ} (g : ReadyArms F S X R W K base rt n s top) where
+  pub arms-first : ReadyBlock F S X R W K base top rt n top
+  arms-first = ready-block n (g .first) (g .fine) (g .fine .above, omega arith) (g .returned) (g .stands) (omega (arith, g .room))
 
-  module _ {R₁ W₁ K₁ : List ℕ} {r₁ : Judged} (m₁ : ToldBlock F S X R W base rt n inner R₁ W₁ K₁ r₁) where
-    pub arms-no : {p q : ℕ} → r₁ .judgement ≡ Refused p q → ToldArms F S X R W base rt n s inner R₁ W₁ K₁ r₁
-    arms-no e = record { tells = λ b c h h₂. part-no _ _ (λ p L v. (p, v .mark)) e (m₁ .tells b h) }
+  module _ {R₁ W₁ K₁ : List ℕ} {r₁ : Judged} (m₁ : ToldBlock F S X R W base top rt n top R₁ W₁ K₁ r₁) where
+    pub arms-no : {p q : ℕ} → r₁ .judgement ≡ Refused p q → ToldArms F S X R W base rt n s top R₁ W₁ K₁ r₁
+    arms-no e = record { tells = λ b c h h₂ Γ Δ d d₂. part-no _ _ (λ p L v. (p, v .mark)) e (m₁ .tells b h Γ d) }
 
     module _ (u : Unrefused r₁) where
       first-said : (p : ℕ) × (L : List (Label ℕ))
-          × (executeBlock (tablesOf F S) (contextOf (tablesOf F S) W base) rt (g .first) n (scopeOf (tablesOf F S) W base inner) ≡ ok p L)
-          × Blocking F S X base n (sizeBlock (g .first)) inner R W R₁ W₁ K₁ r₁ p L
-      first-said = part-of _ (m₁ .tells (g .first) (g .stands)) u
+          × (executeBlock (tablesOf F S) (contextOf (tablesOf F S) W base) rt (g .first) n (holds-some (tablesOf F S) W base top top (g .fine .above) (omega arith) .0) ≡ ok p L)
+          × Blocking F S X base n (sizeBlock (g .first)) top R W R₁ W₁ K₁ r₁ p L
+      first-said =
+          let (Γ, d) = holds-some (tablesOf F S) W base top top (g .fine .above) (omega arith) in
+          part-of _ (m₁ .tells (g .first) (g .stands) Γ d) u
 
       -- for `leave`
-      pub arms-left : Scoped F S W₁ K₁ inner × (s ≤ inner)
+      pub arms-left : Scoped F S W₁ K₁ top × (s ≤ top)
       arms-left = (first-said .3 .after .fine .scoped, g .higher)
 
       pub arms-next : n < r₁ .at .node
@@ -74,35 +77,35 @@ module _ {F : List ℕ} {S : Sections} {X R W K : List ℕ} {base rt n s inner :
 
       module _ {K₂ : List ℕ} (c₁ : Scoped F S W₁ K₂ s) where
         -- the first block, seen from the height s
-        lowered : {L : List (Label ℕ)} {k : ℕ} → After F S X base L n k inner inner R W R₁ W₁ K₁ → After F S X base L n k s s R W R₁ W₁ K₂
+        lowered : {L : List (Label ℕ)} {k : ℕ} → After F S X base L n k top top R W R₁ W₁ K₁ → After F S X base L n k s s R W R₁ W₁ K₂
         lowered a = after-left (g .lower) (after-lower (g .higher) a) c₁
 
-        pub arms-second : ReadyBlock F S X R₁ W₁ K₂ base rt (r₁ .at .node) s
+        pub arms-second : ReadyBlock F S X R₁ W₁ K₂ base s rt (r₁ .at .node) s
         arms-second =
-            ready-block (r₁ .at .node) (g .second) (lowered (first-said .3 .after) .fine) (g .returned)
+            ready-block (r₁ .at .node) (g .second) (lowered (first-said .3 .after) .fine) (g .lower, omega arith) (g .returned)
             (subst (λ i. BlockStands (tablesOf F S) i (g .second)) (sym (first-said .3 .next)) (g .stands-too)) (omega (arith, g .room, g .higher))
 
-        pub arms-asked : (n < r₁ .at .node) × ReadyBlock F S X R₁ W₁ K₂ base rt (r₁ .at .node) s
+        pub arms-asked : (n < r₁ .at .node) × ReadyBlock F S X R₁ W₁ K₂ base s rt (r₁ .at .node) s
         arms-asked = (arms-next, arms-second)
 
-        module _ {R₂ W₂ K₃ : List ℕ} {r₂ : Judged} (m₂ : ToldBlock F S X R₁ W₁ base rt (r₁ .at .node) s R₂ W₂ K₃ r₂) where
-          pub arms-no-2 : {p q : ℕ} → r₂ .judgement ≡ Refused p q → ToldArms F S X R W base rt n s inner R₂ W₂ K₃ r₂
+        module _ {R₂ W₂ K₃ : List ℕ} {r₂ : Judged} (m₂ : ToldBlock F S X R₁ W₁ base s rt (r₁ .at .node) s R₂ W₂ K₃ r₂) where
+          pub arms-no-2 : {p q : ℕ} → r₂ .judgement ≡ Refused p q → ToldArms F S X R W base rt n s top R₂ W₂ K₃ r₂
           arms-no-2 e =
               record {
-                tells = λ b c h h₂.
-                    goes-on _ _ u (m₁ .tells b h) λ p L q v.
-                    part-no _ _ (λ i N z. (i, z .mark)) e (retell-block (lowered (v .after) .same) (g .lower) (v .next) m₂ c h₂);
+                tells = λ b c h h₂ Γ Δ d d₂.
+                    goes-on _ _ u (m₁ .tells b h Γ d) λ p L q v.
+                    part-no _ _ (λ i N z. (i, z .mark)) e (retell-block (lowered (v .after) .same) (g .lower) (v .next) m₂ c h₂ Δ d₂);
               }
 
           module _ (u₂ : Unrefused r₂) {m : ℕ} (em : m ≡ markOf (r₁ .judgement)) where
             -- any answer with the mark of both
             both-said : {r : Judged} → r .at .node ≡ r₂ .at .node → r .at .scope ≡ r₂ .at .scope → ((p q : ℕ) → m ≡ p → r₂ .judgement ≡ marked q → r .judgement ≡ marked (both p q))
-                → ToldArms F S X R W base rt n s inner R₂ W₂ K₃ r
+                → ToldArms F S X R W base rt n s top R₂ W₂ K₃ r
             both-said {r} en es f =
                 record {
-                  tells = λ b c h h₂.
-                      goes-on _ _ u (m₁ .tells b h) λ p L q v.
-                      goes-on _ _ u₂ (retell-block (lowered (v .after) .same) (g .lower) (v .next) m₂ c h₂) λ i M q₂ v₂.
+                  tells = λ b c h h₂ Γ Δ d d₂.
+                      goes-on _ _ u (m₁ .tells b h Γ d) λ p L q v.
+                      goes-on _ _ u₂ (retell-block (lowered (v .after) .same) (g .lower) (v .next) m₂ c h₂ Δ d₂) λ i M q₂ v₂.
                       accepts (both p i) (L ++ M) (record {
                         mark = f p i (em ∙ mark-is (r₁ .judgement) p (block-mark _ _ rt b n _ p L q) (v .mark)) (v₂ .mark);
                         next = en ∙ v₂ .next ∙ omega arith;
@@ -111,15 +114,18 @@ module _ {F : List ℕ} {S : Sections} {X R W K : List ℕ} {base rt n s inner :
                       });
                 }
 
-            pub arms-goes : {r : Judged} → m ≡ 0 → AnswerIs GoesOn (r₂ .at .node) (r₂ .at .scope) r → ToldArms F S X R W base rt n s inner R₂ W₂ K₃ r
+            pub arms-goes : {r : Judged} → m ≡ 0 → AnswerIs GoesOn (r₂ .at .node) (r₂ .at .scope) r → ToldArms F S X R W base rt n s top R₂ W₂ K₃ r
             arms-goes z er =
                 both-said (er .next) (er .scope)
                 (λ p q e y. er .judged ∙ ap marked (sym (both-goes p q (sym e ∙ z))))
 
-            pub arms-ok : (m ≡ 0 → ⊥) → ToldArms F S X R W base rt n s inner R₂ W₂ K₃ r₂
+            pub arms-ok : (m ≡ 0 → ⊥) → ToldArms F S X R W base rt n s top R₂ W₂ K₃ r₂
             arms-ok f = both-said refl refl (λ p q e y. y ∙ ap marked (sym (both-second p q (λ z. f (e ∙ z)))))
 
   -- what accepted blocks say
-  module _ {R₁ W₁ K₁ : List ℕ} {r : Judged} (told : ToldArms F S X R W base rt n s inner R₁ W₁ K₁ r) (u : Unrefused r) where
+  module _ {R₁ W₁ K₁ : List ℕ} {r : Judged} (told : ToldArms F S X R W base rt n s top R₁ W₁ K₁ r) (u : Unrefused r) where
     pub arms-fine : Fine F S X R₁ W₁ K₁ base s
-    arms-fine = part-of _ (told .tells (g .first) (g .second) (g .stands) (g .stands-too)) u .3 .after .fine
+    arms-fine =
+        let (Γ, d) = holds-some (tablesOf F S) W base top top (g .fine .above) (omega arith) in
+        let (Δ, d₂) = holds-some (tablesOf F S) W base s s (g .lower) (omega arith) in
+        part-of _ (told .tells (g .first) (g .second) (g .stands) (g .stands-too) Γ Δ d d₂) u .3 .after .fine

@@ -7,7 +7,7 @@ use lib.ListN.{length}
 use Rattle.oat.specs.Tables.{Tables, nodeAt}
 use Rattle.oat.specs.Syntax.{Vars, Condition, Step, Block, sizeVars, sizeCondition, sizeStmt, sizeStep, sizeBlock, countVars}
 use Rattle.oat.specs.Nodes.{Node, ConditionStands, StepStands, BlockStands}
-use Rattle.typing_rules.specs.Contexts.{Scope, Context}
+use Rattle.typing_rules.specs.Contexts.{Scope, inner, Context}
 use Rattle.typing_rules.specs.Labels.{Label}
 use Rattle.typing_rules.specs.Judge.{Out, ok, andThen, Done, ends, judgeCondition, execute, executeStep, executeBlock}
 use Rattle.typing_rules.specs.Check.{nextResult}
@@ -15,8 +15,8 @@ use Rattle.typing_rules.proofs.LawsOutcome.{ok-is, then-ok, either-then}
 use Rattle.file_sections.specs.declared.Sections.{Sections}
 use Rattle.file_sections.specs.Layout.{tablesOf}
 use Rattle.file_sections.proofs.LawsRecords.{nodes-long}
-use Rattle.bindings.specs.Bindings.{entryOf, scopeOf, Scoped}
-use Rattle.bindings.proofs.LawsBindings.{scope-same}
+use Rattle.bindings.specs.Bindings.{entryOf, Scoped, Holds}
+use Rattle.bindings.proofs.LawsBindings.{holds-same, holds-inner, holds-some}
 use Rattle.file_sections.proofs.LawsFrames.{same-less, same-more}
 use Rattle.answers.specs.declared.answer.Judgement.the-variants.{GoesOn, Refused}
 use Rattle.answers.specs.declared.answer.Judged.{Judged}
@@ -33,9 +33,9 @@ use Rattle.statements.proofs.LawsParts.{part-no, after-left, after-plai
 turn-part : {Q : Done → List (Label ℕ) → Type 0} {r : Judged} (T : Tables) (C : Context ℕ) (rt : ℕ) (z : Step) (b : Block) (n : ℕ) (Δ : Scope ℕ)
     (k : List (Label ℕ) → Out Done)
     → Meets Q r (andThen (turnOf T C rt z b n Δ) (λ q P. k P))
-    → Meets Q r (andThen (executeStep T C rt z n Δ) λ p N. andThen (executeBlock T C rt b (n + sizeStep z) Δ) λ q O. k (N ++ O))
+    → Meets Q r (andThen (executeStep T C rt z n Δ) λ p N. andThen (executeBlock T C rt b (n + sizeStep z) (inner Δ)) λ q O. k (N ++ O))
 turn-part {Q} {r} T C rt z b n Δ k m =
-    subst (Meets Q r) (either-then (λ p q. q) (executeStep T C rt z n Δ) (executeBlock T C rt b (n + sizeStep z) Δ) (λ q P. k P)) m
+    subst (Meets Q r) (either-then (λ p q. q) (executeStep T C rt z n Δ) (executeBlock T C rt b (n + sizeStep z) (inner Δ)) (λ q P. k P)) m
 
 -- a for after its parts' labels, those of the turn last
 abbrev closing : Scope ℕ → (L M P : List (Label ℕ)) → Out Done
@@ -45,7 +45,7 @@ turn-head : (T : Tables) (C : Context ℕ) (rt : ℕ) (z : Step) (b : Block) (n 
     → turnOf T C rt z b n Γ ≡ ok q P → nextResult P ≡ 0
 turn-head T C rt z b n Γ q P j =
     then-ok (executeStep T C rt z n Γ) _ j λ p N i k.
-    then-ok (executeBlock T C rt b (n + sizeStep z) Γ) _ k λ t O i₁ k₁.
+    then-ok (executeBlock T C rt b (n + sizeStep z) (inner Γ)) _ k λ t O i₁ k₁.
     ok-is (λ q P. nextResult P ≡ 0) k₁ (step-head T C rt z n Γ p N i O)
 
 module _ {F : List ℕ} {S : Sections} {X R W K : List ℕ} {base n s : ℕ} (g : ReadyStmt F S X R W K base n s) (kind : nodeAt (tablesOf F S) n .kind ≡ 37) {c : ℕ} (ec : c ≡ nodeAt (tablesOf F S) n .children) where
@@ -55,34 +55,38 @@ module _ {F : List ℕ} {S : Sections} {X R W K : List ℕ} {base n s : ℕ} (g 
   pub for-count : 3 ≤ c
   for-count = on-for (λ z. 3 ≤ c) (λ vs q z b h. omega (arith, ec, h .0 .children-is)) kind (g .tree) (g .stands)
 
-  pub for-first : ReadyVars F S X R W K base (n + 1) s (c - 3)
+  pub for-first : ReadyVars F S X R W K base s (n + 1) s (c - 3)
   for-first =
-      on-for (λ z. s + sizeStmt z ≤ S .«built_ins» + S .nodes → ReadyVars F S X R W K base (n + 1) s (c - 3))
-      (λ vs q z b h l. record { fine = g .fine; within = omega (arith, g .within); vars = vs; stand = h .1; counted = counts vs (h .0); room = omega arith }) kind
+      on-for (λ z. s + sizeStmt z ≤ S .«built_ins» + S .nodes → ReadyVars F S X R W K base s (n + 1) s (c - 3))
+      (λ vs q z b h l. record { fine = g .fine; begins = (g .fine .above, omega arith); within = omega (arith, g .within); vars = vs; stand = h .1; counted = counts vs (h .0); room = omega arith }) kind
       (g .tree) (g .stands) (g .room)
 
-  module _ {R₁ W₁ K₁ : List ℕ} {r₁ : Judged} (m₁ : ToldVars F S X R W base (n + 1) s (c - 3) R₁ W₁ K₁ r₁) where
+  module _ {R₁ W₁ K₁ : List ℕ} {r₁ : Judged} (m₁ : ToldVars F S X R W base s (n + 1) s (c - 3) R₁ W₁ K₁ r₁) where
     pub for-no : {rt : ℕ} → Unlisted r₁ → ToldAnywhere F S X R W base rt n s R₁ W₁ K₁ r₁
     unfolding execute
     for-no {rt} u =
         record {
-          tells = λ last. on-for (AnswersStmt F S X R W base rt last n s R₁ W₁ K₁ r₁)
-              (λ vs q z b h. hands-up _ _ (λ Δ L e p. u .never (p .goes-on)) (m₁ .tells vs (h .1) (counts vs (h .0)))) kind;
+          tells = λ start last. on-for (AnswersStmt F S X R W base start rt last n s R₁ W₁ K₁ r₁)
+              (λ vs q z b h Γ d. hands-up _ _ (λ Δ L e p. u .never (p .goes-on)) (m₁ .tells vs (h .1) (counts vs (h .0)) (inner Γ) (holds-inner d))) kind;
         }
 
     module _ (y₁ : r₁ .judgement ≡ GoesOn) {h : ℕ} (eh : h ≡ r₁ .at .scope) where
+      -- some scope is held before the vars
+      some-scope : (Γ : Scope ℕ) × Holds (tablesOf F S) W base s s Γ
+      some-scope = holds-some (tablesOf F S) W base s s (g .fine .above) (omega arith)
+
       -- the vars, at the height h
-      vars-after : {m k : ℕ} {Δ : Scope ℕ} {L : List (Label ℕ)} → Declaring F S X base m k s R W R₁ W₁ K₁ r₁ Δ L → After F S X base L m k s h R W R₁ W₁ K₁
+      vars-after : {m k : ℕ} {Δ : Scope ℕ} {L : List (Label ℕ)} → Declaring F S X base s m k s R W R₁ W₁ K₁ r₁ Δ L → After F S X base L m k s h R W R₁ W₁ K₁
       vars-after {m} {k} {Δ} {L} p = subst (λ i. After F S X base L m k s i R W R₁ W₁ K₁) (sym eh) (p .after)
 
-      vars-scope : {m k : ℕ} {Δ : Scope ℕ} {L : List (Label ℕ)} → Declaring F S X base m k s R W R₁ W₁ K₁ r₁ Δ L → scopeOf (tablesOf F S) W₁ base h ≡ Δ
-      vars-scope p = ap (λ i. scopeOf (tablesOf F S) W₁ base i) eh ∙ p .scope
+      vars-scope : {m k : ℕ} {Δ : Scope ℕ} {L : List (Label ℕ)} → Declaring F S X base s m k s R W R₁ W₁ K₁ r₁ Δ L → Holds (tablesOf F S) W₁ base s h Δ
+      vars-scope {Δ = Δ} p = subst (λ i. Holds (tablesOf F S) W₁ base s i Δ) (sym eh) (p .scope)
 
       pub for-second : ReadyCondition F S X R₁ W₁ K₁ base (r₁ .at .node) h
       for-second =
           on-for (λ z. s + sizeStmt z ≤ S .«built_ins» + S .nodes → ReadyCondition F S X R₁ W₁ K₁ base (r₁ .at .node) h)
           (λ vs q z b i l.
-          let (Δ, L, e, p) = part-of _ (m₁ .tells vs (i .1) (counts vs (i .0))) (goes-unrefused y₁) in
+          let (Δ, L, e, p) = part-of _ (m₁ .tells vs (i .1) (counts vs (i .0)) (some-scope .0) (some-scope .1)) (goes-unrefused y₁) in
           let there : ConditionStands (tablesOf F S) (r₁ .at .node) q = subst (λ j. ConditionStands (tablesOf F S) j q) (sym (p .next)) (i .2) in
           record {
             fine = vars-after p .fine;
@@ -94,36 +98,37 @@ module _ {F : List ℕ} {S : Sections} {X R W K : List ℕ} {base n s : ℕ} (g 
 
       module _ {R₂ W₂ K₂ : List ℕ} {r₂ : Judged} (m₂ : ToldCondition F S X R₁ W₁ base (r₁ .at .node) h n R₂ W₂ K₂ r₂) where
         -- what the condition's answer says of the definition
-        condition-met : {m k : ℕ} {Δ : Scope ℕ} {L : List (Label ℕ)} → Declaring F S X base m k s R W R₁ W₁ K₁ r₁ Δ L
+        condition-met : {m k : ℕ} {Δ : Scope ℕ} {L : List (Label ℕ)} → Declaring F S X base s m k s R W R₁ W₁ K₁ r₁ Δ L
             → (q : Condition) → ConditionStands (tablesOf F S) (m + k) q
             → Meets (Listing F S X base (m + k) (sizeCondition q) h R₁ W₁ R₂ W₂ K₂ r₂) r₂
             (judgeCondition (tablesOf F S) (contextOf (tablesOf F S) W base) q (m + k) n Δ)
-        condition-met {m} {k} p q i =
-            seen-on F S base s h (p .after .same) (g .fine .above) (vars-scope p)
-            (λ C Γ. Meets (Listing F S X base (m + k) (sizeCondition q) h R₁ W₁ R₂ W₂ K₂ r₂) r₂ (judgeCondition (tablesOf F S) C q (m + k) n Γ))
-            (subst (λ j. ToldCondition F S X R₁ W₁ base j h n R₂ W₂ K₂ r₂) (p .next) m₂ .tells q i)
+        condition-met {m} {k} {Δ} p q i =
+            seen-on F S base s (p .after .same) (g .fine .above)
+            (λ C. Meets (Listing F S X base (m + k) (sizeCondition q) h R₁ W₁ R₂ W₂ K₂ r₂) r₂ (judgeCondition (tablesOf F S) C q (m + k) n Δ))
+            (subst (λ j. ToldCondition F S X R₁ W₁ base j h n R₂ W₂ K₂ r₂) (p .next) m₂ .tells q i s Δ (vars-scope p))
 
         pub for-no-2 : {rt : ℕ} → Unlisted r₂ → ToldAnywhere F S X R W base rt n s R₂ W₂ K₂ r₂
         unfolding execute
         for-no-2 {rt} u =
             record {
-              tells = λ last. on-for (AnswersStmt F S X R W base rt last n s R₂ W₂ K₂ r₂)
-                  (λ vs q z b i.
-                  goes-on _ _ (goes-unrefused y₁) (m₁ .tells vs (i .1) (counts vs (i .0))) λ Δ L e p.
+              tells = λ start last. on-for (AnswersStmt F S X R W base start rt last n s R₂ W₂ K₂ r₂)
+                  (λ vs q z b i Γ d.
+                  goes-on _ _ (goes-unrefused y₁) (m₁ .tells vs (i .1) (counts vs (i .0)) (inner Γ) (holds-inner d)) λ Δ L e p.
                   hands-up _ _ (λ Δ₁ M e₂ p₂. u .never (p₂ .goes-on)) (condition-met p q (i .2))) kind;
             }
 
         module _ (y₂ : r₂ .judgement ≡ GoesOn) where
-          pub for-third : {rt : ℕ} → rt < S .types → (n < r₂ .at .node) × ReadyTurn F S X R₂ W₂ K₂ base rt (r₂ .at .node) h
+          pub for-third : {rt : ℕ} → rt < S .types → (n < r₂ .at .node) × ReadyTurn F S X R₂ W₂ K₂ base s rt (r₂ .at .node) h
           for-third {rt} w =
-              on-for (λ z. s + sizeStmt z ≤ S .«built_ins» + S .nodes → (n < r₂ .at .node) × ReadyTurn F S X R₂ W₂ K₂ base rt (r₂ .at .node) h)
+              on-for (λ z. s + sizeStmt z ≤ S .«built_ins» + S .nodes → (n < r₂ .at .node) × ReadyTurn F S X R₂ W₂ K₂ base s rt (r₂ .at .node) h)
               (λ vs q z b i l.
-              let (Δ, L, e, p) = part-of _ (m₁ .tells vs (i .1) (counts vs (i .0))) (goes-unrefused y₁) in
+              let (Δ, L, e, p) = part-of _ (m₁ .tells vs (i .1) (counts vs (i .0)) (some-scope .0) (some-scope .1)) (goes-unrefused y₁) in
               let (Δ₁, M, e₂, p₂) = part-of _ (condition-met p q (i .2)) (goes-unrefused y₂) in
               let there : StepStands (tablesOf F S) (r₂ .at .node) z = subst (λ j. StepStands (tablesOf F S) j z) (sym (p₂ .next)) (i .3) in (
                 omega (arith, p₂ .next),
                 record {
                   fine = p₂ .after .fine;
+                  begins = (g .fine .above, omega (arith, eh, p .low));
                   within = subst (λ j. r₂ .at .node < j) (nodes-long F S) (step-within (tablesOf F S) (r₂ .at .node) z there);
                   returned = w;
                   tree = z;
@@ -134,32 +139,31 @@ module _ {F : List ℕ} {S : Sections} {X R W K : List ℕ} {base n s : ℕ} (g 
                 },
               )) kind (g .tree) (g .stands) (g .room)
 
-          module _ {rt : ℕ} {R₃ W₃ K₃ : List ℕ} {r₃ : Judged} (m₃ : ToldTurn F S X R₂ W₂ base rt (r₂ .at .node) h R₃ W₃ K₃ r₃) where
+          module _ {rt : ℕ} {R₃ W₃ K₃ : List ℕ} {r₃ : Judged} (m₃ : ToldTurn F S X R₂ W₂ base s rt (r₂ .at .node) h R₃ W₃ K₃ r₃) where
             -- what the turn's answer says of the definition
-            turn-met : {m k j : ℕ} {Δ Δ₁ : Scope ℕ} {L M : List (Label ℕ)} → Declaring F S X base m k s R W R₁ W₁ K₁ r₁ Δ L
+            turn-met : {m k j : ℕ} {Δ Δ₁ : Scope ℕ} {L M : List (Label ℕ)} → Declaring F S X base s m k s R W R₁ W₁ K₁ r₁ Δ L
                 → Listing F S X base (m + k) j h R₁ W₁ R₂ W₂ K₂ r₂ Δ₁ M → (z : Step) (b : Block) → StepStands (tablesOf F S) (m + k + j) z
                 → BlockStands (tablesOf F S) (m + k + j + sizeStep z) b
                 → Meets (Blocking F S X base (m + k + j) (sizeStep z + sizeBlock b) h R₂ W₂ R₃ W₃ K₃ r₃) r₃
                 (turnOf (tablesOf F S) (contextOf (tablesOf F S) W base) rt z b (m + k + j) Δ)
-            turn-met {m} {k} {j} p p₂ z b i i₂ =
+            turn-met {m} {k} {j} {Δ} p p₂ z b i i₂ =
                 let low : s ≤ h = omega (arith, eh, p .low) in
                 let same = same-less (entryOf (tablesOf F S) s) (entryOf (tablesOf F S) h) (omega arith) (p₂ .after .same) in
-                seen-on F S base s h (same-more (p .after .same) same) (g .fine .above)
-                (scope-same (tablesOf F S) h (p₂ .after .same) base ∙ vars-scope p)
-                (λ C Γ. Meets (Blocking F S X base (m + k + j) (sizeStep z + sizeBlock b) h R₂ W₂ R₃ W₃ K₃ r₃) r₃
-                (turnOf (tablesOf F S) C rt z b (m + k + j) Γ))
-                (subst (λ v. ToldTurn F S X R₂ W₂ base rt v h R₃ W₃ K₃ r₃) (p₂ .next) m₃ .tells z b i i₂)
+                seen-on F S base s (same-more (p .after .same) same) (g .fine .above)
+                (λ C. Meets (Blocking F S X base (m + k + j) (sizeStep z + sizeBlock b) h R₂ W₂ R₃ W₃ K₃ r₃) r₃
+                (turnOf (tablesOf F S) C rt z b (m + k + j) Δ))
+                (subst (λ v. ToldTurn F S X R₂ W₂ base s rt v h R₃ W₃ K₃ r₃) (p₂ .next) m₃ .tells z b i i₂ Δ (holds-same (vars-scope p) (p₂ .after .same)))
 
             pub for-no-3 : {p q : ℕ} → r₃ .judgement ≡ Refused p q → ToldAnywhere F S X R W base rt n s R₃ W₃ K₃ r₃
             unfolding execute
             for-no-3 f =
                 record {
-                  tells = λ last. on-for (AnswersStmt F S X R W base rt last n s R₃ W₃ K₃ r₃)
-                      (λ vs q z b i.
-                      goes-on _ _ (goes-unrefused y₁) (m₁ .tells vs (i .1) (counts vs (i .0))) λ Δ L e p.
+                  tells = λ start last. on-for (AnswersStmt F S X R W base start rt last n s R₃ W₃ K₃ r₃)
+                      (λ vs q z b i Γ d.
+                      goes-on _ _ (goes-unrefused y₁) (m₁ .tells vs (i .1) (counts vs (i .0)) (inner Γ) (holds-inner d)) λ Δ L e p.
                       goes-on _ _ (goes-unrefused y₂) (condition-met p q (i .2)) λ Δ₁ M e₂ p₂.
-                      turn-part (tablesOf F S) (contextOf (tablesOf F S) W base) rt z b (n + 1 + sizeVars vs + sizeCondition q) Δ (closing (scopeOf (tablesOf F S) W base s) L M)
-                      (part-no _ (λ v P. closing (scopeOf (tablesOf F S) W base s) L M P) (λ v P d. (v, d .mark)) f (turn-met p p₂ z b (i .3) (i .4)))) kind;
+                      turn-part (tablesOf F S) (contextOf (tablesOf F S) W base) rt z b (n + 1 + sizeVars vs + sizeCondition q) Δ (closing Γ L M)
+                      (part-no _ (λ v P. closing Γ L M P) (λ v P w. (v, w .mark)) f (turn-met p p₂ z b (i .3) (i .4)))) kind;
                 }
 
             module _ (u : Unrefused r₃) where
@@ -167,7 +171,7 @@ module _ {F : List ℕ} {S : Sections} {X R W K : List ℕ} {base n s : ℕ} (g 
               ended =
                   on-for (λ z. Fine F S X R₃ W₃ K₃ base h × (s ≤ h))
                   (λ vs q z b i.
-                  let (Δ, L, e, p) = part-of _ (m₁ .tells vs (i .1) (counts vs (i .0))) (goes-unrefused y₁) in
+                  let (Δ, L, e, p) = part-of _ (m₁ .tells vs (i .1) (counts vs (i .0)) (some-scope .0) (some-scope .1)) (goes-unrefused y₁) in
                   let (Δ₁, M, e₂, p₂) = part-of _ (condition-met p q (i .2)) (goes-unrefused y₂) in
                   let (v, P, e₃, d) = part-of _ (turn-met p p₂ z b (i .3) (i .4)) u in
                   (d .after .fine, omega (arith, eh, p .low))) kind (g .tree) (g .stands)
@@ -184,17 +188,17 @@ module _ {F : List ℕ} {S : Sections} {X R W K : List ℕ} {base n s : ℕ} (g 
               unfolding execute
               for-ok {r} {R′} {K₄} left er eR =
                   record {
-                    tells = λ last. on-for (AnswersStmt F S X R W base rt last n s R′ W₃ K₄ r)
-                        (λ vs q z b i.
-                        goes-on _ _ (goes-unrefused y₁) (m₁ .tells vs (i .1) (counts vs (i .0))) λ Δ L e p.
+                    tells = λ start last. on-for (AnswersStmt F S X R W base start rt last n s R′ W₃ K₄ r)
+                        (λ vs q z b i Γ d.
+                        goes-on _ _ (goes-unrefused y₁) (m₁ .tells vs (i .1) (counts vs (i .0)) (inner Γ) (holds-inner d)) λ Δ L e p.
                         goes-on _ _ (goes-unrefused y₂) (condition-met p q (i .2)) λ Δ₁ M e₂ p₂.
-                        turn-part (tablesOf F S) (contextOf (tablesOf F S) W base) rt z b (n + 1 + sizeVars vs + sizeCondition q) Δ (closing (scopeOf (tablesOf F S) W base s) L M)
-                        (goes-on _ (λ v P. closing (scopeOf (tablesOf F S) W base s) L M P) u (turn-met p p₂ z b (i .3) (i .4)) λ v P e₃ d.
+                        turn-part (tablesOf F S) (contextOf (tablesOf F S) W base) rt z b (n + 1 + sizeVars vs + sizeCondition q) Δ (closing Γ L M)
+                        (goes-on _ (λ v P. closing Γ L M P) u (turn-met p p₂ z b (i .3) (i .4)) λ v P e₃ w.
                         accepts _ _
                         (rule-left (g .within)
                         (after-left (g .fine .above)
                         (after-both (vars-long _ _ vs (n + 1) _ Δ L e) (vars-closed _ _ vs (n + 1) _ Δ L e) (ended .1) (vars-after p)
                         (after-plain-then (condition-long _ _ q (n + 1 + sizeVars vs) n Δ Δ₁ M e₂)
-                        (turn-head _ _ rt z b _ Δ v P e₃) (omega arith) (p₂ .after) (d .after))) left)
-                        er (d .next ∙ omega arith) (omega arith) eR))) kind;
+                        (turn-head _ _ rt z b _ Δ v P e₃) (omega arith) (p₂ .after) (w .after))) left)
+                        er (w .next ∙ omega arith) (omega arith) eR d))) kind;
                   }

@@ -11,7 +11,7 @@ use Rattle.oat.specs.Types.{typeOf}
 use Rattle.oat.specs.Decide.{below}
 use Rattle.oat.specs.Syntax.{Block, size, sizeBlock, sizeStmt}
 use Rattle.oat.specs.Nodes.{hasReferenceKind, BlockStands}
-use Rattle.typing_rules.specs.Contexts.{Scope, binds, Context}
+use Rattle.typing_rules.specs.Contexts.{Scope, binds, inner}
 use Rattle.typing_rules.specs.Labels.{Label}
 use Rattle.typing_rules.specs.Rules.{both}
 use Rattle.typing_rules.specs.Judge.{Out, andThen, ends, isBelow, referred, execute, executeBlock}
@@ -22,14 +22,15 @@ use Rattle.file_sections.specs.Frames.{Same}
 use Rattle.file_sections.proofs.LawsRecords.{types-long, nodes-long}
 use Rattle.file_sections.proofs.LawsFrames.{same-more}
 use Rattle.type_index.specs.Index.{declared, Indexed}
-use Rattle.bindings.specs.Bindings.{entryOf, scopeOf, Bindable, Bound}
-use Rattle.bindings.proofs.LawsBindings.{scope-bound, scope-same, names-same}
+use Rattle.bindings.specs.Bindings.{entryOf, Holds, Bindable, Bound}
+use Rattle.bindings.proofs.LawsBindings.{holds-same, holds-inner, holds-bound}
 use Rattle.answers.specs.declared.answer.Judgement.the-variants.{Typed, Refused}
 use Rattle.answers.specs.declared.answer.Judged.{Judged}
 use Rattle.answers.specs.Answers.{withRow, AnswerIs}
 use Rattle.expressions.specs.Contract.{contextOf, Fine, Typing, Meets, Ready, Told}
 use Rattle.expressions.proofs.LawsMeets.{Untyped, Unrefused, stops, passes, goes-on, child-no, child-ok}
 use Rattle.expressions.proofs.LawsAfter.{ready, typing-of, after-append}
+use Rattle.expressions.proofs.LawsScope.{in-scope}
 use Rattle.expressions.proofs.LawsLabels.{expr-long, expr-closed}
 use Rattle.expressions.proofs.LawsShape.{size-one}
 use Rattle.expressions.proofs.LawsChild.{has-node, child-within, child-type, child-fine, reference-within}
@@ -37,7 +38,7 @@ use Rattle.simple_statements.specs.Contract.{markOf, marked, AnswersStmt, Ready
 use Rattle.simple_statements.proofs.LawsLabels.{on-if, on-if-null, block-within}
 use Rattle.simple_statements.proofs.LawsMarks.{mark-fits}
 use Rattle.statements.specs.Contract.{Blocking, eitherOf, ReadyArms, ToldArms}
-use Rattle.statements.proofs.LawsParts.{mark-is, part-no, after-stack, marked-row}
+use Rattle.statements.proofs.LawsParts.{mark-is, part-no, after-stack, marked-row, seen-on}
 use Rattle.statements.proofs.LawsArms.{either-mark, arms-fine}
 
 -- a type that is a reference
@@ -50,11 +51,11 @@ reference-there F S t e = subst (λ k. t < k) (types-long F S) (ltb-true t (leng
     first false b h = h
 
 -- two blocks that stand in the file, with room for what they bind
-ready-arms : {F : List ℕ} {S : Sections} {X R W K : List ℕ} {base rt s inner n m : ℕ} (b c : Block) → Fine F S X R W K base inner → rt < S .types → base ≤ s → s ≤ inner → m ≡ n
-    → BlockStands (tablesOf F S) n b → BlockStands (tablesOf F S) (n + sizeBlock b) c → inner + sizeBlock b + sizeBlock c ≤ S .«built_ins» + S .nodes
-    → ReadyArms F S X R W K base rt m s inner
-ready-arms {F} {S} {X} {R} {W} {K} {base} {rt} {s} {inner} {n} {m} b c f t l u e h h₂ z =
-    subst (λ i. ReadyArms F S X R W K base rt i s inner) (sym e)
+ready-arms : {F : List ℕ} {S : Sections} {X R W K : List ℕ} {base rt s top n m : ℕ} (b c : Block) → Fine F S X R W K base top → rt < S .types → base ≤ s → s ≤ top → m ≡ n
+    → BlockStands (tablesOf F S) n b → BlockStands (tablesOf F S) (n + sizeBlock b) c → top + sizeBlock b + sizeBlock c ≤ S .«built_ins» + S .nodes
+    → ReadyArms F S X R W K base rt m s top
+ready-arms {F} {S} {X} {R} {W} {K} {base} {rt} {s} {top} {n} {m} b c f t l u e h h₂ z =
+    subst (λ i. ReadyArms F S X R W K base rt i s top) (sym e)
     (record {
       fine = f;
       within = subst (λ k. n < k) (nodes-long F S) (block-within (tablesOf F S) n b h);
@@ -68,39 +69,34 @@ ready-arms {F} {S} {X} {R} {W} {K} {base} {rt} {s} {inner} {n} {m} b c f t l u e
       room = z;
     })
 
--- two blocks see the names before them, and a scope Γ that is that of the height `inner`
-retell-arms : {F : List ℕ} {S : Sections} {X W R₁ W₁ R₂ W₂ K₂ : List ℕ} {base rt s inner m i : ℕ} {r : Judged} {Γ : Scope ℕ} → Same (entryOf (tablesOf F S) s) W W₁ → base ≤ s
-    → scopeOf (tablesOf F S) W₁ base inner ≡ Γ → m ≡ i → ToldArms F S X R₁ W₁ base rt m s inner R₂ W₂ K₂ r
+-- two blocks see the names before them, and their scopes
+retell-arms : {F : List ℕ} {S : Sections} {X W R₁ W₁ R₂ W₂ K₂ : List ℕ} {base rt s top m i : ℕ} {r : Judged} → Same (entryOf (tablesOf F S) s) W W₁ → base ≤ s
+    → m ≡ i → ToldArms F S X R₁ W₁ base rt m s top R₂ W₂ K₂ r
     → (b c : Block) → BlockStands (tablesOf F S) i b → BlockStands (tablesOf F S) (i + sizeBlock b) c
-    → Meets (Blocking F S X base i (sizeBlock b + sizeBlock c) s R₁ W₁ R₂ W₂ K₂ r) r
-    (eitherOf (tablesOf F S) (contextOf (tablesOf F S) W base) rt b c i Γ (scopeOf (tablesOf F S) W base s))
-retell-arms {F} {S} {X} {W} {R₁} {W₁} {R₂} {W₂} {K₂} {base} {rt} {s} {inner} {m} {i} {r} {Γ} a l eΓ e told b c h h₂ =
-    subst (λ Δ. P (contextOf (tablesOf F S) W base) Δ (scopeOf (tablesOf F S) W base s)) eΓ
-    (subst (P (contextOf (tablesOf F S) W base) (scopeOf (tablesOf F S) W₁ base inner)) (scope-same (tablesOf F S) s a base)
-    (subst (λ N. P (record { structs = declared (tablesOf F S); names = N }) (scopeOf (tablesOf F S) W₁ base inner) (scopeOf (tablesOf F S) W₁ base s)) (names-same (tablesOf F S) s a base l)
-    (subst (λ j. ToldArms F S X R₁ W₁ base rt j s inner R₂ W₂ K₂ r) e told .tells b c h h₂)))
-  where
-    P : Context ℕ → Scope ℕ → Scope ℕ → Type 0
-    P C Δ E = Meets (Blocking F S X base i (sizeBlock b + sizeBlock c) s R₁ W₁ R₂ W₂ K₂ r) r (eitherOf (tablesOf F S) C rt b c i Δ E)
+    → (Γ Δ : Scope ℕ) → Holds (tablesOf F S) W₁ base top top Γ → Holds (tablesOf F S) W₁ base s s Δ
+    → Meets (Blocking F S X base i (sizeBlock b + sizeBlock c) s R₁ W₁ R₂ W₂ K₂ r) r (eitherOf (tablesOf F S) (contextOf (tablesOf F S) W base) rt b c i Γ Δ)
+retell-arms {F} {S} {X} {W} {R₁} {W₁} {R₂} {W₂} {K₂} {base} {rt} {s} {top} {m} {i} {r} a l e told b c h h₂ Γ Δ d d₂ =
+    seen-on F S base s a l (λ C. Meets (Blocking F S X base i (sizeBlock b + sizeBlock c) s R₁ W₁ R₂ W₂ K₂ r) r (eitherOf (tablesOf F S) C rt b c i Γ Δ))
+    (subst (λ j. ToldArms F S X R₁ W₁ base rt j s top R₂ W₂ K₂ r) e told .tells b c h h₂ Γ Δ d d₂)
 
 -- a block in the context of the buffers
 abbrev blockIn : List ℕ → Sections → List ℕ → (base rt : ℕ) → Block → ℕ → Scope ℕ → Out ℕ
 blockIn F S W base rt b n Γ = executeBlock (tablesOf F S) (contextOf (tablesOf F S) W base) rt b n Γ
 
 -- the two blocks as a part of the statement: refused, and accepted
-module _ (F : List ℕ) (S : Sections) (W : List ℕ) (base rt s : ℕ) (b c : Block) (i : ℕ) (Γ : Scope ℕ) {X R₁ W₁ R₂ W₂ K₂ : List ℕ} {r₂ : Judged}
+module _ (F : List ℕ) (S : Sections) (W : List ℕ) (base rt s : ℕ) (b c : Block) (i : ℕ) (Γ Δ : Scope ℕ) {X R₁ W₁ R₂ W₂ K₂ : List ℕ} {r₂ : Judged}
     (z : Meets (Blocking F S X base i (sizeBlock b + sizeBlock c) s R₁ W₁ R₂ W₂ K₂ r₂) r₂
-    (eitherOf (tablesOf F S) (contextOf (tablesOf F S) W base) rt b c i Γ (scopeOf (tablesOf F S) W base s))) {B : Type 0} {Q : B → List (Label ℕ) → Type 0} (k : ℕ → List (Label ℕ) → Out B) where
+    (eitherOf (tablesOf F S) (contextOf (tablesOf F S) W base) rt b c i Γ Δ)) {B : Type 0} {Q : B → List (Label ℕ) → Type 0} (k : ℕ → List (Label ℕ) → Out B) where
   either-no : {p q : ℕ} → r₂ .judgement ≡ Refused p q
-      → Meets Q r₂ (andThen (blockIn F S W base rt b i Γ) λ p M. andThen (blockIn F S W base rt c (i + sizeBlock b) (scopeOf (tablesOf F S) W base s)) λ q N. k (both p q) (M ++ N))
+      → Meets Q r₂ (andThen (blockIn F S W base rt b i Γ) λ p M. andThen (blockIn F S W base rt c (i + sizeBlock b) Δ) λ q N. k (both p q) (M ++ N))
   either-no e =
-      subst (Meets Q r₂) (either-then both (blockIn F S W base rt b i Γ) (blockIn F S W base rt c (i + sizeBlock b) (scopeOf (tablesOf F S) W base s)) k) (part-no _ k (λ p L v. (p, v .mark)) e z)
+      subst (Meets Q r₂) (either-then both (blockIn F S W base rt b i Γ) (blockIn F S W base rt c (i + sizeBlock b) Δ) k) (part-no _ k (λ p L v. (p, v .mark)) e z)
 
   either-ok : {r : Judged} {m : ℕ} → Unrefused r₂ → m ≡ markOf (r₂ .judgement)
       → ((p : ℕ) (N : List (Label ℕ)) → m ≡ p → Blocking F S X base i (sizeBlock b + sizeBlock c) s R₁ W₁ R₂ W₂ K₂ r₂ p N → Meets Q r (k p N))
-      → Meets Q r (andThen (blockIn F S W base rt b i Γ) λ p M. andThen (blockIn F S W base rt c (i + sizeBlock b) (scopeOf (tablesOf F S) W base s)) λ q N. k (both p q) (M ++ N))
+      → Meets Q r (andThen (blockIn F S W base rt b i Γ) λ p M. andThen (blockIn F S W base rt c (i + sizeBlock b) Δ) λ q N. k (both p q) (M ++ N))
   either-ok {r} {m} u em f =
-      subst (Meets Q r) (either-then both (blockIn F S W base rt b i Γ) (blockIn F S W base rt c (i + sizeBlock b) (scopeOf (tablesOf F S) W base s)) k)
+      subst (Meets Q r) (either-then both (blockIn F S W base rt b i Γ) (blockIn F S W base rt c (i + sizeBlock b) Δ) k)
       (goes-on _ k u z λ p N q v.
       f p N (em ∙ mark-is (r₂ .judgement) p (either-mark _ _ rt b c i Γ _ p N q) (v .mark)) v)
 
@@ -115,7 +111,7 @@ module _ {F : List ℕ} {S : Sections} {X R W K : List ℕ} {base rt n s : ℕ} 
   module _ {R₁ W₁ K₁ : List ℕ} {r₁ : Judged} (m₁ : Told F S X R W base (n + 1) s R₁ W₁ K₁ r₁) where
     pub if-no : Untyped r₁ → ToldAnywhere F S X R W base rt n s R₁ W₁ K₁ r₁
     unfolding execute
-    if-no u = record { tells = λ last. on-if (AnswersStmt F S X R W base rt last n s R₁ W₁ K₁ r₁) (λ a b c h. child-no _ _ u (m₁ .tells a (h .1))) kind }
+    if-no u = record { tells = λ start last. on-if (AnswersStmt F S X R W base start rt last n s R₁ W₁ K₁ r₁) (λ a b c h Γ d. child-no _ _ u (in-scope d _ _ _ (m₁ .tells a (h .1)))) kind }
 
     module _ {t : ℕ} (y₁ : r₁ .judgement ≡ Typed t) where
       pub if-type : Has F S t (S .types)
@@ -134,27 +130,30 @@ module _ {F : List ℕ} {S : Sections} {X R W K : List ℕ} {base rt n s : ℕ} 
         unfolding execute
         if-sort {r} f e =
             record {
-              tells = λ last. on-if (AnswersStmt F S X R W base rt last n s R₁ W₁ K₁ r)
-                  (λ a b c h. child-ok _ _ t y₁ (m₁ .tells a (h .1)) λ L q p. stops _ 10 n _ (ne-eqb _ _ (λ i. f (e₁ ∙ i))) e) kind;
+              tells = λ start last. on-if (AnswersStmt F S X R W base start rt last n s R₁ W₁ K₁ r)
+                  (λ a b c h Γ d. child-ok _ _ t y₁ (in-scope d _ _ _ (m₁ .tells a (h .1))) λ L q p. stops _ 10 n _ (ne-eqb _ _ (λ i. f (e₁ ∙ i))) e) kind;
             }
 
         module _ (z₁ : k₁ ≡ 1) {R₂ W₂ K₂ : List ℕ} {r₂ : Judged} (m₂ : ToldArms F S X R₁ W₁ base rt (r₁ .at .node) s s R₂ W₂ K₂ r₂) where
           arms-in : {L : List (Label ℕ)} {k : ℕ} → Typing F S X base (n + 1) k s R W R₁ W₁ K₁ r₁ t L → (b c : Block)
               → BlockStands (tablesOf F S) (n + 1 + k) b → BlockStands (tablesOf F S) (n + 1 + k + sizeBlock b) c
+              → {start : ℕ} {Γ : Scope ℕ} → Holds (tablesOf F S) W base start s Γ
               → Meets (Blocking F S X base (n + 1 + k) (sizeBlock b + sizeBlock c) s R₁ W₁ R₂ W₂ K₂ r₂) r₂
-              (eitherOf (tablesOf F S) (contextOf (tablesOf F S) W base) rt b c (n + 1 + k) (scopeOf (tablesOf F S) W base s) (scopeOf (tablesOf F S) W base s))
-          arms-in p b c h h₂ = retell-arms (p .after .same) (asked .0 .fine .above) (scope-same (tablesOf F S) s (p .after .same) base) (p .next) m₂ b c h h₂
+              (eitherOf (tablesOf F S) (contextOf (tablesOf F S) W base) rt b c (n + 1 + k) (inner Γ) (inner Γ))
+          arms-in p b c h h₂ {Γ = Γ} d =
+              let i = holds-inner (holds-same d (p .after .same)) in
+              retell-arms (p .after .same) (asked .0 .fine .above) (p .next) m₂ b c h h₂ (inner Γ) (inner Γ) i i
 
           pub if-no-2 : {p q : ℕ} → r₂ .judgement ≡ Refused p q → ToldAnywhere F S X R W base rt n s R₂ W₂ K₂ r₂
           unfolding execute
           if-no-2 e =
               record {
-                tells = λ last. on-if (AnswersStmt F S X R W base rt last n s R₂ W₂ K₂ r₂)
-                    (λ a b c h.
-                    child-ok _ _ t y₁ (m₁ .tells a (h .1)) λ L q p.
+                tells = λ start last. on-if (AnswersStmt F S X R W base start rt last n s R₂ W₂ K₂ r₂)
+                    (λ a b c h Γ d.
+                    child-ok _ _ t y₁ (in-scope d _ _ _ (m₁ .tells a (h .1))) λ L q p.
                     passes _ 10 n _ (eq-eqb _ _ (sym e₁ ∙ z₁))
-                    (either-no F S W base rt s b c (n + 1 + size a) (scopeOf (tablesOf F S) W base s) (arms-in p b c (h .2) (h .3))
-                    (λ v N. ends v (scopeOf (tablesOf F S) W base s) (scopeOf (tablesOf F S) W base s) (L ++ N)) e)) kind;
+                    (either-no F S W base rt s b c (n + 1 + size a) (inner Γ) (inner Γ) (arms-in p b c (h .2) (h .3) d)
+                    (λ v N. ends v Γ Γ (L ++ N)) e)) kind;
               }
 
           module _ (u₂ : Unrefused r₂) where
@@ -167,14 +166,14 @@ module _ {F : List ℕ} {S : Sections} {X R W K : List ℕ} {base rt n s : ℕ} 
             unfolding execute
             if-ok {m} {R′} {r} em er eR =
                 record {
-                  tells = λ last. on-if (AnswersStmt F S X R W base rt last n s R′ W₂ K₂ r)
-                      (λ a b c h.
-                      child-ok _ _ t y₁ (m₁ .tells a (h .1)) λ L q p.
+                  tells = λ start last. on-if (AnswersStmt F S X R W base start rt last n s R′ W₂ K₂ r)
+                      (λ a b c h Γ d.
+                      child-ok _ _ t y₁ (in-scope d _ _ _ (m₁ .tells a (h .1))) λ L q p.
                       passes _ 10 n _ (eq-eqb _ _ (sym e₁ ∙ z₁))
-                      (either-ok F S W base rt s b c (n + 1 + size a) (scopeOf (tablesOf F S) W base s) (arms-in p b c (h .2) (h .3))
-                      (λ v N. ends v (scopeOf (tablesOf F S) W base s) (scopeOf (tablesOf F S) W base s) (L ++ N)) u₂ em λ v N ev w.
+                      (either-ok F S W base rt s b c (n + 1 + size a) (inner Γ) (inner Γ) (arms-in p b c (h .2) (h .3) d)
+                      (λ v N. ends v Γ Γ (L ++ N)) u₂ em λ v N ev w.
                       marked-row (asked .0 .within) (after-append (expr-long _ _ a (n + 1) _ t L q) (expr-closed _ _ a (n + 1) _ t L q) (p .after) (w .after)) ev
-                      (w .next ∙ omega arith) (omega arith) er eR)) kind;
+                      (w .next ∙ omega arith) (omega arith) er eR d)) kind;
                 }
 
 -- if?
@@ -191,7 +190,7 @@ module _ {F : List ℕ} {S : Sections} {X R W K : List ℕ} {base rt n s : ℕ} 
   module _ {R₁ W₁ K₁ : List ℕ} {r₁ : Judged} (m₁ : Told F S X R W base (n + 1) s R₁ W₁ K₁ r₁) where
     pub null-no : Untyped r₁ → ToldAnywhere F S X R W base rt n s R₁ W₁ K₁ r₁
     unfolding execute
-    null-no u = record { tells = λ last. on-if-null (AnswersStmt F S X R W base rt last n s R₁ W₁ K₁ r₁) (λ x t a b c h. child-no _ _ u (m₁ .tells a (h .2))) kind }
+    null-no u = record { tells = λ start last. on-if-null (AnswersStmt F S X R W base start rt last n s R₁ W₁ K₁ r₁) (λ x t a b c h Γ d. child-no _ _ u (in-scope d _ _ _ (m₁ .tells a (h .2)))) kind }
 
     module _ {u : ℕ} (y₁ : r₁ .judgement ≡ Typed u) where
       pub null-type : Has F S u (S .types)
@@ -238,8 +237,8 @@ module _ {F : List ℕ} {S : Sections} {X R W K : List ℕ} {base rt n s : ℕ} 
         unfolding execute
         null-sort {r} f e =
             record {
-              tells = λ last. on-if-null (AnswersStmt F S X R W base rt last n s R₁ W₁ K₁ r)
-                  (λ x t a b c h. child-ok _ _ u y₁ (m₁ .tells a (h .2)) λ L q p. stops _ 10 n _ (ne-eqb _ _ (λ i. f (e₁ ∙ i))) e) kind;
+              tells = λ start last. on-if-null (AnswersStmt F S X R W base start rt last n s R₁ W₁ K₁ r)
+                  (λ x t a b c h Γ d. child-ok _ _ u y₁ (in-scope d _ _ _ (m₁ .tells a (h .2))) λ L q p. stops _ 10 n _ (ne-eqb _ _ (λ i. f (e₁ ∙ i))) e) kind;
             }
 
         module _ (z₁ : k₁ ≡ 7) {t₁ x₁ : ℕ} (et : t₁ ≡ nodeAt (tablesOf F S) n .t) (ex : x₁ ≡ typeAt (tablesOf F S) u .a) where
@@ -262,43 +261,45 @@ module _ {F : List ℕ} {S : Sections} {X R W K : List ℕ} {base rt n s : ℕ} 
             unfolding execute
             null-below {r} f e =
                 record {
-                  tells = λ last. on-if-null (AnswersStmt F S X R W base rt last n s R₁ W₁ K₁ r)
-                      (λ x t a b c h.
-                      child-ok _ _ u y₁ (m₁ .tells a (h .2)) λ L q p.
+                  tells = λ start last. on-if-null (AnswersStmt F S X R W base start rt last n s R₁ W₁ K₁ r)
+                      (λ x t a b c h Γ d.
+                      child-ok _ _ u y₁ (in-scope d _ _ _ (m₁ .tells a (h .2))) λ L q p.
                       passes _ 10 n _ (eq-eqb _ _ (sym e₁ ∙ z₁))
                       (stops _ 11 n _ (null-is t (h .0 .t-is) ∙ not-true _ f) e)) kind;
                 }
 
             module _ (f₁ : not b₁ ≡ false) {W₂ K₂ : List ℕ} (bound : Bound F S W₁ K₁ s n t₁ W₂ K₂) where
               module _ {R₂ W₃ K₃ : List ℕ} {r₂ : Judged} (m₂ : ToldArms F S X R₁ W₂ base rt (r₁ .at .node) s (s + 1) R₂ W₃ K₃ r₂) where
-                -- the scope with the name
-                named-is : (x t : ℕ) → nodeAt (tablesOf F S) n .x ≡ x → nodeAt (tablesOf F S) n .t ≡ t → Same (entryOf (tablesOf F S) s) W W₁
-                    → scopeOf (tablesOf F S) W₂ base (s + 1) ≡ binds (scopeOf (tablesOf F S) W base s) x t n
-                named-is x t e e₂ a =
-                    scope-bound base bound (asked .0 .fine .above)
-                    ∙ ap (λ Γ. binds Γ (nodeAt (tablesOf F S) n .x) t₁ n) (scope-same (tablesOf F S) s a base)
-                    ∙ ap (λ i. binds (scopeOf (tablesOf F S) W base s) i t₁ n) e
-                    ∙ ap (λ i. binds (scopeOf (tablesOf F S) W base s) x i n) (et ∙ e₂)
+                -- the scope of the first block, with the name
+                named-held : {x t start : ℕ} {Γ : Scope ℕ} → nodeAt (tablesOf F S) n .x ≡ x → nodeAt (tablesOf F S) n .t ≡ t → Same (entryOf (tablesOf F S) s) W W₁
+                    → Holds (tablesOf F S) W base start s Γ → Holds (tablesOf F S) W₂ base (s + 1) (s + 1) (inner (binds (inner Γ) x t n))
+                named-held {x} {t} {start} {Γ} e e₂ a d =
+                    subst (λ i. Holds (tablesOf F S) W₂ base (s + 1) (s + 1) (inner (binds (inner Γ) i t n))) e
+                    (subst (λ i. Holds (tablesOf F S) W₂ base (s + 1) (s + 1) (inner (binds (inner Γ) (nodeAt (tablesOf F S) n .x) i n))) (et ∙ e₂)
+                    (holds-inner (holds-bound (holds-inner (holds-same d a)) (asked .0 .fine .above) bound)))
 
                 bound-in : {L : List (Label ℕ)} {k : ℕ} → Typing F S X base (n + 1) k s R W R₁ W₁ K₁ r₁ u L → (x t : ℕ) → nodeAt (tablesOf F S) n .x ≡ x → nodeAt (tablesOf F S) n .t ≡ t
                     → (b c : Block) → BlockStands (tablesOf F S) (n + 1 + k) b → BlockStands (tablesOf F S) (n + 1 + k + sizeBlock b) c
+                    → {start : ℕ} {Γ : Scope ℕ} → Holds (tablesOf F S) W base start s Γ
                     → Meets (Blocking F S X base (n + 1 + k) (sizeBlock b + sizeBlock c) s R₁ W₂ R₂ W₃ K₃ r₂) r₂
-                    (eitherOf (tablesOf F S) (contextOf (tablesOf F S) W base) rt b c (n + 1 + k) (binds (scopeOf (tablesOf F S) W base s) x t n) (scopeOf (tablesOf F S) W base s))
-                bound-in p x t e e₂ b c h h₂ =
-                    retell-arms (same-more (p .after .same) (bound .same)) (asked .0 .fine .above) (named-is x t e e₂ (p .after .same)) (p .next) m₂ b c h h₂
+                    (eitherOf (tablesOf F S) (contextOf (tablesOf F S) W base) rt b c (n + 1 + k) (inner (binds (inner Γ) x t n)) (inner Γ))
+                bound-in p x t e e₂ b c h h₂ {Γ = Γ} d =
+                    let same = same-more (p .after .same) (bound .same) in
+                    retell-arms same (asked .0 .fine .above) (p .next) m₂ b c h h₂ (inner (binds (inner Γ) x t n)) (inner Γ)
+                    (named-held e e₂ (p .after .same) d) (holds-inner (holds-same d same))
 
                 pub null-no-2 : {p q : ℕ} → r₂ .judgement ≡ Refused p q → ToldAnywhere F S X R W base rt n s R₂ W₃ K₃ r₂
                 unfolding execute
                 null-no-2 e =
                     record {
-                      tells = λ last. on-if-null (AnswersStmt F S X R W base rt last n s R₂ W₃ K₃ r₂)
-                          (λ x t a b c h.
-                          child-ok _ _ u y₁ (m₁ .tells a (h .2)) λ L q p.
+                      tells = λ start last. on-if-null (AnswersStmt F S X R W base start rt last n s R₂ W₃ K₃ r₂)
+                          (λ x t a b c h Γ d.
+                          child-ok _ _ u y₁ (in-scope d _ _ _ (m₁ .tells a (h .2))) λ L q p.
                           passes _ 10 n _ (eq-eqb _ _ (sym e₁ ∙ z₁))
                           (passes _ 11 n _ (null-is t (h .0 .t-is) ∙ not-false _ f₁)
-                          (either-no F S W base rt s b c (n + 1 + size a) (binds (scopeOf (tablesOf F S) W base s) x t n)
-                          (bound-in p x t (h .0 .x-is) (h .0 .t-is) b c (h .3) (h .4))
-                          (λ v N. ends v (scopeOf (tablesOf F S) W base s) (scopeOf (tablesOf F S) W base s) (L ++ N)) e))) kind;
+                          (either-no F S W base rt s b c (n + 1 + size a) (inner (binds (inner Γ) x t n)) (inner Γ)
+                          (bound-in p x t (h .0 .x-is) (h .0 .t-is) b c (h .3) (h .4) d)
+                          (λ v N. ends v Γ Γ (L ++ N)) e))) kind;
                     }
 
                 module _ (u₂ : Unrefused r₂) where
@@ -311,15 +312,15 @@ module _ {F : List ℕ} {S : Sections} {X R W K : List ℕ} {base rt n s : ℕ} 
                   unfolding execute
                   null-ok {m} {R′} {r} em er eR =
                       record {
-                        tells = λ last. on-if-null (AnswersStmt F S X R W base rt last n s R′ W₃ K₃ r)
-                            (λ x t a b c h.
-                            child-ok _ _ u y₁ (m₁ .tells a (h .2)) λ L q p.
+                        tells = λ start last. on-if-null (AnswersStmt F S X R W base start rt last n s R′ W₃ K₃ r)
+                            (λ x t a b c h Γ d.
+                            child-ok _ _ u y₁ (in-scope d _ _ _ (m₁ .tells a (h .2))) λ L q p.
                             passes _ 10 n _ (eq-eqb _ _ (sym e₁ ∙ z₁))
                             (passes _ 11 n _ (null-is t (h .0 .t-is) ∙ not-false _ f₁)
-                            (either-ok F S W base rt s b c (n + 1 + size a) (binds (scopeOf (tablesOf F S) W base s) x t n)
-                            (bound-in p x t (h .0 .x-is) (h .0 .t-is) b c (h .3) (h .4))
-                            (λ v N. ends v (scopeOf (tablesOf F S) W base s) (scopeOf (tablesOf F S) W base s) (L ++ N)) u₂ em λ v N ev w.
+                            (either-ok F S W base rt s b c (n + 1 + size a) (inner (binds (inner Γ) x t n)) (inner Γ)
+                            (bound-in p x t (h .0 .x-is) (h .0 .t-is) b c (h .3) (h .4) d)
+                            (λ v N. ends v Γ Γ (L ++ N)) u₂ em λ v N ev w.
                             marked-row (asked .0 .within)
                             (after-append (expr-long _ _ a (n + 1) _ u L q) (expr-closed _ _ a (n + 1) _ u L q) (p .after) (after-stack (bound .same) (w .after))) ev
-                            (w .next ∙ omega arith) (omega arith) er eR))) kind;
+                            (w .next ∙ omega arith) (omega arith) er eR d))) kind;
                       }

@@ -19,8 +19,8 @@ use Rattle.typing_rules.specs.Check.{nextResult}
 use Rattle.file_sections.specs.declared.Sections.{Sections}
 use Rattle.file_sections.specs.Layout.{tablesOf}
 use Rattle.type_index.specs.Index.{declared}
-use Rattle.bindings.specs.Bindings.{entryOf, scopeOf, Scoped}
-use Rattle.bindings.proofs.LawsBindings.{scope-same, names-same}
+use Rattle.bindings.specs.Bindings.{entryOf, Scoped, Holds}
+use Rattle.bindings.proofs.LawsBindings.{names-same, holds-same}
 use Rattle.answers.specs.declared.answer.Judgement.{Judgement}
 use Rattle.answers.specs.declared.answer.Judgement.the-variants.{GoesOn, Returns, Refused}
 use Rattle.answers.specs.declared.answer.Judged.{Judged}
@@ -85,33 +85,30 @@ module _ {F : List ℕ} {S : Sections} {X : List ℕ} {base : ℕ} where
   after-stack c a = record { rows = a .rows; kept = a .kept; same = same-more c (a .same); fine = a .fine }
 
 -- an accepted statement that binds nothing, with the mark m, which is p: its own row over those of its parts
-pub marked-row : {F : List ℕ} {S : Sections} {X R W R₂ W₂ K₂ R′ : List ℕ} {base n k x e s m p : ℕ} {r : Judged} {M : List (Label ℕ)} → n < S .nodes
+pub marked-row : {F : List ℕ} {S : Sections} {X R W R₂ W₂ K₂ R′ : List ℕ} {base start n k x e s m p : ℕ} {r : Judged} {M : List (Label ℕ)} {Γ : Scope ℕ} → n < S .nodes
     → After F S X base M (n + 1) k s s R W R₂ W₂ K₂ → m ≡ p → e ≡ n + 1 + k → x ≡ 1 + k
-    → AnswerIs (marked m) e s r → R′ ≡ withRow R₂ n m 65535
-    → Meets (Marking F S X base n x s R W R′ W₂ K₂ r) r (ends p (scopeOf (tablesOf F S) W base s) (scopeOf (tablesOf F S) W base s) M)
-marked-row {R₂ = R₂} {n = n} {e = e} {s = s} w a em en ex er eR =
-    accepts _ _ (rule-left w a (judged-as (ap marked em) er) en ex (eR ∙ ap (λ i. withRow R₂ n i 65535) em))
+    → AnswerIs (marked m) e s r → R′ ≡ withRow R₂ n m 65535 → Holds (tablesOf F S) W base start s Γ
+    → Meets (Marking F S X base start n x s R W R′ W₂ K₂ r) r (ends p Γ Γ M)
+marked-row {R₂ = R₂} {n = n} {e = e} {s = s} w a em en ex er eR d =
+    accepts _ _ (rule-left w a (judged-as (ap marked em) er) en ex (eR ∙ ap (λ i. withRow R₂ n i 65535) em) d)
 
--- a later part sees the names below s, and a scope Δ of its own height
-pub seen-on : (F : List ℕ) (S : Sections) (base s h : ℕ) {W W₁ : List ℕ} {Δ : Scope ℕ} → Same (entryOf (tablesOf F S) s) W W₁ → base ≤ s
-    → scopeOf (tablesOf F S) W₁ base h ≡ Δ → (P : Context ℕ → Scope ℕ → Type 0)
-    → P (contextOf (tablesOf F S) W₁ base) (scopeOf (tablesOf F S) W₁ base h) → P (contextOf (tablesOf F S) W base) Δ
-seen-on F S base s h {W} {W₁} {Δ} a l e P x =
-    subst (P (contextOf (tablesOf F S) W base)) e
-    (subst (λ N. P (record { structs = declared (tablesOf F S); names = N }) (scopeOf (tablesOf F S) W₁ base h)) (names-same (tablesOf F S) s a base l) x)
+-- a later part sees the names below s
+pub seen-on : (F : List ℕ) (S : Sections) (base s : ℕ) {W W₁ : List ℕ} → Same (entryOf (tablesOf F S) s) W W₁ → base ≤ s → (P : Context ℕ → Type 0)
+    → P (contextOf (tablesOf F S) W₁ base) → P (contextOf (tablesOf F S) W base)
+seen-on F S base s a l P x = subst (λ N. P (record { structs = declared (tablesOf F S); names = N })) (names-same (tablesOf F S) s a base l) x
 
--- a block sees the scope and the names of the part before it
-pub retell-block : {F : List ℕ} {S : Sections} {X W R₁ W₁ R₂ W₂ K₂ : List ℕ} {base rt s m i : ℕ} {r : Judged} → Same (entryOf (tablesOf F S) s) W W₁ → base ≤ s → m ≡ i
-    → ToldBlock F S X R₁ W₁ base rt m s R₂ W₂ K₂ r → (b : Block) → BlockStands (tablesOf F S) i b
-    → Meets (Blocking F S X base i (sizeBlock b) s R₁ W₁ R₂ W₂ K₂ r) r (executeBlock (tablesOf F S) (contextOf (tablesOf F S) W base) rt b i (scopeOf (tablesOf F S) W base s))
-retell-block {F} {S} {X} {W} {R₁} {W₁} {R₂} {W₂} {K₂} {base} {rt} {s} {m} {i} {r} a l e told b h =
-    seen-on F S base s s a l (scope-same (tablesOf F S) s a base) (λ C Γ. Meets (Blocking F S X base i (sizeBlock b) s R₁ W₁ R₂ W₂ K₂ r) r (executeBlock (tablesOf F S) C rt b i Γ))
-    (subst (λ j. ToldBlock F S X R₁ W₁ base rt j s R₂ W₂ K₂ r) e told .tells b h)
+-- a block sees the names of the part before it, and its scope
+pub retell-block : {F : List ℕ} {S : Sections} {X W R₁ W₁ R₂ W₂ K₂ : List ℕ} {base start rt s m i : ℕ} {r : Judged} → Same (entryOf (tablesOf F S) s) W W₁ → base ≤ s → m ≡ i
+    → ToldBlock F S X R₁ W₁ base start rt m s R₂ W₂ K₂ r → (b : Block) → BlockStands (tablesOf F S) i b → (Γ : Scope ℕ) → Holds (tablesOf F S) W base start s Γ
+    → Meets (Blocking F S X base i (sizeBlock b) s R₁ W₁ R₂ W₂ K₂ r) r (executeBlock (tablesOf F S) (contextOf (tablesOf F S) W base) rt b i Γ)
+retell-block {F} {S} {X} {W} {R₁} {W₁} {R₂} {W₂} {K₂} {base} {start} {rt} {s} {m} {i} {r} a l e told b h Γ d =
+    seen-on F S base s a l (λ C. Meets (Blocking F S X base i (sizeBlock b) s R₁ W₁ R₂ W₂ K₂ r) r (executeBlock (tablesOf F S) C rt b i Γ))
+    (subst (λ j. ToldBlock F S X R₁ W₁ base start rt j s R₂ W₂ K₂ r) e told .tells b h Γ (holds-same d a))
 
 -- a statement sees the names before those of the block, and the scope after the statements before it
-pub retell-stmt : {F : List ℕ} {S : Sections} {X W R₁ W₁ R₂ W₂ K₂ : List ℕ} {base rt : ℕ} {last : Bool} {s h n : ℕ} {r : Judged} → Same (entryOf (tablesOf F S) s) W W₁ → base ≤ s
-    → ToldStmt F S X R₁ W₁ base rt last n h R₂ W₂ K₂ r → (z : Stmt) → StmtStands (tablesOf F S) n z
-    → Meets (Marking F S X base n (sizeStmt z) h R₁ W₁ R₂ W₂ K₂ r) r
-    (execute (tablesOf F S) (contextOf (tablesOf F S) W base) rt last z n (scopeOf (tablesOf F S) W₁ base h))
-retell-stmt {F} {S} {X} {W} {R₁} {W₁} {R₂} {W₂} {K₂} {base} {rt} {last} {s} {h} {n} {r} a l told z st =
-    seen-on F S base s h a l refl (λ C Γ. Meets (Marking F S X base n (sizeStmt z) h R₁ W₁ R₂ W₂ K₂ r) r (execute (tablesOf F S) C rt last z n Γ)) (told .tells z st)
+pub retell-stmt : {F : List ℕ} {S : Sections} {X W R₁ W₁ R₂ W₂ K₂ : List ℕ} {base start rt : ℕ} {last : Bool} {s h n : ℕ} {r : Judged} → Same (entryOf (tablesOf F S) s) W W₁
+    → base ≤ s → ToldStmt F S X R₁ W₁ base start rt last n h R₂ W₂ K₂ r → (z : Stmt) → StmtStands (tablesOf F S) n z
+    → (Γ : Scope ℕ) → Holds (tablesOf F S) W₁ base start h Γ
+    → Meets (Marking F S X base start n (sizeStmt z) h R₁ W₁ R₂ W₂ K₂ r) r (execute (tablesOf F S) (contextOf (tablesOf F S) W base) rt last z n Γ)
+retell-stmt {F} {S} {X} {W} {R₁} {W₁} {R₂} {W₂} {K₂} {base} {start} {rt} {last} {s} {h} {n} {r} a l told z st Γ d =
+    seen-on F S base s a l (λ C. Meets (Marking F S X base start n (sizeStmt z) h R₁ W₁ R₂ W₂ K₂ r) r (execute (tablesOf F S) C rt last z n Γ)) (told .tells z st Γ d)

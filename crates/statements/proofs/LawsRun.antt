@@ -18,7 +18,8 @@ use Rattle.typing_rules.proofs.LawsOutcome.{afterRun, run-none, run-more}
 use Rattle.file_sections.specs.declared.Sections.{Sections}
 use Rattle.file_sections.specs.Layout.{tablesOf}
 use Rattle.file_sections.proofs.LawsRecords.{nodes-long}
-use Rattle.bindings.specs.Bindings.{scopeOf, Scoped}
+use Rattle.bindings.specs.Bindings.{Scoped, Holds}
+use Rattle.bindings.proofs.LawsBindings.{holds-some}
 use Rattle.answers.specs.declared.answer.Judgement.the-variants.{Refused}
 use Rattle.answers.specs.declared.answer.Judged.{Judged}
 use Rattle.answers.specs.Answers.{AnswerIs}
@@ -32,12 +33,12 @@ use Rattle.simple_statements.proofs.LawsMarks.{after-both}
 use Rattle.statements.specs.Contract.{Running, ReadyStmts, ToldStmts}
 use Rattle.statements.proofs.LawsParts.{marked-no, mark-is, retell-stmt}
 
--- the definition in the context of the buffers before the block, and the scope of the height h of those now
-abbrev pub allIn : List ℕ → Sections → (W W₁ : List ℕ) → (base rt h : ℕ) → Stmts → (n previous p : ℕ) → Out ℕ
-allIn F S W W₁ base rt h ss n previous p = executeAll (tablesOf F S) (contextOf (tablesOf F S) W base) rt ss n previous p (scopeOf (tablesOf F S) W₁ base h)
+-- the definition in the context of the buffers before the block
+abbrev pub allIn : List ℕ → Sections → List ℕ → (base rt : ℕ) → Stmts → (n previous p : ℕ) → Scope ℕ → Out ℕ
+allIn F S W base rt ss n previous p Γ = executeAll (tablesOf F S) (contextOf (tablesOf F S) W base) rt ss n previous p Γ
 
-abbrev stmtIn : List ℕ → Sections → (W W₁ : List ℕ) → (base rt h : ℕ) → Bool → Stmt → ℕ → Out Done
-stmtIn F S W W₁ base rt h last z n = execute (tablesOf F S) (contextOf (tablesOf F S) W base) rt last z n (scopeOf (tablesOf F S) W₁ base h)
+abbrev stmtIn : List ℕ → Sections → List ℕ → (base rt : ℕ) → Bool → Stmt → ℕ → Scope ℕ → Out Done
+stmtIn F S W base rt last z n Γ = execute (tablesOf F S) (contextOf (tablesOf F S) W base) rt last z n Γ
 
 -- no statement follows the one after the first i of `left` where i + 1 is `left`
 is-last : (i left : ℕ) (z : Stmt) (zs : Stmts) → countStmts (then z zs) + i ≡ left → eqb (i + 1) left ≡ isEmpty zs
@@ -75,8 +76,8 @@ refusal-of : {P : Done → List (Label ℕ) → Type 0} {r : Judged} {a b : ℕ}
 refusal-of {a = a} {b = b} o (accepts d L v) e f = absurd (marked-no (d .mark) a b (sym (f d L v) ∙ e))
 refusal-of o (refuses p q j) e f = (p, q, refl, j)
 
--- the first i statements of ss, which stand at n, are accepted, the last of them at `previous` with the mark; the others stand at `at`
-pub record RunPart (F : List ℕ) (S : Sections) (X : List ℕ) (base rt n s : ℕ) (R W : List ℕ) (left parent at height previous mark i : ℕ) (R₁ W₁ K₁ : List ℕ) (ss : Stmts) : Type 0 where
+-- the first i statements of ss, which stand at n in the scope Γ, are accepted, the last of them at `previous` with the mark; the others stand at `at`
+pub record RunPart (F : List ℕ) (S : Sections) (X : List ℕ) (base start rt n s : ℕ) (R W : List ℕ) (left parent at height previous mark i : ℕ) (R₁ W₁ K₁ : List ℕ) (ss : Stmts) (Γ : Scope ℕ) : Type 0 where
   pub labels : List (Label ℕ)
   pub rest : Stmts
   pub stand : StmtsStand (tablesOf F S) at rest
@@ -88,26 +89,28 @@ pub record RunPart (F : List ℕ) (S : Sections) (X : List ℕ) (base rt n s : �
   pub high : height ≤ s + length labels
   pub small : mark ≤ 1
   pub after : After F S X base labels n (length labels) s height R W R₁ W₁ K₁
-  pub ran : allIn F S W W base rt s ss n parent 0 ≡ afterRun labels (allIn F S W W₁ base rt height rest at previous mark)
+  pub scope : Scope ℕ
+  pub held : Holds (tablesOf F S) W₁ base start height scope
+  pub ran : allIn F S W base rt ss n parent 0 Γ ≡ afterRun labels (allIn F S W base rt rest at previous mark scope)
 
-pub record WalkedStmts (F : List ℕ) (S : Sections) (X : List ℕ) (base rt n s : ℕ) (R W : List ℕ) (left parent at height previous mark i : ℕ) (R₁ W₁ K₁ : List ℕ) : Type 0 where
-  pub part : (ss : Stmts) → StmtsStand (tablesOf F S) n ss → countStmts ss ≡ left → RunPart F S X base rt n s R W left parent at height previous mark i R₁ W₁ K₁ ss
+pub record WalkedStmts (F : List ℕ) (S : Sections) (X : List ℕ) (base start rt n s : ℕ) (R W : List ℕ) (left parent at height previous mark i : ℕ) (R₁ W₁ K₁ : List ℕ) : Type 0 where
+  pub part : (ss : Stmts) → StmtsStand (tablesOf F S) n ss → countStmts ss ≡ left → (Γ : Scope ℕ) → Holds (tablesOf F S) W base start s Γ
+      → RunPart F S X base start rt n s R W left parent at height previous mark i R₁ W₁ K₁ ss Γ
 
-module _ {F : List ℕ} {S : Sections} {X R W : List ℕ} {base rt n s left parent at height previous mark i : ℕ} {R₁ W₁ K₁ : List ℕ} {ss : Stmts}
-    (p : RunPart F S X base rt n s R W left parent at height previous mark i R₁ W₁ K₁ ss) where
+module _ {F : List ℕ} {S : Sections} {X R W : List ℕ} {base start rt n s left parent at height previous mark i : ℕ} {R₁ W₁ K₁ : List ℕ} {ss : Stmts} {Γ : Scope ℕ}
+    (p : RunPart F S X base start rt n s R W left parent at height previous mark i R₁ W₁ K₁ ss Γ) where
   -- one more statement
   part-more : {R₂ W₂ K₂ : List ℕ} {r : Judged} {m : ℕ} → mark ≡ 0 → (z : Stmt) (zs : Stmts) → StmtsStand (tablesOf F S) at (then z zs) → countStmts (then z zs) + i ≡ left
       → sizeStmts ss ≡ length (p .labels) + sizeStmts (then z zs)
-      → allIn F S W W base rt s ss n parent 0 ≡ afterRun (p .labels) (allIn F S W W₁ base rt height (then z zs) at previous mark)
-      → (d : Done) (M : List (Label ℕ)) → stmtIn F S W W₁ base rt height (isEmpty zs) z at ≡ ok d M
-      → Marking F S X base at (sizeStmt z) height R₁ W₁ R₂ W₂ K₂ r d M → m ≡ markOf (r .judgement)
-      → RunPart F S X base rt n s R W left parent (r .at .node) (r .at .scope) at m (i + 1) R₂ W₂ K₂ ss
+      → allIn F S W base rt ss n parent 0 Γ ≡ afterRun (p .labels) (allIn F S W base rt (then z zs) at previous mark (p .scope))
+      → (d : Done) (M : List (Label ℕ)) → stmtIn F S W base rt (isEmpty zs) z at (p .scope) ≡ ok d M
+      → Marking F S X base start at (sizeStmt z) height R₁ W₁ R₂ W₂ K₂ r d M → m ≡ markOf (r .judgement)
+      → RunPart F S X base start rt n s R W left parent (r .at .node) (r .at .scope) at m (i + 1) R₂ W₂ K₂ ss Γ
   part-more {R₂} {W₂} {K₂} {r} {m} e0 z zs h c sz j d M q v em =
       let T : Tables = tablesOf F S in
       let C : Context ℕ = contextOf (tablesOf F S) W base in
-      let Γ : Scope ℕ = scopeOf (tablesOf F S) W₁ base height in
-      let long : length M ≡ sizeStmt z = stmt-long T C rt (isEmpty zs) z at Γ d M q in
-      let most : d .mark ≤ 1 = stmt-mark T C rt (isEmpty zs) z at Γ d M q in
+      let long : length M ≡ sizeStmt z = stmt-long T C rt (isEmpty zs) z at (p .scope) d M q in
+      let most : d .mark ≤ 1 = stmt-mark T C rt (isEmpty zs) z at (p .scope) d M q in
       let is : m ≡ d .mark = em ∙ mark-is (r .judgement) (d .mark) most (v .mark) in
       let both : length (p .labels ++ M) ≡ length (p .labels) + sizeStmt z = length-append (p .labels) M ∙ ap (λ k. length (p .labels) + k) long in
       record {
@@ -116,7 +119,7 @@ module _ {F : List ℕ} {S : Sections} {X R W : List ℕ} {base rt n s left pare
         stand = subst (λ k. StmtsStand T k zs) (sym (v .next)) (h .1);
         counted = omega arith;
         reached = omega (arith, v .next, p .reached, both);
-        closed = closed-append (p .closed) (stmt-closed T C rt (isEmpty zs) z at Γ d M q);
+        closed = closed-append (p .closed) (stmt-closed T C rt (isEmpty zs) z at (p .scope) d M q);
         sized = omega (arith, sz, both);
         low = omega (arith, p .low, v .low);
         high = omega (arith, p .high, v .high, both);
@@ -124,19 +127,20 @@ module _ {F : List ℕ} {S : Sections} {X R W : List ℕ} {base rt n s left pare
         after = subst (λ k. After F S X base (p .labels ++ M) n k s (r .at .scope) R W R₂ W₂ K₂) (sym both)
             (after-both refl (p .closed) (p .low) (p .after)
             (subst (λ k. After F S X base M k (sizeStmt z) height (r .at .scope) R₁ W₁ R₂ W₂ K₂) (p .reached) (v .after)));
-        ran = j ∙ ap (afterRun (p .labels)) (all-ok T C rt z zs at previous mark Γ d M e0 q)
+        scope = d .scope;
+        held = v .scope;
+        ran = j ∙ ap (afterRun (p .labels)) (all-ok T C rt z zs at previous mark (p .scope) d M e0 q)
             ∙ run-more (p .labels) M (executeAll T C rt zs (at + sizeStmt z) at (d .mark) (d .scope))
             ∙ ap (λ k. afterRun (p .labels ++ M) (executeAll T C rt zs k at (d .mark) (d .scope))) (sym (v .next))
-            ∙ ap (λ k. afterRun (p .labels ++ M) (executeAll T C rt zs (r .at .node) at k (d .scope))) (sym is)
-            ∙ ap (λ Δ. afterRun (p .labels ++ M) (executeAll T C rt zs (r .at .node) at m Δ)) (sym (v .scope));
+            ∙ ap (λ k. afterRun (p .labels ++ M) (executeAll T C rt zs (r .at .node) at k (d .scope))) (sym is);
       }
 
   module _ (finished : left ≤ i) where
     -- no statement is left
-    all-ran : allIn F S W W base rt s ss n parent 0 ≡ ok mark (p .labels)
+    all-ran : allIn F S W base rt ss n parent 0 Γ ≡ ok mark (p .labels)
     unfolding executeAll
     all-ran = p .ran ∙
-        on-none (λ zs. afterRun (p .labels) (allIn F S W W₁ base rt height zs at previous mark) ≡ ok mark (p .labels))
+        on-none (λ zs. afterRun (p .labels) (allIn F S W base rt zs at previous mark (p .scope)) ≡ ok mark (p .labels))
         (cc (append-nil (p .labels))) (p .rest) (omega (arith, p .counted))
 
     all-sized : sizeStmts ss ≡ length (p .labels)
@@ -154,11 +158,16 @@ module _ {F : List ℕ} {S : Sections} {X R W : List ℕ} {base rt n s left pare
               (subst (λ k. After F S X base (p .labels) n k s height R W R₁ W₁ K₁) (sym all-sized) (p .after));
         }
 
-module _ {F : List ℕ} {S : Sections} {X R W K : List ℕ} {base rt n s left parent : ℕ} (g : ReadyStmts F S X R W K base rt n s left) where
-  pub run-start : WalkedStmts F S X base rt n s R W left parent n s parent 0 0 R W K
+-- some scope is held before the statements
+some-scope : {F : List ℕ} {S : Sections} {X R W K : List ℕ} {base start rt n s left : ℕ} → ReadyStmts F S X R W K base start rt n s left
+    → (Γ : Scope ℕ) × Holds (tablesOf F S) W base start s Γ
+some-scope {F} {S} {W = W} {base = base} {start = start} {s = s} g = holds-some (tablesOf F S) W base start s (g .begins .0) (g .begins .1)
+
+module _ {F : List ℕ} {S : Sections} {X R W K : List ℕ} {base start rt n s left parent : ℕ} (g : ReadyStmts F S X R W K base start rt n s left) where
+  pub run-start : WalkedStmts F S X base start rt n s R W left parent n s parent 0 0 R W K
   run-start =
       record {
-        part = λ ss h c. record {
+        part = λ ss h c Γ d. record {
           labels = [];
           rest = ss;
           stand = h;
@@ -170,13 +179,15 @@ module _ {F : List ℕ} {S : Sections} {X R W K : List ℕ} {base rt n s left pa
           high = omega arith;
           small = omega arith;
           after = after-none n (g .fine);
+          scope = Γ;
+          held = d;
           ran = run-none _;
         };
       }
 
-  module _ {at height previous mark i : ℕ} {R₁ W₁ K₁ : List ℕ} (w : WalkedStmts F S X base rt n s R W left parent at height previous mark i R₁ W₁ K₁) where
-    so-far : RunPart F S X base rt n s R W left parent at height previous mark i R₁ W₁ K₁ (g .trees)
-    so-far = w .part (g .trees) (g .stand) (g .counted)
+  module _ {at height previous mark i : ℕ} {R₁ W₁ K₁ : List ℕ} (w : WalkedStmts F S X base start rt n s R W left parent at height previous mark i R₁ W₁ K₁) where
+    so-far : RunPart F S X base start rt n s R W left parent at height previous mark i R₁ W₁ K₁ (g .trees) (some-scope g .0)
+    so-far = w .part (g .trees) (g .stand) (g .counted) (some-scope g .0) (some-scope g .1)
 
     -- for the measure
     pub run-forward : n ≤ at
@@ -186,17 +197,17 @@ module _ {F : List ℕ} {S : Sections} {X R W K : List ℕ} {base rt n s left pa
     run-low = so-far .low
 
     module _ (more : i < left) where
-      pub run-stops : {r : Judged} → (mark ≡ 0 → ⊥) → r .judgement ≡ Refused 14 previous → ToldStmts F S X R W base rt n s left parent R₁ W₁ K₁ r
-      run-stops {r} f e = record { tells = λ ss h c. go ss (w .part ss h c) }
+      pub run-stops : {r : Judged} → (mark ≡ 0 → ⊥) → r .judgement ≡ Refused 14 previous → ToldStmts F S X R W base start rt n s left parent R₁ W₁ K₁ r
+      run-stops {r} f e = record { tells = λ ss h c Γ d. go ss Γ (w .part ss h c Γ d) }
         where
-          go : (ss : Stmts) → RunPart F S X base rt n s R W left parent at height previous mark i R₁ W₁ K₁ ss
-              → Meets (Running F S X base n (sizeStmts ss) s R W R₁ W₁ K₁ r) r (allIn F S W W base rt s ss n parent 0)
-          go ss p =
+          go : (ss : Stmts) (Γ : Scope ℕ) → RunPart F S X base start rt n s R W left parent at height previous mark i R₁ W₁ K₁ ss Γ
+              → Meets (Running F S X base n (sizeStmts ss) s R W R₁ W₁ K₁ r) r (allIn F S W base rt ss n parent 0 Γ)
+          go ss Γ p =
               subst (Meets (Running F S X base n (sizeStmts ss) s R W R₁ W₁ K₁ r) r)
               (sym (p .ran
               ∙ ap (afterRun (p .labels))
-              (on-some (λ zs. allIn F S W W₁ base rt height zs at previous mark ≡ no 14 previous)
-              (λ z zs. all-stops (tablesOf F S) (contextOf (tablesOf F S) W base) rt z zs at previous mark (scopeOf (tablesOf F S) W₁ base height) f)
+              (on-some (λ zs. allIn F S W base rt zs at previous mark (p .scope) ≡ no 14 previous)
+              (λ z zs. all-stops (tablesOf F S) (contextOf (tablesOf F S) W base) rt z zs at previous mark (p .scope) f)
               (p .rest) (omega (arith, p .counted, more)))))
               (refuses 14 previous e)
 
@@ -215,61 +226,61 @@ module _ {F : List ℕ} {S : Sections} {X R W K : List ℕ} {base rt n s left pa
       pub run-asked : ReadyStmt F S X R₁ W₁ K₁ base at height × (rt < S .types)
       run-asked = (run-ready, g .returned)
 
-      module _ (goes : mark ≡ 0) {R₂ W₂ K₂ : List ℕ} {r₁ : Judged} (m₁ : ToldStmt F S X R₁ W₁ base rt (eqb (i + 1) left) at height R₂ W₂ K₂ r₁) where
+      module _ (goes : mark ≡ 0) {R₂ W₂ K₂ : List ℕ} {r₁ : Judged} (m₁ : ToldStmt F S X R₁ W₁ base start rt (eqb (i + 1) left) at height R₂ W₂ K₂ r₁) where
         -- the answer to the first of them
-        told-first : (z : Stmt) (zs : Stmts) → countStmts (then z zs) + i ≡ left → ToldStmt F S X R₁ W₁ base rt (isEmpty zs) at height R₂ W₂ K₂ r₁
-        told-first z zs c = subst (λ b. ToldStmt F S X R₁ W₁ base rt b at height R₂ W₂ K₂ r₁) (is-last i left z zs c) m₁
+        told-first : (z : Stmt) (zs : Stmts) → countStmts (then z zs) + i ≡ left → ToldStmt F S X R₁ W₁ base start rt (isEmpty zs) at height R₂ W₂ K₂ r₁
+        told-first z zs c = subst (λ b. ToldStmt F S X R₁ W₁ base start rt b at height R₂ W₂ K₂ r₁) (is-last i left z zs c) m₁
 
-        pub run-no : {p q : ℕ} → r₁ .judgement ≡ Refused p q → ToldStmts F S X R W base rt n s left parent R₂ W₂ K₂ r₁
-        run-no e = record { tells = λ ss h c. go ss (w .part ss h c) }
+        pub run-no : {p q : ℕ} → r₁ .judgement ≡ Refused p q → ToldStmts F S X R W base start rt n s left parent R₂ W₂ K₂ r₁
+        run-no e = record { tells = λ ss h c Γ d. go ss Γ (w .part ss h c Γ d) }
           where
-            refusing : (ss : Stmts) (L : List (Label ℕ)) (z : Stmt) (zs : Stmts) (a b : ℕ) → stmtIn F S W W₁ base rt height (isEmpty zs) z at ≡ no a b → r₁ .judgement ≡ Refused a b
-                → Meets (Running F S X base n (sizeStmts ss) s R W R₂ W₂ K₂ r₁) r₁ (afterRun L (allIn F S W W₁ base rt height (then z zs) at previous mark))
-            refusing ss L z zs a b q j =
+            refusing : (ss : Stmts) (L : List (Label ℕ)) (z : Stmt) (zs : Stmts) (Δ : Scope ℕ) (a b : ℕ) → stmtIn F S W base rt (isEmpty zs) z at Δ ≡ no a b → r₁ .judgement ≡ Refused a b
+                → Meets (Running F S X base n (sizeStmts ss) s R W R₂ W₂ K₂ r₁) r₁ (afterRun L (allIn F S W base rt (then z zs) at previous mark Δ))
+            refusing ss L z zs Δ a b q j =
                 subst (λ o. Meets (Running F S X base n (sizeStmts ss) s R W R₂ W₂ K₂ r₁) r₁ (afterRun L o))
-                (sym (all-no (tablesOf F S) (contextOf (tablesOf F S) W base) rt z zs at previous mark (scopeOf (tablesOf F S) W₁ base height) a b goes q)) (refuses a b j)
+                (sym (all-no (tablesOf F S) (contextOf (tablesOf F S) W base) rt z zs at previous mark Δ a b goes q)) (refuses a b j)
 
-            go : (ss : Stmts) → RunPart F S X base rt n s R W left parent at height previous mark i R₁ W₁ K₁ ss
-                → Meets (Running F S X base n (sizeStmts ss) s R W R₂ W₂ K₂ r₁) r₁ (allIn F S W W base rt s ss n parent 0)
-            go ss p =
+            go : (ss : Stmts) (Γ : Scope ℕ) → RunPart F S X base start rt n s R W left parent at height previous mark i R₁ W₁ K₁ ss Γ
+                → Meets (Running F S X base n (sizeStmts ss) s R W R₂ W₂ K₂ r₁) r₁ (allIn F S W base rt ss n parent 0 Γ)
+            go ss Γ p =
                 subst (Meets (Running F S X base n (sizeStmts ss) s R W R₂ W₂ K₂ r₁) r₁) (sym (p .ran))
                 (on-some (λ zs. StmtsStand (tablesOf F S) at zs → countStmts zs + i ≡ left
-                → Meets (Running F S X base n (sizeStmts ss) s R W R₂ W₂ K₂ r₁) r₁ (afterRun (p .labels) (allIn F S W W₁ base rt height zs at previous mark)))
+                → Meets (Running F S X base n (sizeStmts ss) s R W R₂ W₂ K₂ r₁) r₁ (afterRun (p .labels) (allIn F S W base rt zs at previous mark (p .scope))))
                 (λ z zs h c.
-                let (a, b, q, j) = refusal-of _ (retell-stmt (p .after .same) (g .fine .above) (told-first z zs c) z (h .0)) e (λ d L v. v .mark) in
-                refusing ss (p .labels) z zs a b q j)
+                let (a, b, q, j) = refusal-of _ (retell-stmt (p .after .same) (g .fine .above) (told-first z zs c) z (h .0) (p .scope) (p .held)) e (λ d L v. v .mark) in
+                refusing ss (p .labels) z zs (p .scope) a b q j)
                 (p .rest) (omega (arith, p .counted, more)) (p .stand) (p .counted))
 
         pub run-again : {m : ℕ} → Unrefused r₁ → m ≡ markOf (r₁ .judgement)
-            → WalkedStmts F S X base rt n s R W left parent (r₁ .at .node) (r₁ .at .scope) at m (i + 1) R₂ W₂ K₂
-        run-again {m} u em = record { part = λ ss h c. go ss (w .part ss h c) }
+            → WalkedStmts F S X base start rt n s R W left parent (r₁ .at .node) (r₁ .at .scope) at m (i + 1) R₂ W₂ K₂
+        run-again {m} u em = record { part = λ ss h c Γ d. go ss Γ (w .part ss h c Γ d) }
           where
-            go : (ss : Stmts) → RunPart F S X base rt n s R W left parent at height previous mark i R₁ W₁ K₁ ss
-                → RunPart F S X base rt n s R W left parent (r₁ .at .node) (r₁ .at .scope) at m (i + 1) R₂ W₂ K₂ ss
-            go ss p =
+            go : (ss : Stmts) (Γ : Scope ℕ) → RunPart F S X base start rt n s R W left parent at height previous mark i R₁ W₁ K₁ ss Γ
+                → RunPart F S X base start rt n s R W left parent (r₁ .at .node) (r₁ .at .scope) at m (i + 1) R₂ W₂ K₂ ss Γ
+            go ss Γ p =
                 on-some
                 (λ zs. StmtsStand (tablesOf F S) at zs → countStmts zs + i ≡ left → sizeStmts ss ≡ length (p .labels) + sizeStmts zs
-                → allIn F S W W base rt s ss n parent 0 ≡ afterRun (p .labels) (allIn F S W W₁ base rt height zs at previous mark)
-                → RunPart F S X base rt n s R W left parent (r₁ .at .node) (r₁ .at .scope) at m (i + 1) R₂ W₂ K₂ ss)
+                → allIn F S W base rt ss n parent 0 Γ ≡ afterRun (p .labels) (allIn F S W base rt zs at previous mark (p .scope))
+                → RunPart F S X base start rt n s R W left parent (r₁ .at .node) (r₁ .at .scope) at m (i + 1) R₂ W₂ K₂ ss Γ)
                 (λ z zs h c sz j.
-                let (d, M, q, v) = part-of _ (retell-stmt (p .after .same) (g .fine .above) (told-first z zs c) z (h .0)) u in
+                let (d, M, q, v) = part-of _ (retell-stmt (p .after .same) (g .fine .above) (told-first z zs c) z (h .0) (p .scope) (p .held)) u in
                 part-more p goes z zs h c sz j d M q v em)
                 (p .rest) (omega (arith, p .counted, more)) (p .stand) (p .counted) (p .sized) (p .ran)
 
     module _ (finished : left ≤ i) {r : Judged} where
-      pub run-done : AnswerIs (marked mark) at height r → ToldStmts F S X R W base rt n s left parent R₁ W₁ K₁ r
+      pub run-done : AnswerIs (marked mark) at height r → ToldStmts F S X R W base start rt n s left parent R₁ W₁ K₁ r
       run-done e =
           record {
-            tells = λ ss h c.
-                let p = w .part ss h c in
+            tells = λ ss h c Γ d.
+                let p = w .part ss h c Γ d in
                 subst (Meets (Running F S X base n (sizeStmts ss) s R W R₁ W₁ K₁ r) r) (sym (all-ran p finished)) (accepts mark (p .labels) (part-running p finished e));
           }
 
   -- what accepted statements say
-  module _ {R₁ W₁ K₁ : List ℕ} {r : Judged} (told : ToldStmts F S X R W base rt n s left parent R₁ W₁ K₁ r) (u : Unrefused r) where
-    all-run : (p : ℕ) × (L : List (Label ℕ)) × (allIn F S W W base rt s (g .trees) n parent 0 ≡ ok p L)
+  module _ {R₁ W₁ K₁ : List ℕ} {r : Judged} (told : ToldStmts F S X R W base start rt n s left parent R₁ W₁ K₁ r) (u : Unrefused r) where
+    all-run : (p : ℕ) × (L : List (Label ℕ)) × (allIn F S W base rt (g .trees) n parent 0 (some-scope g .0) ≡ ok p L)
         × Running F S X base n (sizeStmts (g .trees)) s R W R₁ W₁ K₁ r p L
-    all-run = part-of _ (told .tells (g .trees) (g .stand) (g .counted)) u
+    all-run = part-of _ (told .tells (g .trees) (g .stand) (g .counted) (some-scope g .0) (some-scope g .1)) u
 
     pub run-fine : Fine F S X R₁ W₁ K₁ base (r .at .scope)
     run-fine = all-run .3 .after .fine

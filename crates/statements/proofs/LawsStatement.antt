@@ -11,7 +11,7 @@ use Rattle.file_sections.specs.declared.Sections.{Sections}
 use Rattle.file_sections.specs.Layout.{Has, tablesOf}
 use Rattle.answers.specs.declared.answer.Judged.{Judged}
 use Rattle.expressions.proofs.LawsChild.{has-node}
-use Rattle.simple_statements.specs.Contract.{ReadyStmt, ToldStmt, ToldAnywhere, ToldAny}
+use Rattle.simple_statements.specs.Contract.{ReadyStmt, ToldStmt, ToldVar, ToldWhile, ToldAnywhere, ToldAny}
 use Rattle.simple_statements.proofs.LawsLabels.{stmt-kind}
 
 -- a number that is not the lowest is above it
@@ -50,10 +50,16 @@ module _ {F : List ℕ} {S : Sections} {X R W K : List ℕ} {base n s : ℕ} (g 
         → (k ≡ 34 → ⊥) → (k ≡ 35 → ⊥) → (k ≡ 36 → ⊥) → (k ≡ 37 → ⊥) → nodeAt (tablesOf F S) n .kind ≡ 38
     while-kind f30 f31 f32 f33 f34 f35 f36 f37 = stmt-kind-at (last-kind k stmt-kind-low stmt-kind-high f30 f31 f32 f33 f34 f35 f36 f37)
 
--- a statement whose answer holds wherever it stands, and whatever the return type is
-module _ {F : List ℕ} {S : Sections} {X R W R₁ W₁ K₁ : List ℕ} {base rt n s : ℕ} {last : Bool} {r : Judged} where
-  pub told-anywhere : ToldAnywhere F S X R W base rt n s R₁ W₁ K₁ r → ToldStmt F S X R W base rt last n s R₁ W₁ K₁ r
-  told-anywhere t = record { tells = t .tells last }
+-- a statement whose answer holds for more than its block, its place or its return type
+module _ {F : List ℕ} {S : Sections} {X R W R₁ W₁ K₁ : List ℕ} {base start rt n s : ℕ} {last : Bool} {r : Judged} where
+  pub var-told : ToldVar F S X R W base start n s R₁ W₁ K₁ r → ToldStmt F S X R W base start rt last n s R₁ W₁ K₁ r
+  var-told t = record { tells = t .tells rt last }
 
-  pub any-told : ToldAny F S X R W base n s R₁ W₁ K₁ r → ToldStmt F S X R W base rt last n s R₁ W₁ K₁ r
+  pub while-told : ToldWhile F S X R W base rt last n s R₁ W₁ K₁ r → ToldStmt F S X R W base start rt last n s R₁ W₁ K₁ r
+  while-told t = record { tells = t .tells start }
+
+  pub told-anywhere : ToldAnywhere F S X R W base rt n s R₁ W₁ K₁ r → ToldStmt F S X R W base start rt last n s R₁ W₁ K₁ r
+  told-anywhere t = record { tells = t .tells start last }
+
+  pub any-told : ToldAny F S X R W base n s R₁ W₁ K₁ r → ToldStmt F S X R W base start rt last n s R₁ W₁ K₁ r
   any-told t = told-anywhere (t .tells rt)

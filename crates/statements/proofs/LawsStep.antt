@@ -9,12 +9,14 @@ use borrow.Author.Tests.{eq-eqb, ne-eqb}
 use Rattle.oat.specs.Tables.{Tables, nodeAt}
 use Rattle.oat.specs.Syntax.{Stmt, Step, noStep, step, sizeStep}
 use Rattle.oat.specs.Nodes.{Node, StmtStands, StepStands}
+use Rattle.typing_rules.specs.Contexts.{Scope}
 use Rattle.typing_rules.specs.Labels.{unlabelled}
 use Rattle.typing_rules.specs.Judge.{executeStep}
 use Rattle.file_sections.specs.declared.Sections.{Sections}
 use Rattle.file_sections.specs.Layout.{Has, tablesOf}
 use Rattle.file_sections.proofs.LawsFrames.{same-refl}
-use Rattle.bindings.specs.Bindings.{scopeOf, Scoped}
+use Rattle.bindings.specs.Bindings.{Scoped, Holds}
+use Rattle.bindings.proofs.LawsBindings.{holds-some}
 use Rattle.answers.specs.declared.answer.Judgement.the-variants.{GoesOn, Refused}
 use Rattle.answers.specs.declared.answer.Judged.{Judged}
 use Rattle.answers.specs.Answers.{withRow, AnswerIs}
@@ -55,12 +57,12 @@ after-plain {R = R} {W = W} {n = n} h f =
     }
 
 -- the answer to a step that stands at n, as the definition has it
-abbrev AnswersStep : List ℕ → Sections → (X R W : List ℕ) → (base rt n s : ℕ) → (R′ W′ K′ : List ℕ) → Judged → Step → Type 0
-AnswersStep F S X R W base rt n s R′ W′ K′ r z =
-    Meets (Blocking F S X base n (sizeStep z) s R W R′ W′ K′ r) r
-    (executeStep (tablesOf F S) (contextOf (tablesOf F S) W base) rt z n (scopeOf (tablesOf F S) W base s))
+abbrev AnswersStep : List ℕ → Sections → (X R W : List ℕ) → (base start rt n s : ℕ) → (R′ W′ K′ : List ℕ) → Judged → Step → Type 0
+AnswersStep F S X R W base start rt n s R′ W′ K′ r z =
+    (Γ : Scope ℕ) → Holds (tablesOf F S) W base start s Γ
+    → Meets (Blocking F S X base n (sizeStep z) s R W R′ W′ K′ r) r (executeStep (tablesOf F S) (contextOf (tablesOf F S) W base) rt z n Γ)
 
-module _ {F : List ℕ} {S : Sections} {X R W K : List ℕ} {base rt n s : ℕ} (g : ReadyStep F S X R W K base rt n s) where
+module _ {F : List ℕ} {S : Sections} {X R W K : List ℕ} {base start rt n s : ℕ} (g : ReadyStep F S X R W K base start rt n s) where
   pub step-node : Has F S n (S .nodes)
   step-node = has-node (g .fine .good-tables) (g .within)
 
@@ -70,12 +72,12 @@ module _ {F : List ℕ} {S : Sections} {X R W K : List ℕ} {base rt n s : ℕ} 
   module _ {k : ℕ} (ek : k ≡ nodeAt (tablesOf F S) n .kind) where
     -- 40
     pub step-absent : {r : Judged} {R′ : List ℕ} → k ≡ 40 → AnswerIs (marked 0) (n + 1) s r → R′ ≡ withRow R n 0 65535
-        → ToldStep F S X R W base rt n s R′ W K r
+        → ToldStep F S X R W base start rt n s R′ W K r
     unfolding executeStep
     step-absent {r} {R′} e er eR =
         record {
-          tells = on-no-step (AnswersStep F S X R W base rt n s R′ W K r)
-              (λ h. accepts _ _
+          tells = on-no-step (AnswersStep F S X R W base start rt n s R′ W K r)
+              (λ h Γ d. accepts _ _
               (record {
                 mark = er .judged;
                 next = er .next;
@@ -96,41 +98,44 @@ module _ {F : List ℕ} {S : Sections} {X R W K : List ℕ} {base rt n s : ℕ} 
         g .returned,
       )
 
-      module _ {R₁ W₁ K₁ : List ℕ} {r₁ : Judged} (m₁ : ToldStmt F S X R W base rt false n s R₁ W₁ K₁ r₁) where
-        pub step-no : {p q : ℕ} → r₁ .judgement ≡ Refused p q → ToldStep F S X R W base rt n s R₁ W₁ K₁ r₁
+      module _ {R₁ W₁ K₁ : List ℕ} {r₁ : Judged} (m₁ : ToldStmt F S X R W base start rt false n s R₁ W₁ K₁ r₁) where
+        pub step-no : {p q : ℕ} → r₁ .judgement ≡ Refused p q → ToldStep F S X R W base start rt n s R₁ W₁ K₁ r₁
         unfolding executeStep
         step-no e =
             record {
-              tells = on-step (AnswersStep F S X R W base rt n s R₁ W₁ K₁ r₁)
-                  (λ y h. part-no _ _ (λ d L p. (d .mark, p .mark)) e (m₁ .tells y h)) not-absent;
+              tells = on-step (AnswersStep F S X R W base start rt n s R₁ W₁ K₁ r₁)
+                  (λ y h Γ d. part-no _ _ (λ v L p. (v .mark, p .mark)) e (m₁ .tells y h Γ d)) not-absent;
             }
 
         module _ (u : Unrefused r₁) where
           pub step-returns : {r : Judged} {m : ℕ} → m ≡ markOf (r₁ .judgement) → (m ≡ 0 → ⊥) → r .judgement ≡ Refused 14 n
-              → ToldStep F S X R W base rt n s R₁ W₁ K₁ r
+              → ToldStep F S X R W base start rt n s R₁ W₁ K₁ r
           unfolding executeStep
           step-returns {r} em z e =
               record {
-                tells = on-step (AnswersStep F S X R W base rt n s R₁ W₁ K₁ r)
-                    (λ y h.
-                    goes-on _ _ u (m₁ .tells y h) λ d L q p.
-                    stops _ 14 n _ (ne-eqb _ _ (λ i. z (em ∙ mark-is _ _ (stmt-mark _ _ rt false y n _ d L q) (p .mark) ∙ i))) e) not-absent;
+                tells = on-step (AnswersStep F S X R W base start rt n s R₁ W₁ K₁ r)
+                    (λ y h Γ d.
+                    goes-on _ _ u (m₁ .tells y h Γ d) λ v L q p.
+                    stops _ 14 n _ (ne-eqb _ _ (λ i. z (em ∙ mark-is _ _ (stmt-mark _ _ rt false y n _ v L q) (p .mark) ∙ i))) e) not-absent;
               }
 
           pub step-leaves : Scoped F S W₁ K₁ (r₁ .at .scope) × (s ≤ r₁ .at .scope)
           step-leaves =
               on-step (λ z. Scoped F S W₁ K₁ (r₁ .at .scope) × (s ≤ r₁ .at .scope))
-              (λ y h. let (d, L, q, p) = part-of _ (m₁ .tells y h) u in (p .after .fine .scoped, p .low)) not-absent (g .tree) (g .stands)
+              (λ y h.
+              let (Γ, d) = holds-some (tablesOf F S) W base start s (g .begins .0) (g .begins .1) in
+              let (v, L, q, p) = part-of _ (m₁ .tells y h Γ d) u in
+              (p .after .fine .scoped, p .low)) not-absent (g .tree) (g .stands)
 
           pub step-ok : {r : Judged} {K₂ : List ℕ} {m : ℕ} → m ≡ markOf (r₁ .judgement) → m ≡ 0 → Scoped F S W₁ K₂ s
-              → AnswerIs GoesOn (r₁ .at .node) s r → ToldStep F S X R W base rt n s R₁ W₁ K₂ r
+              → AnswerIs GoesOn (r₁ .at .node) s r → ToldStep F S X R W base start rt n s R₁ W₁ K₂ r
           unfolding executeStep
           step-ok {r} {K₂} em z c er =
               record {
-                tells = on-step (AnswersStep F S X R W base rt n s R₁ W₁ K₂ r)
-                    (λ y h.
-                    goes-on _ _ u (m₁ .tells y h) λ d L q p.
-                    passes _ 14 n _ (eq-eqb _ _ (sym (mark-is _ _ (stmt-mark _ _ rt false y n _ d L q) (p .mark)) ∙ sym em ∙ z))
+                tells = on-step (AnswersStep F S X R W base start rt n s R₁ W₁ K₂ r)
+                    (λ y h Γ d.
+                    goes-on _ _ u (m₁ .tells y h Γ d) λ v L q p.
+                    passes _ 14 n _ (eq-eqb _ _ (sym (mark-is _ _ (stmt-mark _ _ rt false y n _ v L q) (p .mark)) ∙ sym em ∙ z))
                     (accepts _ _
                     (record {
                       mark = er .judged;

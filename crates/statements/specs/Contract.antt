@@ -6,13 +6,13 @@ use Prim.Native.Nat.{ℕ, _+_, _≤_, _<_}
 use Rattle.oat.specs.Tables.{Tables}
 use Rattle.oat.specs.Syntax.{Step, Block, Stmts, sizeStep, sizeBlock, sizeStmts, countStmts}
 use Rattle.oat.specs.Nodes.{StepStands, BlockStands, StmtsStand}
-use Rattle.typing_rules.specs.Contexts.{Scope, Context}
+use Rattle.typing_rules.specs.Contexts.{Scope, inner, Context}
 use Rattle.typing_rules.specs.Labels.{Label}
 use Rattle.typing_rules.specs.Rules.{both}
 use Rattle.typing_rules.specs.Judge.{Out, ok, andThen, executeStep, executeBlock, executeAll}
 use Rattle.file_sections.specs.declared.Sections.{Sections}
 use Rattle.file_sections.specs.Layout.{tablesOf}
-use Rattle.bindings.specs.Bindings.{scopeOf}
+use Rattle.bindings.specs.Bindings.{Holds}
 use Rattle.answers.specs.declared.answer.Judged.{Judged}
 use Rattle.expressions.specs.Contract.{contextOf, Fine, After, Meets}
 use Rattle.simple_statements.specs.Contract.{marked}
@@ -31,23 +31,25 @@ pub record Running (F : List ℕ) (S : Sections) (X : List ℕ) (base n k s : �
   pub low : s ≤ r .at .scope
   pub after : After F S X base L n k s (r .at .scope) R W R′ W′ K′
 
--- a block stands at n, and there is room for what it binds
-pub record ReadyBlock (F : List ℕ) (S : Sections) (X R W K : List ℕ) (base rt n s : ℕ) : Type 0 where
+-- a block stands at n, and there is room for what it binds; its bindings stand from `start` on
+pub record ReadyBlock (F : List ℕ) (S : Sections) (X R W K : List ℕ) (base start rt n s : ℕ) : Type 0 where
   pub fine : Fine F S X R W K base s
+  pub begins : (base ≤ start) × (start ≤ s)
   pub within : n < S .nodes
   pub returned : rt < S .types
   pub tree : Block
   pub stands : BlockStands (tablesOf F S) n tree
   pub room : s + sizeBlock tree ≤ S .«built_ins» + S .nodes
 
-pub record ToldBlock (F : List ℕ) (S : Sections) (X R W : List ℕ) (base rt n s : ℕ) (R′ W′ K′ : List ℕ) (r : Judged) : Type 0 where
-  pub tells : (b : Block) → BlockStands (tablesOf F S) n b
-      → Meets (Blocking F S X base n (sizeBlock b) s R W R′ W′ K′ r) r
-      (executeBlock (tablesOf F S) (contextOf (tablesOf F S) W base) rt b n (scopeOf (tablesOf F S) W base s))
+-- it is answered as the definition has it, in every scope that the stack holds
+pub record ToldBlock (F : List ℕ) (S : Sections) (X R W : List ℕ) (base start rt n s : ℕ) (R′ W′ K′ : List ℕ) (r : Judged) : Type 0 where
+  pub tells : (b : Block) → BlockStands (tablesOf F S) n b → (Γ : Scope ℕ) → Holds (tablesOf F S) W base start s Γ
+      → Meets (Blocking F S X base n (sizeBlock b) s R W R′ W′ K′ r) r (executeBlock (tablesOf F S) (contextOf (tablesOf F S) W base) rt b n Γ)
 
 -- `left` statements of the block at `parent` stand at n
-pub record ReadyStmts (F : List ℕ) (S : Sections) (X R W K : List ℕ) (base rt n s left : ℕ) : Type 0 where
+pub record ReadyStmts (F : List ℕ) (S : Sections) (X R W K : List ℕ) (base start rt n s left : ℕ) : Type 0 where
   pub fine : Fine F S X R W K base s
+  pub begins : (base ≤ start) × (start ≤ s)
   pub within : n ≤ S .nodes
   pub returned : rt < S .types
   pub trees : Stmts
@@ -55,59 +57,59 @@ pub record ReadyStmts (F : List ℕ) (S : Sections) (X R W K : List ℕ) (base r
   pub counted : countStmts trees ≡ left
   pub room : s + sizeStmts trees ≤ S .«built_ins» + S .nodes
 
-pub record ToldStmts (F : List ℕ) (S : Sections) (X R W : List ℕ) (base rt n s left parent : ℕ) (R′ W′ K′ : List ℕ) (r : Judged) : Type 0 where
-  pub tells : (ss : Stmts) → StmtsStand (tablesOf F S) n ss → countStmts ss ≡ left
-      → Meets (Running F S X base n (sizeStmts ss) s R W R′ W′ K′ r) r
-      (executeAll (tablesOf F S) (contextOf (tablesOf F S) W base) rt ss n parent 0 (scopeOf (tablesOf F S) W base s))
+pub record ToldStmts (F : List ℕ) (S : Sections) (X R W : List ℕ) (base start rt n s left parent : ℕ) (R′ W′ K′ : List ℕ) (r : Judged) : Type 0 where
+  pub tells : (ss : Stmts) → StmtsStand (tablesOf F S) n ss → countStmts ss ≡ left → (Γ : Scope ℕ) → Holds (tablesOf F S) W base start s Γ
+      → Meets (Running F S X base n (sizeStmts ss) s R W R′ W′ K′ r) r (executeAll (tablesOf F S) (contextOf (tablesOf F S) W base) rt ss n parent 0 Γ)
 
--- two blocks, the first in the scope Γ
+-- two blocks, the first in the scope Γ, the second in Δ
 abbrev pub eitherOf : Tables → Context ℕ → ℕ → (b c : Block) → ℕ → (Γ Δ : Scope ℕ) → Out ℕ
 eitherOf T C rt b c n Γ Δ =
     andThen (executeBlock T C rt b n Γ) λ p L.
     andThen (executeBlock T C rt c (n + sizeBlock b) Δ) λ q M.
     ok (both p q) (L ++ M)
 
--- two blocks stand at n, the first in a scope of the height `inner`, the second in one of the height s
-pub record ReadyArms (F : List ℕ) (S : Sections) (X R W K : List ℕ) (base rt n s inner : ℕ) : Type 0 where
-  pub fine : Fine F S X R W K base inner
+-- two inner blocks stand at n, the first in a scope of the height `top`, the second in one of the height s
+pub record ReadyArms (F : List ℕ) (S : Sections) (X R W K : List ℕ) (base rt n s top : ℕ) : Type 0 where
+  pub fine : Fine F S X R W K base top
   pub within : n < S .nodes
   pub returned : rt < S .types
   pub lower : base ≤ s
-  pub higher : s ≤ inner
+  pub higher : s ≤ top
   pub first : Block
   pub second : Block
   pub stands : BlockStands (tablesOf F S) n first
   pub stands-too : BlockStands (tablesOf F S) (n + sizeBlock first) second
-  pub room : inner + sizeBlock first + sizeBlock second ≤ S .«built_ins» + S .nodes
+  pub room : top + sizeBlock first + sizeBlock second ≤ S .«built_ins» + S .nodes
 
-pub record ToldArms (F : List ℕ) (S : Sections) (X R W : List ℕ) (base rt n s inner : ℕ) (R′ W′ K′ : List ℕ) (r : Judged) : Type 0 where
+pub record ToldArms (F : List ℕ) (S : Sections) (X R W : List ℕ) (base rt n s top : ℕ) (R′ W′ K′ : List ℕ) (r : Judged) : Type 0 where
   pub tells : (b c : Block) → BlockStands (tablesOf F S) n b → BlockStands (tablesOf F S) (n + sizeBlock b) c
-      → Meets (Blocking F S X base n (sizeBlock b + sizeBlock c) s R W R′ W′ K′ r) r
-      (eitherOf (tablesOf F S) (contextOf (tablesOf F S) W base) rt b c n (scopeOf (tablesOf F S) W base inner) (scopeOf (tablesOf F S) W base s))
+      → (Γ Δ : Scope ℕ) → Holds (tablesOf F S) W base top top Γ → Holds (tablesOf F S) W base s s Δ
+      → Meets (Blocking F S X base n (sizeBlock b + sizeBlock c) s R W R′ W′ K′ r) r (eitherOf (tablesOf F S) (contextOf (tablesOf F S) W base) rt b c n Γ Δ)
 
--- the step of a for, or 40, stands at n
-pub record ReadyStep (F : List ℕ) (S : Sections) (X R W K : List ℕ) (base rt n s : ℕ) : Type 0 where
+-- the step of a for, or 40, stands at n, in the block of its vars, whose bindings stand from `start` on
+pub record ReadyStep (F : List ℕ) (S : Sections) (X R W K : List ℕ) (base start rt n s : ℕ) : Type 0 where
   pub fine : Fine F S X R W K base s
+  pub begins : (base ≤ start) × (start ≤ s)
   pub within : n < S .nodes
   pub returned : rt < S .types
   pub tree : Step
   pub stands : StepStands (tablesOf F S) n tree
   pub room : s + sizeStep tree ≤ S .«built_ins» + S .nodes
 
-pub record ToldStep (F : List ℕ) (S : Sections) (X R W : List ℕ) (base rt n s : ℕ) (R′ W′ K′ : List ℕ) (r : Judged) : Type 0 where
-  pub tells : (z : Step) → StepStands (tablesOf F S) n z
-      → Meets (Blocking F S X base n (sizeStep z) s R W R′ W′ K′ r) r
-      (executeStep (tablesOf F S) (contextOf (tablesOf F S) W base) rt z n (scopeOf (tablesOf F S) W base s))
+pub record ToldStep (F : List ℕ) (S : Sections) (X R W : List ℕ) (base start rt n s : ℕ) (R′ W′ K′ : List ℕ) (r : Judged) : Type 0 where
+  pub tells : (z : Step) → StepStands (tablesOf F S) n z → (Γ : Scope ℕ) → Holds (tablesOf F S) W base start s Γ
+      → Meets (Blocking F S X base n (sizeStep z) s R W R′ W′ K′ r) r (executeStep (tablesOf F S) (contextOf (tablesOf F S) W base) rt z n Γ)
 
--- a step, and the block after it
+-- a step, and the block after it, an inner one
 abbrev pub turnOf : Tables → Context ℕ → ℕ → Step → Block → ℕ → Scope ℕ → Out ℕ
 turnOf T C rt z b n Γ =
     andThen (executeStep T C rt z n Γ) λ p L.
-    andThen (executeBlock T C rt b (n + sizeStep z) Γ) λ q M.
+    andThen (executeBlock T C rt b (n + sizeStep z) (inner Γ)) λ q M.
     ok q (L ++ M)
 
-pub record ReadyTurn (F : List ℕ) (S : Sections) (X R W K : List ℕ) (base rt n s : ℕ) : Type 0 where
+pub record ReadyTurn (F : List ℕ) (S : Sections) (X R W K : List ℕ) (base start rt n s : ℕ) : Type 0 where
   pub fine : Fine F S X R W K base s
+  pub begins : (base ≤ start) × (start ≤ s)
   pub within : n < S .nodes
   pub returned : rt < S .types
   pub tree : Step
@@ -116,7 +118,7 @@ pub record ReadyTurn (F : List ℕ) (S : Sections) (X R W K : List ℕ) (base rt
   pub stands-too : BlockStands (tablesOf F S) (n + sizeStep tree) body
   pub room : s + sizeStep tree + sizeBlock body ≤ S .«built_ins» + S .nodes
 
-pub record ToldTurn (F : List ℕ) (S : Sections) (X R W : List ℕ) (base rt n s : ℕ) (R′ W′ K′ : List ℕ) (r : Judged) : Type 0 where
+pub record ToldTurn (F : List ℕ) (S : Sections) (X R W : List ℕ) (base start rt n s : ℕ) (R′ W′ K′ : List ℕ) (r : Judged) : Type 0 where
   pub tells : (z : Step) (b : Block) → StepStands (tablesOf F S) n z → BlockStands (tablesOf F S) (n + sizeStep z) b
-      → Meets (Blocking F S X base n (sizeStep z + sizeBlock b) s R W R′ W′ K′ r) r
-      (turnOf (tablesOf F S) (contextOf (tablesOf F S) W base) rt z b n (scopeOf (tablesOf F S) W base s))
+      → (Γ : Scope ℕ) → Holds (tablesOf F S) W base start s Γ
+      → Meets (Blocking F S X base n (sizeStep z + sizeBlock b) s R W R′ W′ K′ r) r (turnOf (tablesOf F S) (contextOf (tablesOf F S) W base) rt z b n Γ)

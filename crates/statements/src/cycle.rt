@@ -31,10 +31,10 @@ ghost use mathlib.Core.Path.{_≡_};
 ghost use Prim.Native.Nat.{_<_};
 ghost use Rattle.oat.specs.Tables.{nodeAt};
 ghost use Rattle.file_sections.specs.Layout.{tablesOf};
-ghost use Rattle.simple_statements.specs.Contract.{ReadyStmt, ToldStmt, ToldAnywhere};
+ghost use Rattle.simple_statements.specs.Contract.{ReadyStmt, ToldStmt, ToldWhile, ToldAnywhere};
 ghost use Rattle.statements.specs.Contract.{ReadyBlock, ToldBlock, ReadyStmts, ToldStmts, ReadyArms, ToldArms, ReadyStep, ToldStep, ReadyTurn, ToldTurn};
 
-// The statement at `node`; `last` says whether it is the last of its block.
+// The statement at `node`; `last` says whether it is the last of its block, whose bindings stand from the position `start` on.
 fn statement(
     file: &[u8],
     frame: Frame,
@@ -44,13 +44,14 @@ fn statement(
     chains: &mut Chains,
     at: At,
     last: bool,
+    start: usize,
 ) -> Judged
     requires { ⌜ ReadyStmt (now file) (frame .sections) (now index) (now rows) (now work) (now chains) (frame .base) (at .node) (at .scope) × ((frame .result) < (frame .sections) .types) ⌝ }
-    ensures { λ r. ⌜ ToldStmt (now (file .entry)) (frame .sections) (now (index .entry)) (now (rows .entry)) (now (work .entry)) (frame .base) (frame .result) last (at .node) (at .scope) (now (rows .exit)) (now (work .exit)) (now (chains .exit)) r ⌝ }
+    ensures { λ r. ⌜ ToldStmt (now (file .entry)) (frame .sections) (now (index .entry)) (now (rows .entry)) (now (work .entry)) (frame .base) start (frame .result) last (at .node) (at .scope) (now (rows .exit)) (now (work .exit)) (now (chains .exit)) r ⌝ }
 {
     match node_kind(file, frame.sections, at.node) {
         30 => assignment(file, frame, index, rows, work, chains, at),
-        31 => variable(file, frame, index, rows, work, chains, at),
+        31 => variable(file, frame, index, rows, work, chains, at, start),
         32 => return_value(file, frame, index, rows, work, chains, at),
         33 => return_void(file, frame, index, rows, work, chains, at),
         34 => call_statement(file, frame, index, rows, work, chains, at),
@@ -61,7 +62,8 @@ fn statement(
     }
 }
 
-// `count` statements from `node` on, in the block at `parent`: all but the last go on. The mark is the last one's.
+// `count` statements from `node` on, in the block at `parent` whose bindings stand from the position `start` on: all but the last go
+// on. The mark is the last one's.
 fn statements(
     file: &[u8],
     frame: Frame,
@@ -72,9 +74,10 @@ fn statements(
     at: At,
     count: usize,
     parent: usize,
+    start: usize,
 ) -> Judged
-    requires { ⌜ ReadyStmts (now file) (frame .sections) (now index) (now rows) (now work) (now chains) (frame .base) (frame .result) (at .node) (at .scope) count ⌝ }
-    ensures { λ r. ⌜ ToldStmts (now (file .entry)) (frame .sections) (now (index .entry)) (now (rows .entry)) (now (work .entry)) (frame .base) (frame .result) (at .node) (at .scope) count parent (now (rows .exit)) (now (work .exit)) (now (chains .exit)) r ⌝ }
+    requires { ⌜ ReadyStmts (now file) (frame .sections) (now index) (now rows) (now work) (now chains) (frame .base) start (frame .result) (at .node) (at .scope) count ⌝ }
+    ensures { λ r. ⌜ ToldStmts (now (file .entry)) (frame .sections) (now (index .entry)) (now (rows .entry)) (now (work .entry)) (frame .base) start (frame .result) (at .node) (at .scope) count parent (now (rows .exit)) (now (work .exit)) (now (chains .exit)) r ⌝ }
 {
     let mut here = at;
     let mut previous = parent;
@@ -85,7 +88,7 @@ fn statements(
             return refused(14, previous, here);
         }
         let last = i + 1 == count;
-        let one = statement(file, frame, index, rows, work, chains, here, last);
+        let one = statement(file, frame, index, rows, work, chains, here, last, start);
         let judgement = one.judgement;
         if let Judgement::Refused(_, _) = judgement {
             return one;
@@ -98,7 +101,7 @@ fn statements(
     with_mark(mark, here)
 }
 
-// The block at `node`: what it binds is gone after it.
+// The block at `node`, whose bindings stand from the position `start` on: those that it makes are gone after it.
 pub fn block(
     file: &[u8],
     frame: Frame,
@@ -107,9 +110,10 @@ pub fn block(
     work: &mut [u16],
     chains: &mut Chains,
     at: At,
+    start: usize,
 ) -> Judged
-    requires { ⌜ ReadyBlock (now file) (frame .sections) (now index) (now rows) (now work) (now chains) (frame .base) (frame .result) (at .node) (at .scope) ⌝ }
-    ensures { λ r. ⌜ ToldBlock (now (file .entry)) (frame .sections) (now (index .entry)) (now (rows .entry)) (now (work .entry)) (frame .base) (frame .result) (at .node) (at .scope) (now (rows .exit)) (now (work .exit)) (now (chains .exit)) r ⌝ }
+    requires { ⌜ ReadyBlock (now file) (frame .sections) (now index) (now rows) (now work) (now chains) (frame .base) start (frame .result) (at .node) (at .scope) ⌝ }
+    ensures { λ r. ⌜ ToldBlock (now (file .entry)) (frame .sections) (now (index .entry)) (now (rows .entry)) (now (work .entry)) (frame .base) start (frame .result) (at .node) (at .scope) (now (rows .exit)) (now (work .exit)) (now (chains .exit)) r ⌝ }
 {
     let all = statements(
         file,
@@ -124,6 +128,7 @@ pub fn block(
         },
         node_children(file, frame.sections, at.node),
         at.node,
+        start,
     );
     let judgement = all.judgement;
     if let Judgement::Refused(_, _) = judgement {
@@ -141,7 +146,7 @@ pub fn block(
     )
 }
 
-// Two blocks, the first at `node` in the scope `inner`, which is left after it. The mark is 1 where both return.
+// Two inner blocks, the first at `node` in the scope `top`, which is left after it. The mark is 1 where both return.
 fn arms(
     file: &[u8],
     frame: Frame,
@@ -150,10 +155,10 @@ fn arms(
     work: &mut [u16],
     chains: &mut Chains,
     at: At,
-    inner: usize,
+    top: usize,
 ) -> Judged
-    requires { ⌜ ReadyArms (now file) (frame .sections) (now index) (now rows) (now work) (now chains) (frame .base) (frame .result) (at .node) (at .scope) inner ⌝ }
-    ensures { λ r. ⌜ ToldArms (now (file .entry)) (frame .sections) (now (index .entry)) (now (rows .entry)) (now (work .entry)) (frame .base) (frame .result) (at .node) (at .scope) inner (now (rows .exit)) (now (work .exit)) (now (chains .exit)) r ⌝ }
+    requires { ⌜ ReadyArms (now file) (frame .sections) (now index) (now rows) (now work) (now chains) (frame .base) (frame .result) (at .node) (at .scope) top ⌝ }
+    ensures { λ r. ⌜ ToldArms (now (file .entry)) (frame .sections) (now (index .entry)) (now (rows .entry)) (now (work .entry)) (frame .base) (frame .result) (at .node) (at .scope) top (now (rows .exit)) (now (work .exit)) (now (chains .exit)) r ⌝ }
 {
     let one = block(
         file,
@@ -162,13 +167,14 @@ fn arms(
         rows,
         work,
         chains,
-        At { scope: inner, ..at },
+        At { scope: top, ..at },
+        top,
     );
     let first = one.judgement;
     if let Judgement::Refused(_, _) = first {
         return one;
     }
-    leave(file, frame.sections, &*work, chains, inner, at.scope);
+    leave(file, frame.sections, &*work, chains, top, at.scope);
     let two = block(
         file,
         frame,
@@ -180,6 +186,7 @@ fn arms(
             scope: at.scope,
             ..one.at
         },
+        at.scope,
     );
     let second = two.judgement;
     if let Judgement::Refused(_, _) = second {
@@ -350,6 +357,7 @@ fn for_loop(
             ..at
         },
         node_children(file, frame.sections, at.node) - 3,
+        at.scope,
     );
     let first = one.judgement;
     let Judgement::GoesOn = first else {
@@ -384,6 +392,7 @@ fn for_loop(
             scope: height,
             ..two.at
         },
+        at.scope,
     );
     let third = three.judgement;
     if let Judgement::Refused(_, _) = third {
@@ -401,7 +410,7 @@ fn for_loop(
     )
 }
 
-// The step and the block of a for.
+// The step of a for, in the block of its vars, whose bindings stand from the position `start` on, and its block, an inner one.
 fn turn(
     file: &[u8],
     frame: Frame,
@@ -410,11 +419,12 @@ fn turn(
     work: &mut [u16],
     chains: &mut Chains,
     at: At,
+    start: usize,
 ) -> Judged
-    requires { ⌜ ReadyTurn (now file) (frame .sections) (now index) (now rows) (now work) (now chains) (frame .base) (frame .result) (at .node) (at .scope) ⌝ }
-    ensures { λ r. ⌜ ToldTurn (now (file .entry)) (frame .sections) (now (index .entry)) (now (rows .entry)) (now (work .entry)) (frame .base) (frame .result) (at .node) (at .scope) (now (rows .exit)) (now (work .exit)) (now (chains .exit)) r ⌝ }
+    requires { ⌜ ReadyTurn (now file) (frame .sections) (now index) (now rows) (now work) (now chains) (frame .base) start (frame .result) (at .node) (at .scope) ⌝ }
+    ensures { λ r. ⌜ ToldTurn (now (file .entry)) (frame .sections) (now (index .entry)) (now (rows .entry)) (now (work .entry)) (frame .base) start (frame .result) (at .node) (at .scope) (now (rows .exit)) (now (work .exit)) (now (chains .exit)) r ⌝ }
 {
-    let one = step(file, frame, index, rows, work, chains, at);
+    let one = step(file, frame, index, rows, work, chains, at, start);
     let judgement = one.judgement;
     let Judgement::GoesOn = judgement else {
         return one;
@@ -430,6 +440,7 @@ fn turn(
             scope: at.scope,
             ..one.at
         },
+        at.scope,
     )
 }
 
@@ -442,9 +453,10 @@ fn step(
     work: &mut [u16],
     chains: &mut Chains,
     at: At,
+    start: usize,
 ) -> Judged
-    requires { ⌜ ReadyStep (now file) (frame .sections) (now index) (now rows) (now work) (now chains) (frame .base) (frame .result) (at .node) (at .scope) ⌝ }
-    ensures { λ r. ⌜ ToldStep (now (file .entry)) (frame .sections) (now (index .entry)) (now (rows .entry)) (now (work .entry)) (frame .base) (frame .result) (at .node) (at .scope) (now (rows .exit)) (now (work .exit)) (now (chains .exit)) r ⌝ }
+    requires { ⌜ ReadyStep (now file) (frame .sections) (now index) (now rows) (now work) (now chains) (frame .base) start (frame .result) (at .node) (at .scope) ⌝ }
+    ensures { λ r. ⌜ ToldStep (now (file .entry)) (frame .sections) (now (index .entry)) (now (rows .entry)) (now (work .entry)) (frame .base) start (frame .result) (at .node) (at .scope) (now (rows .exit)) (now (work .exit)) (now (chains .exit)) r ⌝ }
 {
     if node_kind(file, frame.sections, at.node) == 40 {
         return ends(
@@ -457,7 +469,7 @@ fn step(
             },
         );
     }
-    let one = statement(file, frame, index, rows, work, chains, at, false);
+    let one = statement(file, frame, index, rows, work, chains, at, false, start);
     let judgement = one.judgement;
     if let Judgement::Refused(_, _) = judgement {
         return one;
@@ -485,7 +497,7 @@ fn while_loop(
 ) -> Judged
     requires { ⌜ ReadyStmt (now file) (frame .sections) (now index) (now rows) (now work) (now chains) (frame .base) (at .node) (at .scope) × ((frame .result) < (frame .sections) .types) ⌝ }
     requires { ⌜ nodeAt (tablesOf (now file) (frame .sections)) (at .node) .kind ≡ 38 ⌝ }
-    ensures { λ r. ⌜ ToldStmt (now (file .entry)) (frame .sections) (now (index .entry)) (now (rows .entry)) (now (work .entry)) (frame .base) (frame .result) last (at .node) (at .scope) (now (rows .exit)) (now (work .exit)) (now (chains .exit)) r ⌝ }
+    ensures { λ r. ⌜ ToldWhile (now (file .entry)) (frame .sections) (now (index .entry)) (now (rows .entry)) (now (work .entry)) (frame .base) (frame .result) last (at .node) (at .scope) (now (rows .exit)) (now (work .exit)) (now (chains .exit)) r ⌝ }
 {
     let test = at.node + 1;
     let one = expression(
@@ -515,6 +527,7 @@ fn while_loop(
             scope: at.scope,
             ..one.at
         },
+        at.scope,
     );
     let second = two.judgement;
     if let Judgement::Refused(_, _) = second {

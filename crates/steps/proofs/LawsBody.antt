@@ -28,8 +28,8 @@ use Rattle.file_sections.specs.Frames.{ListAt}
 use Rattle.file_sections.proofs.LawsRecords.{nodes-long}
 use Rattle.file_sections.proofs.LawsFrames.{same-trans, list-row, list-append, list-kept, list-from}
 use Rattle.type_index.specs.Index.{declared}
-use Rattle.bindings.specs.Bindings.{entryOf, Scoped}
-use Rattle.bindings.proofs.LawsBindings.{names-same}
+use Rattle.bindings.specs.Bindings.{entryOf, Scoped, Holds}
+use Rattle.bindings.proofs.LawsBindings.{names-same, holds-own}
 use Rattle.answers.specs.declared.answer.Judgement.the-variants.{Returns}
 use Rattle.answers.specs.declared.answer.Judgement.the-variants as judgement
 use Rattle.answers.specs.declared.answer.Judged.{Judged}
@@ -166,14 +166,15 @@ module _ {F : List ℕ} {S : Sections} {X R W K : List ℕ} {c : Context} {n : �
 
           module _ {result : ℕ} (ea : result ≡ typeAt (tablesOf F S) t .a) where
             -- for `block`
-            pub body-block : ReadyBlock F S X R₁ W₁ K₁ (c .names) result (n + 1 + count) (c .names + count)
+            pub body-block : ReadyBlock F S X R₁ W₁ K₁ (c .names) (c .names) result (n + 1 + count) (c .names + count)
             body-block =
                 ready-block (n + 1 + count) (g .block)
                 (subst (λ k. Fine F S X R₁ W₁ K₁ (c .names) (c .names + k)) own-count (bound (g .parameters) (g .stands .3) own-count .fine))
+                (omega arith, omega arith)
                 (subst (λ k. k < S .types) (sym ea) (returned-within (g .held .good-tables) within (kind-of (tablesOf F S) t 6 kind)))
                 (subst (λ k. BlockStands (tablesOf F S) (n + 1 + k) (g .block)) own-count (g .stands .4)) (omega (arith, g .room, own-count))
 
-            module _ {R₂ W₂ K₂ : List ℕ} {r₂ : Judged} (m₂ : ToldBlock F S X R₁ W₁ (c .names) result (n + 1 + count) (c .names + count) R₂ W₂ K₂ r₂) where
+            module _ {R₂ W₂ K₂ : List ℕ} {r₂ : Judged} (m₂ : ToldBlock F S X R₁ W₁ (c .names) (c .names) result (n + 1 + count) (c .names + count) R₂ W₂ K₂ r₂) where
               -- the parameters and the block as the step has them
               abbrev Ran : ℕ → List ℕ → Block → Contexts.Context ℕ → Scope ℕ → Type 0
               Ran u ps b C Γ =
@@ -191,9 +192,10 @@ module _ {F : List ℕ} {S : Sections} {X R W K : List ℕ} {c : Context} {n : �
                   subst (λ C. Ran u ps b C (parameters (λ a. a) T empty (typeAt T u .b) (n + 1) ps)) (sym (whole-context F S W c (g .whole)))
                   (subst (λ N. Ran u ps b (record { structs = declared T; names = N }) (parameters (λ a. a) T empty (typeAt T u .b) (n + 1) ps))
                   (names-same T (c .names) (p .same) (c .names) (omega arith))
-                  (subst (Ran u ps b (contextOf T W₁ (c .names))) (p .scope)
-                  (subst (λ k. ToldBlock F S X R₁ W₁ (c .names) k (n + 1 + length ps) (c .names + length ps) R₂ W₂ K₂ r₂) (ea ∙ ap (λ k. typeAt T k .a) (et ∙ h .0 .t-is))
-                  (subst (λ k. ToldBlock F S X R₁ W₁ (c .names) result (n + 1 + k) (c .names + k) R₂ W₂ K₂ r₂) (sym (counted x u ps b h)) m₂) .tells b (h .4))))
+                  (subst (λ k. ToldBlock F S X R₁ W₁ (c .names) (c .names) k (n + 1 + length ps) (c .names + length ps) R₂ W₂ K₂ r₂) (ea ∙ ap (λ k. typeAt T k .a) (et ∙ h .0 .t-is))
+                  (subst (λ k. ToldBlock F S X R₁ W₁ (c .names) (c .names) result (n + 1 + k) (c .names + k) R₂ W₂ K₂ r₂) (sym (counted x u ps b h)) m₂) .tells b (h .4)
+                  (parameters (λ a. a) T empty (typeAt T u .b) (n + 1) ps)
+                  (subst (Holds T W₁ (c .names) (c .names) (c .names + length ps)) (p .scope) (holds-own T W₁ (c .names) (c .names + length ps) (omega arith)))))
 
               distinct : (x u : ℕ) (ps : List ℕ) (b : Block) → DeclStands (tablesOf F S) n (function x u ps b) → distinctNames ps ≡ true
               distinct x u ps b h = sym (p₁ .distinct ps (h .3) (counted x u ps b h)) ∙ not-false b₁ f
@@ -220,7 +222,8 @@ module _ {F : List ℕ} {S : Sections} {X R W K : List ℕ} {c : Context} {n : �
 
                 fine-now : Fine F S X R₂ W₂ K₂ (c .names) (c .names + count)
                 fine-now =
-                    let (i, L, q, d) = part-of _ (m₂ .tells (body-block .tree) (body-block .stands)) v in
+                    let held = holds-own (tablesOf F S) W₁ (c .names) (c .names + count) (omega arith) in
+                    let (i, L, q, d) = part-of _ (m₂ .tells (body-block .tree) (body-block .stands) _ held) v in
                     d .after .fine
 
                 -- for `leave` and `row`

@@ -11,11 +11,11 @@ use Rattle.oat.specs.Types.{structsOf}
 use Rattle.oat.specs.Syntax.{Expr, global, size}
 use Rattle.oat.specs.Nodes.{DeclStands}
 use Rattle.typing_rules.specs.Contexts as Contexts
-use Rattle.typing_rules.specs.Contexts.{empty, Entry, findName}
+use Rattle.typing_rules.specs.Contexts.{empty, Entry, findName, isMiss}
 use Rattle.typing_rules.specs.Labels.{Label, unlabelled}
 use Rattle.typing_rules.specs.Judge.{Out, ok, andThen, judge}
 use Rattle.typing_rules.specs.Steps.{Step, globalValue, addName}
-use Rattle.typing_rules.specs.Check.{isMiss, runStep, rowsBegin, stepRows, rowsOf, nextResult}
+use Rattle.typing_rules.specs.Check.{runStep, rowsBegin, stepRows, rowsOf, nextResult}
 use Rattle.file_sections.specs.declared.Sections.{Sections}
 use Rattle.file_sections.specs.Layout.{Has, tablesOf}
 use Rattle.file_sections.specs.Frames.{Same}

@@ -17,7 +17,7 @@ use Rattle.oat.specs.Decide.{isFormed}
 use Rattle.oat.proofs.LawsBasics.{below-or-last}
 use Rattle.oat.proofs.LawsTables.{tables-formed}
 use Rattle.typing_rules.specs.Contexts as Contexts
-use Rattle.typing_rules.specs.Check.{isMiss, fieldsFormed}
+use Rattle.typing_rules.specs.Check.{fieldsFormed}
 use Rattle.file_sections.specs.declared.Sections.{Sections}
 use Rattle.file_sections.specs.Layout.{tablesOf, GoodTables}
 use Rattle.file_sections.proofs.LawsRecords.{types-long, fields-long}
@@ -33,10 +33,10 @@ use Rattle.steps.specs.Contract.{Newness, typesFormed, timesIn}
 -- a name that is nowhere, and one that is somewhere
 module _ {F : List ℕ} {S : Sections} {W K : List ℕ} {x : ℕ} (r : Found) (found : Finds F S W K x r) where
   pub new-name : r ≡ Nothing → Newness F S W K x true
-  new-name e = record { tells = λ s c. sym (ap isMiss (name-missing (tablesOf F S) W x s (sym (found .found s c) ∙ e))) }
+  new-name e = record { tells = λ s c. sym (ap Contexts.isMiss (name-missing (tablesOf F S) W x s (sym (found .found s c) ∙ e))) }
 
   pub known-name : (j : ℕ) → r ≡ At j → Newness F S W K x false
-  known-name j e = record { tells = λ s c. sym (ap isMiss (name-found (tablesOf F S) W x s j (sym (found .found s c) ∙ e))) }
+  known-name j e = record { tells = λ s c. sym (ap Contexts.isMiss (name-found (tablesOf F S) W x s j (sym (found .found s c) ∙ e))) }
 
 -- the loop over the types of fields
 module _ (X : List ℕ) (T : Tables) (first : ℕ) where

@@ -10,7 +10,7 @@ use borrow.Author.Tests.{eqb-true, eqb-false, eq-eqb, ne-eqb, not-true, not-fals
 use Rattle.oat.specs.Basics.{pick}
 use Rattle.oat.specs.Tables.{Tables, entryAt, nodeAt}
 use Rattle.oat.specs.Nodes.{ParametersStand}
-use Rattle.typing_rules.specs.Contexts.{Scope, empty, binds, isFresh}
+use Rattle.typing_rules.specs.Contexts.{Scope, empty, binds, hit, isMiss, nearest, find, isUnbound}
 use Rattle.typing_rules.specs.Steps.{isAmong, distinctNames, parameters}
 use Rattle.typing_rules.specs.Check.{parameterRows}
 use Rattle.file_sections.specs.declared.Sections.{Sections}
@@ -81,20 +81,20 @@ distinct-more x (y ∷ l) d e =
     ∙ distinct-more x l q s
 
 -- a scope of parameters
-fresh-parameters : (T : Tables) (x : ℕ) (Γ : Scope ℕ) (p m : ℕ) (l : List ℕ) → isFresh x (parameters (λ a. a) T Γ p m l) ≡ pick (isAmong x l) false (isFresh x Γ)
-unfolding isAmong parameters isFresh
-fresh-parameters T x Γ p m [] = refl
-fresh-parameters T x Γ p m (y ∷ l) = fresh-parameters T x (binds Γ y (entryAt T p) m) (suc p) (suc m) l ∙ go (isAmong x l) (eqb y x)
+unbound-parameters : (T : Tables) (x : ℕ) (Γ : Scope ℕ) (p m : ℕ) (l : List ℕ) → isUnbound x (parameters (λ a. a) T Γ p m l) ≡ pick (isAmong x l) false (isUnbound x Γ)
+unfolding isAmong parameters nearest
+unbound-parameters T x Γ p m [] = refl
+unbound-parameters T x Γ p m (y ∷ l) = unbound-parameters T x (binds Γ y (entryAt T p) m) (suc p) (suc m) l ∙ go (isAmong x l) (eqb y x)
   where
-    go : (b c : Bool) → pick b false (pick c false (isFresh x Γ)) ≡ pick (pick c true b) false (isFresh x Γ)
+    go : (b c : Bool) → pick b false (isMiss (pick c (hit (entryAt T p) m) (find x Γ))) ≡ pick (pick c true b) false (isUnbound x Γ)
     go true true = refl
     go true false = refl
     go false true = refl
     go false false = refl
 
-among-fresh : (T : Tables) (x p m : ℕ) (l : List ℕ) → isFresh x (parameters (λ a. a) T empty p m l) ≡ not (isAmong x l)
-unfolding isFresh
-among-fresh T x p m l = fresh-parameters T x empty p m l ∙ go (isAmong x l)
+among-unbound : (T : Tables) (x p m : ℕ) (l : List ℕ) → isUnbound x (parameters (λ a. a) T empty p m l) ≡ not (isAmong x l)
+unfolding nearest
+among-unbound T x p m l = unbound-parameters T x empty p m l ∙ go (isAmong x l)
   where
     go : (b : Bool) → pick b false true ≡ not b
     go true = refl
@@ -254,9 +254,9 @@ module _ {F : List ℕ} {S : Sections} {X R W K : List ℕ} {base n first count 
         among : (x : ℕ) {ps : List ℕ} (p : Prefix F S X base n first i R W R₁ W₁ K₁ ps) → nodeAt (tablesOf F S) (n + 1 + i) .x ≡ x → b₁ ≡ not (isAmong x (p .those))
         among x p e =
             fresh .tells (base + length (p .those)) (p .bound .fine .scoped)
-            ∙ ap (λ Γ. isFresh x₁ Γ) (p .bound .scope)
-            ∙ ap (λ y. isFresh y (parameters (λ a. a) (tablesOf F S) empty first (n + 1) (p .those))) (ex ∙ e)
-            ∙ among-fresh (tablesOf F S) x first (n + 1) (p .those)
+            ∙ ap (λ Γ. isUnbound x₁ Γ) (p .bound .scope)
+            ∙ ap (λ y. isUnbound y (parameters (λ a. a) (tablesOf F S) empty first (n + 1) (p .those))) (ex ∙ e)
+            ∙ among-unbound (tablesOf F S) x first (n + 1) (p .those)
 
         pub parameter-taken : not b₁ ≡ true → ToldParameters F S X base n first count R W R₁ W₁ K₁ false
         parameter-taken f = record {

@@ -17,10 +17,10 @@ use Rattle.oat.specs.Types.{Struct, found, typeOf, structOf, structsOf, lookup}
 use Rattle.oat.specs.Decide.{isFormed}
 use Rattle.oat.proofs.LawsSame.{both-true}
 use Rattle.oat.proofs.LawsTables.{tables-formed}
-use Rattle.typing_rules.specs.Contexts.{findName}
+use Rattle.typing_rules.specs.Contexts.{findName, isMiss}
 use Rattle.typing_rules.specs.Judge.{formed}
 use Rattle.typing_rules.specs.Steps.{builtIn, heading, structFields, distinctFields, addName, addStruct}
-use Rattle.typing_rules.specs.Check.{isMissing, isMiss, fieldsFormed, runStep, stepRows}
+use Rattle.typing_rules.specs.Check.{isMissing, fieldsFormed, runStep, stepRows}
 use Rattle.typing_rules.proofs.LawsSteps.{tabulate-more}
 use Rattle.file_sections.specs.declared.Sections.{Sections}
 use Rattle.file_sections.specs.Layout.{Has, tablesOf}

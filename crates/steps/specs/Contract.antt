@@ -13,11 +13,11 @@ use Rattle.oat.specs.Types.{structsOf}
 use Rattle.oat.specs.Syntax.{Expr, Block, global, function, size, sizeBlock}
 use Rattle.oat.specs.Nodes.{ParametersStand, DeclStands}
 use Rattle.typing_rules.specs.Contexts as Contexts
-use Rattle.typing_rules.specs.Contexts.{empty, findName}
+use Rattle.typing_rules.specs.Contexts.{empty, findName, isMiss}
 use Rattle.typing_rules.specs.Labels.{Label}
 use Rattle.typing_rules.specs.Judge.{Out, ok, no}
 use Rattle.typing_rules.specs.Steps.{Step, structName, builtIn, heading, globalValue, structFields, body, distinctNames, parameters}
-use Rattle.typing_rules.specs.Check.{isMiss, runStep, rowsBegin, nodeCount, stepRows, parameterRows}
+use Rattle.typing_rules.specs.Check.{runStep, rowsBegin, nodeCount, stepRows, parameterRows}
 use Rattle.file_sections.specs.declared.Sections.{Sections}
 use Rattle.file_sections.specs.Layout.{Laid, tablesOf, GoodTables}
 use Rattle.file_sections.specs.Frames.{Same, Kept, ListAt}

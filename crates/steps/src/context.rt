@@ -276,6 +276,7 @@ impl Context {
                 node: node + 1 + count,
                 scope: scope,
             },
+            self.names,
         );
         let judgement = body.judgement;
         if let Judgement::Refused(_, _) = judgement {

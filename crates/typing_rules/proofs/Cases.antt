@@ -454,30 +454,6 @@ pub refused-7-5 : Answers program-refused-7-5 7 1 4 (65535 ∷ 65535 ∷ 65535 �
 unfolding program-refused-7-5 computed isFile
 refused-7-5 = record { file = is-file widest program-refused-7-5 refl; answer = refl }
 
-pub program-refused-7-6 : Program
-program-refused-7-6 = record {
-  tables = record {
-    types = (ty 0 0 0 0 ∷ ty 1 0 0 0 ∷ ty 2 0 0 0 ∷ ty 3 0 0 0 ∷ ty 4 1 0 0 ∷ ty 4 2 0 0 ∷ ty 4 3 0 0 ∷ ty 7 4 0 0 ∷ ty 7 5 0 0
-        ∷ ty 5 4 0 0 ∷ ty 5 5 0 0 ∷ ty 5 0 0 0 ∷ ty 6 3 0 0 ∷ ty 6 0 0 0 ∷ ty 6 0 0 1 ∷ ty 4 9 0 0 ∷ ty 7 15 0 0 ∷ ty 5 15 0 0
-        ∷ ty 6 3 1 1 ∷ ty 7 2 0 0 ∷ ty 5 2 0 0 ∷ ty 5 0 0 0 ∷ ty 4 1 0 0 ∷ ty 5 7 0 0 ∷ ty 7 11 0 0 ∷ ty 6 5 2 1 ∷ ty 6 4 3 1
-        ∷ ty 5 1 0 0 ∷ ty 6 3 4 2 ∷ ty 5 11 0 0 ∷ ty 7 13 0 0 ∷ ty 6 15 6 0 ∷ ty 6 17 6 1 ∷ ty 7 17 0 0 ∷ ty 6 21 7 0
-        ∷ ty 6 21 7 1 ∷ ty 6 11 8 1 ∷ ty 6 3 9 1 ∷ ty 6 3 10 2 ∷ ty 6 3 12 2 ∷ []);
-    list = (0 ∷ 15 ∷ 4 ∷ 5 ∷ 0 ∷ 1 ∷ 17 ∷ 21 ∷ 22 ∷ 7 ∷ 0 ∷ 0 ∷ 4 ∷ 4 ∷ []);
-    fields = ([]);
-    structs = ([]);
-    builtIns = ([]);
-    nodes = (nd 2 10 12 1 ∷ nd 39 0 0 3 ∷ nd 31 20 0 1 ∷ nd 13 1 0 0 ∷ nd 31 21 0 1 ∷ nd 18 20 11 2 ∷ nd 13 1 0 0 ∷ nd 15 99 0 0
-        ∷ nd 33 0 0 0 ∷ []);
-  };
-  declarations = (function 10 12 ([]) (block (then (var 20 (literal (integer 1))) (then (var 21 (arrayWith 11 20 (literal (integer
-      1)) (name 99))) (then returnVoid empty)))) ∷ []);
-}
-
-pub refused-7-6 : Answers program-refused-7-6 7 1 5 (65535 ∷ 65535 ∷ 65535 ∷ 65535 ∷ 65535 ∷ 65535 ∷ 65535 ∷ 65535 ∷ 65535 ∷ 65535
-    ∷ 65535 ∷ 65535 ∷ 65535 ∷ 65535 ∷ 65535 ∷ 65535 ∷ 65535 ∷ 65535 ∷ [])
-unfolding program-refused-7-6 computed isFile
-refused-7-6 = record { file = is-file widest program-refused-7-6 refl; answer = refl }
-
 pub program-refused-7-7 : Program
 program-refused-7-7 = record {
   tables = record {

@@ -10,7 +10,7 @@ use Rattle.oat.specs.Types.{Ty, typeOf, structsOf}
 use Rattle.oat.specs.Syntax.{Expr, null, literal, name, arrayLiteral, defaultArray, arrayWith, index, lengthOf, structLiteral, field, call, unary, binary, Exprs, none, also, Inits, noInit, init, targetExpr, Vars, noVar, nextVar, Condition, noCondition, condition, Stmt, assign, var, returnValue, returnVoid, callStmt, ifElse, ifNull, for, while, Step, noStep, step, Block, block, Stmts, empty, then, size, sizeTarget, sizeVars, sizeCondition, sizeStep, sizeBlock, sizeStmt}
 use Rattle.oat.proofs.LawsTypes.{TypesFormed}
 use Rattle.oat.proofs.LawsTables.{TablesFormed}
-use Rattle.typing_rules.specs.Contexts.{Binding, Scope, bind, Entry, Context}
+use Rattle.typing_rules.specs.Contexts.{Binding, Bindings, unbound, bind, Scope, Entry, Context}
 use Rattle.typing_rules.specs.Contexts as Contexts
 use Rattle.typing_rules.specs.Labels.{Result, gives, marks, nothing, Label, Labels}
 
@@ -25,9 +25,12 @@ pub record Value (T : Tables) (a : ℕ) : Type 0 where
   pub value : kindAt T a ≡ 3 → ⊥
 
 -- the types of a scope's bindings, and of a context's names, are values
-pub data ScopeFits (T : Tables) : Scope ℕ → Type 0 where
-  fits-empty : ScopeFits T Contexts.empty
-  fits-bind : {Γ : Scope ℕ} {b : Binding ℕ} → ScopeFits T Γ → Value T (b .type) → ScopeFits T (bind Γ b)
+pub data BindingsFit (T : Tables) : Bindings ℕ → Type 0 where
+  fits-empty : BindingsFit T unbound
+  fits-bind : {B : Bindings ℕ} {b : Binding ℕ} → BindingsFit T B → Value T (b .type) → BindingsFit T (bind B b)
+
+abbrev pub ScopeFits : Tables → Scope ℕ → Type 0
+ScopeFits T Γ = BindingsFit T (Γ .bindings)
 
 pub data NamesFit (T : Tables) : List (Entry ℕ) → Type 0 where
   fits-none : NamesFit T []
@@ -40,9 +43,12 @@ pub record ContextFits (T : Tables) (C : Context ℕ) : Type 0 where
   pub few : length (C .structs) ≤ length (T .structs)
 
 -- written out
-unfoldable pub eraseScope : Tables → Scope ℕ → Scope Ty
-eraseScope T Contexts.empty = Contexts.empty
-eraseScope T (bind Γ b) = bind (eraseScope T Γ) (record { name = b .name; type = typeOf T (b .type); binder = b .binder })
+unfoldable pub eraseBindings : Tables → Bindings ℕ → Bindings Ty
+eraseBindings T unbound = unbound
+eraseBindings T (bind B b) = bind (eraseBindings T B) (record { name = b .name; type = typeOf T (b .type); binder = b .binder; level = b .level })
+
+abbrev pub eraseScope : Tables → Scope ℕ → Scope Ty
+eraseScope T Γ = record { level = Γ .level; bindings = eraseBindings T (Γ .bindings) }
 
 abbrev pub eraseEntry : Tables → Entry ℕ → Entry Ty
 eraseEntry T e = record { name = e .name; type = typeOf T (e .type); binder = e .binder; assignable = e .assignable }

@@ -16,13 +16,13 @@ use Rattle.oat.specs.Subtyping.{SubAll, Formed}
 use Rattle.oat.specs.Syntax.{Literal, truth, falsity, integer, text, Expr, null, literal, name, arrayLiteral, defaultArray, arrayWith, index, lengthOf, structLiteral, field, call, unary, binary, Exprs, none, also, count, Inits, noInit, init, countInits, size}
 use Rattle.oat.specs.Nodes.{Stands, StandAll, InitsStand}
 use Rattle.oat.proofs.LawsTables.{has-kind}
-use Rattle.typing_rules.specs.Contexts.{Scope, binds, Hit, hit, miss, find, findName, isFresh, Context}
+use Rattle.typing_rules.specs.Contexts.{Scope, binds, Hit, hit, miss, find, findName, isFresh, Context, inner}
 use Rattle.typing_rules.specs.Operators.{isEquality, operandType, resultType, unaryType, baseType, literalType}
 use Rattle.typing_rules.specs.Labels.{gives, Label, Labels, unlabelled}
 use Rattle.typing_rules.specs.Rules.{Typed, Has, has, member, TypedAll, typed-none, typed-also, TypedInits, typed-noInit, typed-init, ExprRule, typ-null, typ-literal, typ-local, typ-global, typ-carr, typ-newarray, typ-newarrayinit, typ-index, typ-length, typ-structex, typ-field, typ-call, typ-bop, typ-eq, typ-uop}
 use Rattle.typing_rules.specs.Derivations.{AtAll, AtInits, Derives, here, in-elements, in-length, in-with-length, in-with-value, in-indexed, in-position, in-measured, in-fields, in-record, in-callee, in-arguments, in-operand, in-left, in-right, in-first, in-rest, in-value, in-others}
 use Rattle.typing_rules.specs.Judge.{ok, typedAs, isKind, referred, formed, argumentsBelow, judge, judges, judgeInits}
-use Rattle.typing_rules.proofs.Claims.{File, Value, ScopeFits, fits-bind, ContextFits, eraseScope, eraseContext, eraseLabel, erase, gather, gathers, gatherInits}
+use Rattle.typing_rules.proofs.Claims.{File, Value, ScopeFits, fits-bind, ContextFits, eraseScope, eraseContext, eraseLabel, erase, gather, gathers, gatherInits, eraseBindings}
 use Rattle.typing_rules.proofs.LawsBridge.{typesOf, Values, values-none, values-also, eraseHit, find-erase, fresh-erase, name-erase, find-value, name-value, is-base, is-void, array-parts, struct-parts, function-parts, default-is, base-is, base-value, below-sub, formed-value, formed-null, each-below, arguments-below, arguments-many, inits-below, member-value, field-there, erase-append}
 use Rattle.typing_rules.proofs.LawsJudge.{null-ok, literal-ok, local-ok, global-ok, array-ok, default-ok, with-ok, index-ok, length-ok, struct-ok, field-ok, call-ok, unary-ok, operator-ok, equality-ok, none-ok, also-ok, noInit-ok, init-ok}
 
@@ -107,7 +107,7 @@ module _ {T : Tables} {C : Context ℕ} {D : Labels Ty} {e : Expr} {n : ℕ} {Γ
 -- a scope with one more binding
 pub bound : (T : Tables) (Γ : Scope ℕ) (x n a : ℕ) {Δ : Scope Ty} {t : Ty} → Δ ≡ eraseScope T Γ → t ≡ typeOf T a
     → binds Δ x t n ≡ eraseScope T (binds Γ x a n)
-unfolding eraseScope
+unfolding eraseBindings
 bound T Γ x n a p q = λ i. binds (p i) x (q i) n
 
 -- the labels of one list after another
@@ -210,16 +210,15 @@ module _ (T : Tables) (C : Context ℕ) (D : Labels Ty) where
           let r = default-ok T C n Γ t a j (A .accepts) (base-kind A F 0 (omega arith) ty) l in
           finish r (kind-value T t 5 k (omega arith)) h (sym e) (A .same) refl
 
-      with-accepted : (t x : ℕ) (a d : Expr) → hasKind T t 5 ≡ true → Child a (n + 1) Γ → Child d (n + 1 + size a) (binds Γ x 0 n)
+      with-accepted : (t x : ℕ) (a d : Expr) → hasKind T t 5 ≡ true → Child a (n + 1) Γ → Child d (n + 1 + size a) (binds (inner Γ) x 0 n)
           → Rule n (arrayWith t x a d) → Accepted T C D (arrayWith t x a d) n Γ
       unfolding gather erase
-      with-accepted t x a d k c c' (typ-newarrayinit u v e o ty fr tv s h) =
+      with-accepted t x a d k c c' (typ-newarrayinit u v e o ty tv s h) =
           let (j, q, vu) = element t u k e o in
           let A = c (ty .scope ∙ b) in
-          let B = c' (tv .scope ∙ bound T Γ x n 0 b (sym (base-is T F 0 (omega arith)))) in
-          let m : isFresh x Γ ≡ true = sym (fresh-erase T x Γ) ∙ ap (isFresh x) (sym b) ∙ fr in
+          let B = c' (tv .scope ∙ bound T (inner Γ) x n 0 (ap (λ (G : Scope Ty). inner G) b) (sym (base-is T F 0 (omega arith)))) in
           let l = below-sub T F C (B .type) (referred T t) (B .value) vu .1 (rw (q, ← type-is B tv) at s) in
-          let r = with-ok T C n Γ t x a d j (A .accepts) (base-kind A F 0 (omega arith) ty) m (B .accepts) l in
+          let r = with-ok T C n Γ t x a d j (A .accepts) (base-kind A F 0 (omega arith) ty) (B .accepts) l in
           finish r (kind-value T t 5 k (omega arith)) h (sym e) (joined T (A .labels) (B .labels) (A .same) (B .same)) refl
 
       index-accepted : (a d : Expr) → Child a (n + 1) Γ → Child d (n + 1 + size a) Γ → Rule n (index a d) → Accepted T C D (index a d) n Γ
@@ -337,7 +336,7 @@ module _ (T : Tables) (C : Context ℕ) (D : Labels Ty) where
     }
 
     init-accepted : (x : ℕ) (a : Expr) (is : Inits) → Child a (n + 1) Γ → Initial is (n + 1 + size a) Γ → Initial (init x a is) n Γ
-    unfolding gather erase typesOf eraseScope
+    unfolding gather erase typesOf eraseBindings
     init-accepted x a is c c' _ (typed-init {ts = us} l p q) =
         let A = c (p .scope) in
         let B = c' us q in
@@ -368,7 +367,7 @@ mutual
   complete T F C f D (arrayWith t x a c) n Γ g s d b =
       with-accepted T C D n Γ b F f g t x a c (s .1)
       (λ k. complete T F C f D a (n + 1) Γ g (s .2) (record { rule = λ m u w. d .rule m u (in-with-length w) }) k)
-      (λ k. complete T F C f D c (n + 1 + size a) (binds Γ x 0 n) (fits-bind g (base-value T F 0 (omega arith))) (s .3)
+      (λ k. complete T F C f D c (n + 1 + size a) (binds (inner Γ) x 0 n) (fits-bind g (base-value T F 0 (omega arith))) (s .3)
       (record { rule = λ m u w. d .rule m u (in-with-value w) }) k)
       (d .rule n (arrayWith t x a c) here)
   complete T F C f D (index a c) n Γ g s d b =

@@ -15,12 +15,12 @@ use Rattle.oat.specs.Subtyping.{Sub, SubAll}
 use Rattle.oat.specs.Syntax.{Expr, Exprs, Target, targetExpr, Vars, noVar, nextVar, Condition, noCondition, condition, Stmt, assign, var, returnValue, returnVoid, callStmt, ifElse, ifNull, for, while, Step, noStep, step, Block, block, Stmts, empty, then, size, sizeTarget, sizeVars, sizeCondition, sizeStep, sizeBlock, sizeStmt}
 use Rattle.oat.specs.Nodes.{Stands, hasReferenceKind, VarsStand, ConditionStands, StmtStands, StepStands, BlockStands, StmtsStand}
 use Rattle.oat.proofs.LawsBasics.{and-parts}
-use Rattle.typing_rules.specs.Contexts.{Scope, binds, isFresh, Context}
+use Rattle.typing_rules.specs.Contexts.{Scope, binds, isFresh, Context, inner}
 use Rattle.typing_rules.specs.Labels.{gives, marks, Label, Labels, unlabelled}
 use Rattle.typing_rules.specs.Rules.{ExprRule, StmtRule, BlockRule, Typed, Marked, Ends, TypedAll, both, VarsChain, ConditionHolds, StepGoesOn, Chain, typ-assn, typ-decl, typ-rett, typ-retvoid, typ-scall, typ-if, typ-ifq, typ-while, typ-for, typ-block, whileMark}
 use Rattle.typing_rules.specs.Derivations.{At, Node, expression, statement, blocked, AtVars, at-var, in-var, in-vars, AtCondition, in-condition, InStmt, in-target, in-assigned, in-initial, in-returned, in-called, in-passed, in-test, in-then, in-else, in-nullable, in-some, in-null, in-for-vars, in-for-condition, in-for-step, in-for-body, in-while-test, in-while-body, AtStep, at-step, in-step, AtBlock, here-block, in-block, AtStmts, at-stmt, in-stmt, in-stmts, RuleAt, DerivesBlock, isEmpty}
 use Rattle.typing_rules.specs.Judge.{ok, markedAs, isKind, referred, isBelow, argumentsBelow, done, ends, executeVars, judgeCondition, execute, executeStep, executeBlock, executeAll}
-use Rattle.typing_rules.proofs.Claims.{File, Value, ScopeFits, fits-bind, ContextFits, eraseScope, eraseContext, eraseLabel, erase, gatherVars, gatherCondition, gatherStmt, gatherStep, gatherBlock, gatherStmts}
+use Rattle.typing_rules.proofs.Claims.{File, Value, ScopeFits, fits-bind, ContextFits, eraseScope, eraseContext, eraseLabel, erase, gatherVars, gatherCondition, gatherStmt, gatherStep, gatherBlock, gatherStmts, eraseBindings}
 use Rattle.typing_rules.proofs.LawsBridge.{fresh-erase, assigns-erase, is-base, is-void, function-parts, nullable-parts, below-sub, arguments-below, arguments-many, typesOf, Values, erase-append}
 use Rattle.typing_rules.proofs.LawsExecute.{vars-ok, condition-ok, assign-ok, var-ok, return-ok, return-void-ok, call-ok, if-ok, if-null-ok, for-ok, while-ok, step-ok, block-ok, then-ok}
 use Rattle.typing_rules.proofs.Complete.{Accepted, complete, AcceptedAll, completes}
@@ -83,7 +83,7 @@ module _ (T : Tables) where
   same-three L M N p q r = same-both L (M ++ N) p (same-both M N q r)
 
   same-unlabelled : (D : Labels Ty) (n : ℕ) → D n ≡ unlabelled → erase T (unlabelled ∷ []) ≡ D n ∷ []
-  unfolding erase eraseScope
+  unfolding erase eraseBindings
   same-unlabelled D n e = ap (λ (l : Label Ty). l ∷ []) (sym e)
 
   -- the label of a node that ends with a mark
@@ -98,7 +98,7 @@ module _ (T : Tables) where
   is-fresh x Γ Θ e h = sym (fresh-erase T x Γ) ∙ (rw e at h)
 
   binds-erase : (Γ : Scope ℕ) (x t n : ℕ) (Θ : Scope Ty) (u : Ty) → Θ ≡ eraseScope T Γ → u ≡ typeOf T t → binds Θ x u n ≡ eraseScope T (binds Γ x t n)
-  unfolding eraseScope
+  unfolding eraseBindings
   binds-erase Γ x t n Θ u p q = rw (p, q)
 
 -- a statement that leaves the scope as it is
@@ -225,46 +225,46 @@ module _ (T : Tables) (F : File T) (C : Context ℕ) (D : Labels Ty) (rt : ℕ) 
       let o = call-ok T C rt last a es n Γ (A .accepts) kind returned (B .many ∙ many) (B .accepts) sub in
       stays T C D rt last (callStmt a es) n 0 0 Γ g e k refl o (same-both T _ _ (A .same) (B .same)) refl
 
-  if-case : (a : Expr) (b c : Block) → Rule T C D rt last n (ifElse a b c) → ExprAt T C D a (n + 1) Γ → BlockAt T C D rt b (n + 1 + size a) Γ
-      → BlockAt T C D rt c (n + 1 + size a + sizeBlock b) Γ → AcceptedStmt T C D rt last (ifElse a b c) n Γ
+  if-case : (a : Expr) (b c : Block) → Rule T C D rt last n (ifElse a b c) → ExprAt T C D a (n + 1) Γ → BlockAt T C D rt b (n + 1 + size a) (inner Γ)
+      → BlockAt T C D rt c (n + 1 + size a + sizeBlock b) (inner Γ) → AcceptedStmt T C D rt last (ifElse a b c) n Γ
   unfolding gatherStmt
   if-case a b c (typ-if p q h i j k) fa fb fc =
       let A = fa (h .scope ∙ e) in
-      let X = fb g (i .scope ∙ e) in
-      let Y = fc g (j .scope ∙ e) in
+      let X = fb g (i .scope ∙ ap (λ (G : Scope Ty). inner G) e) in
+      let Y = fc g (j .scope ∙ ap (λ (G : Scope Ty). inner G) e) in
       let test = is-bool T F (A .type) (A .value) (type-is h (A .result)) in
       let mark = ap₂ (λ (x y : ℕ). both x y) (mark-is i (X .result)) (mark-is j (Y .result)) in
       let o = if-ok T C rt last a b c n Γ (A .accepts) test (X .accepts) (Y .accepts) in
       stays T C D rt last (ifElse a b c) n (both p q) (both (X .mark) (Y .mark)) Γ g e k mark o (same-three T _ _ _ (A .same) (X .same) (Y .same)) refl
 
   if-null-case : (x t : ℕ) (a : Expr) (b c : Block) → hasReferenceKind T t ≡ true → Rule T C D rt last n (ifNull x t a b c) → ExprAt T C D a (n + 1) Γ
-      → BlockAt T C D rt b (n + 1 + size a) (binds Γ x t n) → BlockAt T C D rt c (n + 1 + size a + sizeBlock b) Γ
+      → BlockAt T C D rt b (n + 1 + size a) (inner (binds (inner Γ) x t n)) → BlockAt T C D rt c (n + 1 + size a + sizeBlock b) (inner Γ)
       → AcceptedStmt T C D rt last (ifNull x t a b c) n Γ
   unfolding gatherStmt
   if-null-case x t a b c m (typ-ifq r p q h s i j k) fa fb fc =
       let v = reference-value T t m in
       let A = fa (h .scope ∙ e) in
-      let X = fb (fits-bind g v) (i .scope ∙ binds-erase T Γ x t n (D n .before) (typeOf T t) e refl) in
-      let Y = fc g (j .scope ∙ e) in
+      let X = fb (fits-bind g v) (i .scope ∙ ap (λ (G : Scope Ty). inner G) (binds-erase T (inner Γ) x t n (inner (D n .before)) (typeOf T t) (ap (λ (G : Scope Ty). inner G) e) refl)) in
+      let Y = fc g (j .scope ∙ ap (λ (G : Scope Ty). inner G) e) in
       let (kind, refers, value) = nullable-parts T F (A .type) (A .value .within) r (sym (type-is h (A .result))) in
       let sub = is-below T F C (referred T (A .type)) t r (typeOf T t) value v refers refl s in
       let mark = ap₂ (λ (x y : ℕ). both x y) (mark-is i (X .result)) (mark-is j (Y .result)) in
       let o = if-null-ok T C rt last x t a b c n Γ (A .accepts) kind sub (X .accepts) (Y .accepts) in
       stays T C D rt last (ifNull x t a b c) n (both p q) (both (X .mark) (Y .mark)) Γ g e k mark o (same-three T _ _ _ (A .same) (X .same) (Y .same)) refl
 
-  while-case : (a : Expr) (b : Block) → Rule T C D rt last n (while a b) → ExprAt T C D a (n + 1) Γ → BlockAt T C D rt b (n + 1 + size a) Γ
+  while-case : (a : Expr) (b : Block) → Rule T C D rt last n (while a b) → ExprAt T C D a (n + 1) Γ → BlockAt T C D rt b (n + 1 + size a) (inner Γ)
       → AcceptedStmt T C D rt last (while a b) n Γ
   unfolding gatherStmt
   while-case a b (typ-while p h i k) fa fb =
       let A = fa (h .scope ∙ e) in
-      let X = fb g (i .scope ∙ e) in
+      let X = fb g (i .scope ∙ ap (λ (G : Scope Ty). inner G) e) in
       let test = is-bool T F (A .type) (A .value) (type-is h (A .result)) in
       let o = while-ok T C rt last a b n Γ (A .accepts) test (X .accepts) in
       stays T C D rt last (while a b) n (whileMark last a) (whileMark last a) Γ g e k refl o (same-both T _ _ (A .same) (X .same)) refl
 
   -- the parts of a for; all but its vars stand in the scope after them
   abbrev VarsAt : Vars → ℕ → Type 0
-  VarsAt vs m = (Δ : Scope Ty) → VarsChain D m vs (eraseScope T Γ) Δ → AcceptedVars T C D vs m Γ Δ
+  VarsAt vs m = (Δ : Scope Ty) → VarsChain D m vs (eraseScope T (inner Γ)) Δ → AcceptedVars T C D vs m (inner Γ) Δ
 
   abbrev ConditionAt : Condition → ℕ → Type 0
   ConditionAt c m = (Θ : Scope ℕ) → ScopeFits T Θ → ConditionHolds D m (eraseScope T Θ) c → AcceptedCondition T C D c m n Θ
@@ -274,13 +274,13 @@ module _ (T : Tables) (F : File T) (C : Context ℕ) (D : Labels Ty) (rt : ℕ) 
 
   for-case : (vs : Vars) (c : Condition) (s : Step) (b : Block) → Rule T C D rt last n (for vs c s b) → VarsAt vs (n + 1)
       → ConditionAt c (n + 1 + sizeVars vs) → StepAt s (n + 1 + sizeVars vs + sizeCondition c)
-      → ((Θ : Scope ℕ) → BlockAt T C D rt b (n + 1 + sizeVars vs + sizeCondition c + sizeStep s) Θ) → AcceptedStmt T C D rt last (for vs c s b) n Γ
+      → ((Θ : Scope ℕ) → BlockAt T C D rt b (n + 1 + sizeVars vs + sizeCondition c + sizeStep s) (inner Θ)) → AcceptedStmt T C D rt last (for vs c s b) n Γ
   unfolding gatherStmt
   for-case vs c s b (typ-for Δ p v h i j k) fv fc fs fb =
       let U = fv Δ (rw e at v) in
       let X = fc (U .scope) (U .fits) (rw (U .after) at h) in
       let Y = fs (U .scope) (U .fits) (rw (U .after) at i) in
-      let Z = fb (U .scope) (U .fits) (j .scope ∙ U .after) in
+      let Z = fb (U .scope) (U .fits) (j .scope ∙ ap (λ (G : Scope Ty). inner G) (U .after)) in
       let o = for-ok T C rt last vs c s b n Γ (U .accepts) (X .accepts) (Y .accepts) (Z .accepts) in
       stays T C D rt last (for vs c s b) n 0 0 Γ g e k refl o (same-both T _ _ (U .same) (same-three T _ _ _ (X .same) (Y .same) (Z .same))) refl
 
@@ -422,23 +422,23 @@ module _ (T : Tables) (F : File T) (C : Context ℕ) (f : ContextFits T C) (D : 
     complete-stmt last (ifElse a b c) n Γ g s o d e =
         if-case T F C D rt last n Γ g e a b c o
         (λ z. expr a (n + 1) Γ g (s .1) (λ m u w. d m (expression u) (in-test w)) z)
-        (λ h z. block-accepted b (n + 1 + size a) Γ h (s .2) (λ m u w. d m u (in-then w)) z)
-        (λ h z. block-accepted c (n + 1 + size a + sizeBlock b) Γ h (s .3) (λ m u w. d m u (in-else w)) z)
+        (λ h z. block-accepted b (n + 1 + size a) (inner Γ) h (s .2) (λ m u w. d m u (in-then w)) z)
+        (λ h z. block-accepted c (n + 1 + size a + sizeBlock b) (inner Γ) h (s .3) (λ m u w. d m u (in-else w)) z)
     complete-stmt last (ifNull x t a b c) n Γ g s o d e =
         if-null-case T F C D rt last n Γ g e x t a b c (s .1) o
         (λ z. expr a (n + 1) Γ g (s .2) (λ m u w. d m (expression u) (in-nullable w)) z)
-        (λ h z. block-accepted b (n + 1 + size a) (binds Γ x t n) h (s .3) (λ m u w. d m u (in-some w)) z)
-        (λ h z. block-accepted c (n + 1 + size a + sizeBlock b) Γ h (s .4) (λ m u w. d m u (in-null w)) z)
+        (λ h z. block-accepted b (n + 1 + size a) (inner (binds (inner Γ) x t n)) h (s .3) (λ m u w. d m u (in-some w)) z)
+        (λ h z. block-accepted c (n + 1 + size a + sizeBlock b) (inner Γ) h (s .4) (λ m u w. d m u (in-null w)) z)
     complete-stmt last (for vs c p b) n Γ g s o d e =
         for-case T F C D rt last n Γ g e vs c p b o
-        (λ Δ z. complete-vars T F C f D (typeOf T rt) vs (n + 1) Γ Δ g (s .1) (λ m u w. d m u (in-for-vars w)) z)
+        (λ Δ z. complete-vars T F C f D (typeOf T rt) vs (n + 1) (inner Γ) Δ g (s .1) (λ m u w. d m u (in-for-vars w)) z)
         (λ Θ h z. complete-condition T F C f D (typeOf T rt) c (n + 1 + sizeVars vs) n Θ h (s .2) (λ m u w. d m u (in-for-condition w)) z)
         (λ Θ h z. complete-step p (n + 1 + sizeVars vs + sizeCondition c) Θ h (s .3) (λ m u w. d m u (in-for-step w)) z)
-        (λ Θ h z. block-accepted b (n + 1 + sizeVars vs + sizeCondition c + sizeStep p) Θ h (s .4) (λ m u w. d m u (in-for-body w)) z)
+        (λ Θ h z. block-accepted b (n + 1 + sizeVars vs + sizeCondition c + sizeStep p) (inner Θ) h (s .4) (λ m u w. d m u (in-for-body w)) z)
     complete-stmt last (while a b) n Γ g s o d e =
         while-case T F C D rt last n Γ g e a b o
         (λ z. expr a (n + 1) Γ g (s .1) (λ m u w. d m (expression u) (in-while-test w)) z)
-        (λ h z. block-accepted b (n + 1 + size a) Γ h (s .2) (λ m u w. d m u (in-while-body w)) z)
+        (λ h z. block-accepted b (n + 1 + size a) (inner Γ) h (s .2) (λ m u w. d m u (in-while-body w)) z)
 
     complete-step : (s : Step) (n : ℕ) (Γ : Scope ℕ) → ScopeFits T Γ → StepStands T n s
         → ((m : ℕ) (u : Node) → AtStep s n m u → RuleAt T (eraseContext T C) D (typeOf T rt) m u) → StepGoesOn D n (eraseScope T Γ) s

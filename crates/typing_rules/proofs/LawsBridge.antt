@@ -1,6 +1,6 @@
 -- Tests on type numbers say what the rules say of types written out. Assumes nothing.
 use mathlib.Core.Path.{_≡_, refl, ap, sym, subst, _∙_}
-use mathlib.Core.Bool.{Bool, true, false, _||_}
+use mathlib.Core.Bool.{Bool, true, false, _||_, _&&_}
 use mathlib.Core.List.{List, [], _∷_, _++_}
 use mathlib.Core.Logic.{_↔_}
 use Prim.Native.Nat.{ℕ, zero, suc, _+_, _≤_, _<_}
@@ -21,12 +21,12 @@ use Rattle.oat.proofs.LawsSame.{iff-then, and-says, never}
 use Rattle.oat.proofs.LawsSubtyping.{isRef, not-void, ret-left, below-is}
 use Rattle.oat.proofs.LawsBelow.{howMany, params-many}
 use Rattle.oat.proofs.LawsFormed.{nullable-formed, ref-formed, value-formed, formed-is}
-use Rattle.typing_rules.specs.Contexts.{Scope, empty, bind, Hit, hit, miss, find, isFresh, Entry, Context, findName, isFixed}
+use Rattle.typing_rules.specs.Contexts.{Bindings, unbound, bind, Scope, Hit, hit, miss, nearest, find, isMiss, isFreshAt, isFresh, Entry, Context, findName, isFixed}
 use Rattle.typing_rules.specs.Operators.{baseType}
 use Rattle.typing_rules.specs.Labels.{Label, Labels}
 use Rattle.typing_rules.specs.Rules.{SubEach, each-none, each-also, HasDefault, default-int, default-bool, default-null, Member, has, lacks, member, InitsBelow, below-noInit, below-init, namesFit, assigns}
 use Rattle.typing_rules.specs.Judge.{isKind, referred, isBelow, formed, hasDefault, eachBelow, argumentsBelow, number, fieldOf, isBelowMember, initsBelow, assignsTo}
-use Rattle.typing_rules.proofs.Claims.{File, Value, ScopeFits, fits-empty, fits-bind, NamesFit, fits-none, fits-name, ContextFits, eraseScope, eraseNames, eraseContext, eraseLabel, erase, Holds}
+use Rattle.typing_rules.proofs.Claims.{File, Value, BindingsFit, ScopeFits, fits-empty, fits-bind, NamesFit, fits-none, fits-name, ContextFits, eraseBindings, eraseScope, eraseNames, eraseContext, eraseLabel, erase, Holds}
 use Rattle.typing_rules.proofs.LawsFields.{memberOf, memberIn, member-is, from-lookup, from-number, number-value}
 
 -- type numbers written out one by one
@@ -83,15 +83,26 @@ module _ (T : Tables) where
   first-value true c d a b h v r e = subst (Value T) (cc) v
   first-value false c d a b h v r e = r e
 
+  nearest-erase : (x : ℕ) (B : Bindings ℕ) → nearest x (eraseBindings T B) ≡ eraseHit T (nearest x B)
+  unfolding nearest eraseBindings eraseHit
+  nearest-erase x unbound = refl
+  nearest-erase x (bind B b) = first-erase (eqb (b .name) x) (b .type) (b .binder) _ _ (nearest-erase x B)
+
   pub find-erase : (x : ℕ) (Γ : Scope ℕ) → find x (eraseScope T Γ) ≡ eraseHit T (find x Γ)
-  unfolding find eraseScope eraseHit
-  find-erase x empty = refl
-  find-erase x (bind Γ b) = first-erase (eqb (b .name) x) (b .type) (b .binder) _ _ (find-erase x Γ)
+  find-erase x Γ = nearest-erase x (Γ .bindings)
+
+  fresh-at-erase : (l x : ℕ) (B : Bindings ℕ) → isFreshAt l x (eraseBindings T B) ≡ isFreshAt l x B
+  unfolding isFreshAt eraseBindings
+  fresh-at-erase l x unbound = refl
+  fresh-at-erase l x (bind B b) = ap (λ r. pick (eqb (b .level) l && eqb (b .name) x) false r) (fresh-at-erase l x B)
 
   pub fresh-erase : (x : ℕ) (Γ : Scope ℕ) → isFresh x (eraseScope T Γ) ≡ isFresh x Γ
-  unfolding isFresh eraseScope
-  fresh-erase x empty = refl
-  fresh-erase x (bind Γ b) = ap (λ r. pick (eqb (b .name) x) false r) (fresh-erase x Γ)
+  fresh-erase x Γ = fresh-at-erase (Γ .level) x (Γ .bindings)
+
+  miss-erase : (h : Hit ℕ) → isMiss (eraseHit T h) ≡ isMiss h
+  unfolding eraseHit
+  miss-erase (hit t b) = refl
+  miss-erase miss = refl
 
   pub name-erase : (x : ℕ) (es : List (Entry ℕ)) → findName x (eraseNames T es) ≡ eraseHit T (findName x es)
   unfolding findName eraseNames eraseHit
@@ -105,16 +116,19 @@ module _ (T : Tables) where
 
   pub assigns-erase : (C : Context ℕ) (Γ : Scope ℕ) (g : Target) → assigns (eraseContext T C) (eraseScope T Γ) g ≡ assignsTo C Γ g
   unfolding assigns assignsTo
-  assigns-erase C Γ (nameTarget x) = rw (fresh-erase x Γ, fixed-erase x (C .names))
+  assigns-erase C Γ (nameTarget x) = rw (find-erase x Γ, miss-erase (find x Γ), fixed-erase x (C .names))
   assigns-erase C Γ (indexTarget a b) = refl
   assigns-erase C Γ (fieldTarget x a) = refl
 
   -- a name that is found has a value's type
+  found-value : (x a b : ℕ) (B : Bindings ℕ) → BindingsFit T B → nearest x B ≡ hit a b → Value T a
+  unfolding nearest
+  found-value x a b unbound fits-empty e = absurd (let z : _≡_ {A = ℕ} 0 1 = cc in omega arith)
+  found-value x a b (bind B c) (fits-bind f v) e =
+      first-value (eqb (c .name) x) (c .type) (c .binder) a b (nearest x B) v (λ r. found-value x a b B f r) e
+
   pub find-value : (x a b : ℕ) (Γ : Scope ℕ) → ScopeFits T Γ → find x Γ ≡ hit a b → Value T a
-  unfolding find
-  find-value x a b empty fits-empty e = absurd (let z : _≡_ {A = ℕ} 0 1 = cc in omega arith)
-  find-value x a b (bind Γ c) (fits-bind f v) e =
-      first-value (eqb (c .name) x) (c .type) (c .binder) a b (find x Γ) v (λ r. find-value x a b Γ f r) e
+  find-value x a b Γ f e = found-value x a b (Γ .bindings) f e
 
   names-value : (x a b : ℕ) (es : List (Entry ℕ)) → NamesFit T es → findName x es ≡ hit a b → Value T a
   unfolding findName

@@ -18,7 +18,7 @@ use Rattle.oat.specs.Syntax.{Literal, truth, falsity, integer, text, Expr, null
 use Rattle.oat.specs.Nodes.{Node, hasReferenceKind, LiteralStands, Stands, StandAll, InitsStand, VarsStand, ConditionStands, StmtStands, StepStands, BlockStands, StmtsStand, ParametersStand, DeclStands, DeclsStand}
 use Rattle.oat.specs.ProgramFile.{Limits, Program, Counts, IsFile}
 use Rattle.oat.proofs.LawsBlank.{meant-file}
-use Rattle.typing_rules.specs.Contexts.{find, isFresh, findName, isFixed}
+use Rattle.typing_rules.specs.Contexts.{nearest, isFreshAt, findName, isFixed}
 use Rattle.typing_rules.specs.Rules.{namesFit, eachOnce, namedTimes, declaredTimes, member}
 use Rattle.typing_rules.specs.Judge.{eachBelow, argumentsBelow, fieldAmong, fieldOf, initsBelow, judge, executeVars, judgeCondition, execute, assignsTo}
 use Rattle.typing_rules.specs.Steps.{headings, globals, bodies, stepsOf, hasField, distinctFields, isAmong, distinctNames, parameters}
@@ -27,7 +27,7 @@ use Rattle.typing_rules.specs.Check.{fieldsFormed, runStep, rowsOf, para
 -- to unfold this is to unfold all that the definition of the check computes with
 unfoldable pub computed : Program → Answer
 unfolding checkOf stepsOf tabulate headings globals bodies run runStep judge execute executeVars judgeCondition findName isFixed stepRows rowsOf
-    rowsBegin segmentAt rowsFrom find isFresh typeOf written writtenParams firstTypes structOf lookup below tests sameTy beginsWith structBelow
+    rowsBegin segmentAt rowsFrom nearest isFreshAt typeOf written writtenParams firstTypes structOf lookup below tests sameTy beginsWith structBelow
     forms isFormed eachBelow argumentsBelow fieldAmong fieldOf initsBelow namesFit eachOnce namedTimes declaredTimes member assignsTo hasField
     distinctFields isAmong distinctNames parameters fieldsFormed parameterRows
 computed p = checkOf p

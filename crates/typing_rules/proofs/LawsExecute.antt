@@ -6,7 +6,7 @@ use Prim.Native.Nat.{ℕ, _+_}
 use borrow.Author.Tests.{eq-eqb}
 use Rattle.oat.specs.Tables.{Tables, typeAt}
 use Rattle.oat.specs.Syntax.{Expr, Exprs, count, Target, targetExpr, Vars, nextVar, Condition, condition, Stmt, assign, var, returnValue, returnVoid, callStmt, ifElse, ifNull, for, while, Step, step, Block, block, Stmts, then, size, sizeTarget, sizeVars, sizeCondition, sizeStep, sizeBlock, sizeStmt}
-use Rattle.typing_rules.specs.Contexts.{Scope, binds, isFresh, Context}
+use Rattle.typing_rules.specs.Contexts.{Scope, binds, isFresh, Context, inner}
 use Rattle.typing_rules.specs.Labels.{Label}
 use Rattle.typing_rules.specs.Rules.{both, whileMark}
 use Rattle.typing_rules.specs.Derivations.{isEmpty}
@@ -52,28 +52,28 @@ module _ (T : Tables) (C : Context ℕ) (rt : ℕ) (last : Bool) where
   call-ok a es n Γ {t} p q r s u v = rw (p, q, r, eq-eqb (count es) (typeAt T t .c) s, u, v)
 
   pub if-ok : (a : Expr) (b c : Block) (n : ℕ) (Γ : Scope ℕ) {t p q : ℕ} {L M N : List (Label ℕ)} → judge T C a (n + 1) Γ ≡ ok t L
-      → isKind T t 1 ≡ true → executeBlock T C rt b (n + 1 + size a) Γ ≡ ok p M → executeBlock T C rt c (n + 1 + size a + sizeBlock b) Γ ≡ ok q N
+      → isKind T t 1 ≡ true → executeBlock T C rt b (n + 1 + size a) (inner Γ) ≡ ok p M → executeBlock T C rt c (n + 1 + size a + sizeBlock b) (inner Γ) ≡ ok q N
       → execute T C rt last (ifElse a b c) n Γ ≡ ends (both p q) Γ Γ (L ++ (M ++ N))
   unfolding execute
   if-ok a b c n Γ h i j k = rw (h, i, j, k)
 
   pub if-null-ok : (x t : ℕ) (a : Expr) (b c : Block) (n : ℕ) (Γ : Scope ℕ) {u p q : ℕ} {L M N : List (Label ℕ)} → judge T C a (n + 1) Γ ≡ ok u L
-      → isKind T u 7 ≡ true → isBelow T C (referred T u) t ≡ true → executeBlock T C rt b (n + 1 + size a) (binds Γ x t n) ≡ ok p M
-      → executeBlock T C rt c (n + 1 + size a + sizeBlock b) Γ ≡ ok q N
+      → isKind T u 7 ≡ true → isBelow T C (referred T u) t ≡ true → executeBlock T C rt b (n + 1 + size a) (inner (binds (inner Γ) x t n)) ≡ ok p M
+      → executeBlock T C rt c (n + 1 + size a + sizeBlock b) (inner Γ) ≡ ok q N
       → execute T C rt last (ifNull x t a b c) n Γ ≡ ends (both p q) Γ Γ (L ++ (M ++ N))
   unfolding execute
   if-null-ok x t a b c n Γ h i j k l = rw (h, i, j, k, l)
 
   pub for-ok : (vs : Vars) (c : Condition) (s : Step) (b : Block) (n : ℕ) (Γ : Scope ℕ) {Δ Δ₁ : Scope ℕ} {p q : ℕ} {L M N O : List (Label ℕ)}
-      → executeVars T C vs (n + 1) Γ ≡ ok Δ L → judgeCondition T C c (n + 1 + sizeVars vs) n Δ ≡ ok Δ₁ M
+      → executeVars T C vs (n + 1) (inner Γ) ≡ ok Δ L → judgeCondition T C c (n + 1 + sizeVars vs) n Δ ≡ ok Δ₁ M
       → executeStep T C rt s (n + 1 + sizeVars vs + sizeCondition c) Δ ≡ ok p N
-      → executeBlock T C rt b (n + 1 + sizeVars vs + sizeCondition c + sizeStep s) Δ ≡ ok q O
+      → executeBlock T C rt b (n + 1 + sizeVars vs + sizeCondition c + sizeStep s) (inner Δ) ≡ ok q O
       → execute T C rt last (for vs c s b) n Γ ≡ ends 0 Γ Γ (L ++ (M ++ (N ++ O)))
   unfolding execute
   for-ok vs c s b n Γ h i j k = rw (h, i, j, k)
 
   pub while-ok : (a : Expr) (b : Block) (n : ℕ) (Γ : Scope ℕ) {t p : ℕ} {L M : List (Label ℕ)} → judge T C a (n + 1) Γ ≡ ok t L
-      → isKind T t 1 ≡ true → executeBlock T C rt b (n + 1 + size a) Γ ≡ ok p M → execute T C rt last (while a b) n Γ ≡ ends (whileMark last a) Γ Γ (L ++ M)
+      → isKind T t 1 ≡ true → executeBlock T C rt b (n + 1 + size a) (inner Γ) ≡ ok p M → execute T C rt last (while a b) n Γ ≡ ends (whileMark last a) Γ Γ (L ++ M)
   unfolding execute
   while-ok a b n Γ h i j = rw (h, i, j)
 

@@ -10,7 +10,7 @@ use Rattle.oat.specs.Tables.{Tables, typeAt}
 use Rattle.oat.specs.Types.{lookup}
 use Rattle.oat.specs.Syntax.{Expr, null, literal, name, arrayLiteral, defaultArray, arrayWith, index, lengthOf, structLiteral, field, call, unary, binary, Exprs, none, also, Inits, noInit, init, count, size}
 use Rattle.oat.specs.Nodes.{Stands, StandAll, InitsStand}
-use Rattle.typing_rules.specs.Contexts.{Scope, binds, find, isFresh, Context, findName, orElse}
+use Rattle.typing_rules.specs.Contexts.{Scope, binds, find, isFresh, Context, findName, orElse, inner}
 use Rattle.typing_rules.specs.Labels.{Label}
 use Rattle.typing_rules.specs.Operators.{isEquality, operandType, unaryType}
 use Rattle.typing_rules.specs.Rules.{namesFit}
@@ -52,12 +52,11 @@ module _ {T : Tables} (F : File T) {C : Context ℕ} (f : ContextFits T C) where
         needs-ok (hasDefault T (referred T t)) _ _ _ k2 λ q2 k3.
         ok-is (Tail T) k3 (tail (whole e (n + 1) Γ g (s .2) (λ u M i. expr-tail e (n + 1) Γ g (s .2) u M i) u M i))
     expr-tail (arrayWith t x e d) n Γ g s a L j =
-        let h : ScopeFits T (binds Γ x 0 n) = fits-bind g (base-value T F 0 (omega arith)) in
+        let h : ScopeFits T (binds (inner Γ) x 0 n) = fits-bind g (base-value T F 0 (omega arith)) in
         needs-ok (formed T C (referred T t)) _ _ _ j λ q k.
         then-ok (judge T C e (n + 1) Γ) _ k λ u M i k1.
         needs-ok (isKind T u 0) _ _ _ k1 λ q1 k2.
-        needs-ok (isFresh x Γ) _ _ _ k2 λ q2 k3.
-        then-ok (judge T C d (n + 1 + size e) (binds Γ x 0 n)) _ k3 λ v N i1 k4.
+        then-ok (judge T C d (n + 1 + size e) (binds (inner Γ) x 0 n)) _ k2 λ v N i1 k4.
         needs-ok (isBelow T C v (referred T t)) _ _ _ k4 λ q3 k5.
         ok-is (Tail T) k5
         (tail (fit-append (whole e (n + 1) Γ g (s .2) (λ u M i. expr-tail e (n + 1) Γ g (s .2) u M i) u M i)

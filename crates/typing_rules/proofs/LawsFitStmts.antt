@@ -7,7 +7,7 @@ use lib.Dec.{eqb}
 use Rattle.oat.specs.Tables.{Tables, typeAt}
 use Rattle.oat.specs.Syntax.{count, targetExpr, Vars, noVar, nextVar, Condition, noCondition, condition, Stmt, assign, var, returnValue, returnVoid, callStmt, ifElse, ifNull, for, while, Step, noStep, step, Block, block, Stmts, empty, then, size, sizeTarget, sizeVars, sizeCondition, sizeStep, sizeBlock, sizeStmt}
 use Rattle.oat.specs.Nodes.{VarsStand, ConditionStands, StmtStands, StepStands, BlockStands, StmtsStand}
-use Rattle.typing_rules.specs.Contexts.{Scope, binds, isFresh, Context}
+use Rattle.typing_rules.specs.Contexts.{Scope, binds, isFresh, Context, inner}
 use Rattle.typing_rules.specs.Labels.{Label}
 use Rattle.typing_rules.specs.Derivations.{isEmpty}
 use Rattle.typing_rules.specs.Judge.{ok, isKind, referred, isBelow, argumentsBelow, judge, judges, Done, assignsTo, executeVars, judgeCondition, execute, executeStep, executeBlock, executeAll}
@@ -89,35 +89,35 @@ module _ {T : Tables} (F : File T) {C : Context ℕ} (f : ContextFits T C) where
       stmt-fit last (ifElse a b c) n Γ g s d L j =
           then-ok (judge T C a (n + 1) Γ) _ j λ u M i k1.
           needs-ok (isKind T u 1) _ _ _ k1 λ q1 k2.
-          then-ok (executeBlock T C rt b (n + 1 + size a) Γ) _ k2 λ p N i1 k3.
-          then-ok (executeBlock T C rt c (n + 1 + size a + sizeBlock b) Γ) _ k3 λ r O i2 k4.
+          then-ok (executeBlock T C rt b (n + 1 + size a) (inner Γ)) _ k2 λ p N i1 k3.
+          then-ok (executeBlock T C rt c (n + 1 + size a + sizeBlock b) (inner Γ)) _ k3 λ r O i2 k4.
           ok-is (DoneFits T) k4
           (record {
             scope = g;
             labels = fit-label tt
                 (fit-append (expr-fit F f a (n + 1) Γ g (s .1) u M i)
-                (fit-append (block-fit b (n + 1 + size a) Γ g (s .2) p N i1) (block-fit c (n + 1 + size a + sizeBlock b) Γ g (s .3) r O i2)));
+                (fit-append (block-fit b (n + 1 + size a) (inner Γ) g (s .2) p N i1) (block-fit c (n + 1 + size a + sizeBlock b) (inner Γ) g (s .3) r O i2)));
           })
       stmt-fit last (ifNull x t a b c) n Γ g s d L j =
-          let h : ScopeFits T (binds Γ x t n) = fits-bind g (reference-value T t (s .1)) in
+          let h : ScopeFits T (binds (inner Γ) x t n) = fits-bind g (reference-value T t (s .1)) in
           then-ok (judge T C a (n + 1) Γ) _ j λ u M i k1.
           needs-ok (isKind T u 7) _ _ _ k1 λ q1 k2.
           needs-ok (isBelow T C (referred T u) t) _ _ _ k2 λ q2 k3.
-          then-ok (executeBlock T C rt b (n + 1 + size a) (binds Γ x t n)) _ k3 λ p N i1 k4.
-          then-ok (executeBlock T C rt c (n + 1 + size a + sizeBlock b) Γ) _ k4 λ r O i2 k5.
+          then-ok (executeBlock T C rt b (n + 1 + size a) (inner (binds (inner Γ) x t n))) _ k3 λ p N i1 k4.
+          then-ok (executeBlock T C rt c (n + 1 + size a + sizeBlock b) (inner Γ)) _ k4 λ r O i2 k5.
           ok-is (DoneFits T) k5
           (record {
             scope = g;
             labels = fit-label tt
                 (fit-append (expr-fit F f a (n + 1) Γ g (s .2) u M i)
-                (fit-append (block-fit b (n + 1 + size a) (binds Γ x t n) h (s .3) p N i1) (block-fit c (n + 1 + size a + sizeBlock b) Γ g (s .4) r O i2)));
+                (fit-append (block-fit b (n + 1 + size a) (inner (binds (inner Γ) x t n)) h (s .3) p N i1) (block-fit c (n + 1 + size a + sizeBlock b) (inner Γ) g (s .4) r O i2)));
           })
       stmt-fit last (for vs c t b) n Γ g s d L j =
-          then-ok (executeVars T C vs (n + 1) Γ) _ j λ Δ M i k1.
-          let v = vars-fit vs (n + 1) Γ g (s .1) Δ M i in
+          then-ok (executeVars T C vs (n + 1) (inner Γ)) _ j λ Δ M i k1.
+          let v = vars-fit vs (n + 1) (inner Γ) g (s .1) Δ M i in
           then-ok (judgeCondition T C c (n + 1 + sizeVars vs) n Δ) _ k1 λ E N i1 k2.
           then-ok (executeStep T C rt t (n + 1 + sizeVars vs + sizeCondition c) Δ) _ k2 λ p O i2 k3.
-          then-ok (executeBlock T C rt b (n + 1 + sizeVars vs + sizeCondition c + sizeStep t) Δ) _ k3 λ r P i3 k4.
+          then-ok (executeBlock T C rt b (n + 1 + sizeVars vs + sizeCondition c + sizeStep t) (inner Δ)) _ k3 λ r P i3 k4.
           ok-is (DoneFits T) k4
           (record {
             scope = g;
@@ -125,14 +125,14 @@ module _ {T : Tables} (F : File T) {C : Context ℕ} (f : ContextFits T C) where
                 (fit-append (v .labels)
                 (fit-append (condition-fit c (n + 1 + sizeVars vs) n Δ (v .scope) (s .2) E N i1)
                 (fit-append (step-fit t (n + 1 + sizeVars vs + sizeCondition c) Δ (v .scope) (s .3) p O i2)
-                (block-fit b (n + 1 + sizeVars vs + sizeCondition c + sizeStep t) Δ (v .scope) (s .4) r P i3))));
+                (block-fit b (n + 1 + sizeVars vs + sizeCondition c + sizeStep t) (inner Δ) (v .scope) (s .4) r P i3))));
           })
       stmt-fit last (while a b) n Γ g s d L j =
           then-ok (judge T C a (n + 1) Γ) _ j λ u M i k1.
           needs-ok (isKind T u 1) _ _ _ k1 λ q1 k2.
-          then-ok (executeBlock T C rt b (n + 1 + size a) Γ) _ k2 λ p N i1 k3.
+          then-ok (executeBlock T C rt b (n + 1 + size a) (inner Γ)) _ k2 λ p N i1 k3.
           ok-is (DoneFits T) k3
-          (record { scope = g; labels = fit-label tt (fit-append (expr-fit F f a (n + 1) Γ g (s .1) u M i) (block-fit b (n + 1 + size a) Γ g (s .2) p N i1)) })
+          (record { scope = g; labels = fit-label tt (fit-append (expr-fit F f a (n + 1) Γ g (s .1) u M i) (block-fit b (n + 1 + size a) (inner Γ) g (s .2) p N i1)) })
 
       step-fit : (s : Step) (n : ℕ) (Γ : Scope ℕ) → ScopeFits T Γ → StepStands T n s → (p : ℕ) (L : List (Label ℕ)) → executeStep T C rt s n Γ ≡ ok p L → LabelsFit T L
       step-fit noStep n Γ g s p L j = ok-is (λ p L. LabelsFit T L) j (fit-label tt fit-none)

@@ -8,7 +8,7 @@ use lib.Dec.{eqb}
 use Rattle.oat.specs.Tables.{Tables, typeAt}
 use Rattle.oat.specs.Types.{Field, found, lookup}
 use Rattle.oat.specs.Syntax.{Literal, Expr, null, literal, name, arrayLiteral, defaultArray, arrayWith, index, lengthOf, structLiteral, field, call, unary, binary, Exprs, none, also, count, Inits, noInit, init, size}
-use Rattle.typing_rules.specs.Contexts.{Scope, binds, hit, miss, find, isFresh, Context, findName}
+use Rattle.typing_rules.specs.Contexts.{Scope, binds, hit, miss, find, isFresh, Context, findName, inner}
 use Rattle.typing_rules.specs.Operators.{isEquality, operandType, resultType, unaryType, literalType}
 use Rattle.typing_rules.specs.Labels.{Label, unlabelled}
 use Rattle.typing_rules.specs.Rules.{namesFit}
@@ -42,10 +42,10 @@ module _ (T : Tables) (C : Context ℕ) (n : ℕ) (Γ : Scope ℕ) where
   default-ok t a p q r s = rw (p, q, r, s)
 
   pub with-ok : (t x : ℕ) (a b : Expr) {u v : ℕ} {L M : List (Label ℕ)} → formed T C (referred T t) ≡ true → judge T C a (n + 1) Γ ≡ ok u L
-      → isKind T u 0 ≡ true → isFresh x Γ ≡ true → judge T C b (n + 1 + size a) (binds Γ x 0 n) ≡ ok v M
+      → isKind T u 0 ≡ true → judge T C b (n + 1 + size a) (binds (inner Γ) x 0 n) ≡ ok v M
       → isBelow T C v (referred T t) ≡ true → judge T C (arrayWith t x a b) n Γ ≡ plain t Γ (L ++ M)
   unfolding judge
-  with-ok t x a b p q r s w z = rw (p, q, r, s, w, z)
+  with-ok t x a b p q r w z = rw (p, q, r, w, z)
 
   pub index-ok : (a b : Expr) {t u : ℕ} {L M : List (Label ℕ)} → judge T C a (n + 1) Γ ≡ ok t L → isKind T t 5 ≡ true
       → judge T C b (n + 1 + size a) Γ ≡ ok u M → isKind T u 0 ≡ true → judge T C (index a b) n Γ ≡ plain (referred T t) Γ (L ++ M)

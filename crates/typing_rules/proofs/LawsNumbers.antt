@@ -10,14 +10,14 @@ use Rattle.oat.specs.Tables.{Tables, typeAt, structAt, builtInAt}
 use Rattle.oat.specs.Types.{Field, Lookup, found, missing, lookup, structOf}
 use Rattle.oat.specs.Syntax.{Expr, null, literal, name, arrayLiteral, defaultArray, arrayWith, index, lengthOf, structLiteral, field, call, unary, binary, Exprs, none, also, count, Inits, noInit, init, targetExpr, Vars, noVar, nextVar, Condition, noCondition, condition, Stmt, assign, var, returnValue, returnVoid, callStmt, ifElse, ifNull, for, while, Step, noStep, step, Block, block, Stmts, empty, then, size, sizeTarget, sizeVars, sizeCondition, sizeStep, sizeBlock, sizeStmt}
 use Rattle.oat.specs.ProgramFile.{Program}
-use Rattle.typing_rules.specs.Contexts.{Scope, empty as emptyScope, binds, Hit, hit, miss, find, isFresh, Context, findName, orElse}
+use Rattle.typing_rules.specs.Contexts.{Scope, empty as emptyScope, binds, Hit, hit, miss, find, isFresh, Context, findName, orElse, inner, isMiss}
 use Rattle.typing_rules.specs.Labels.{Label}
 use Rattle.typing_rules.specs.Operators.{isEquality, operandType, unaryType}
 use Rattle.typing_rules.specs.Rules.{namesFit}
 use Rattle.typing_rules.specs.Derivations.{isEmpty}
 use Rattle.typing_rules.specs.Judge.{Out, ok, no, andThen, needs, isKind, referred, isBelow, formed, hasDefault, eachBelow, argumentsBelow, named, Number, number, unknown, fieldOf, fieldType, onDeclared, initsBelow, judge, judges, judgeInits, assignsTo, executeVars, judgeCondition, execute, executeStep, executeBlock, executeAll}
 use Rattle.typing_rules.specs.Steps.{Step as CheckStep, structName, builtIn, heading, globalValue, structFields, body, stepsOf, distinctFields, distinctNames, parameters, emptyContext}
-use Rattle.typing_rules.specs.Check.{isMissing, isMiss, fieldsFormed, runStep, Segment, Ran, accepted, refused, withSegment, onStep, run}
+use Rattle.typing_rules.specs.Check.{isMissing, fieldsFormed, runStep, Segment, Ran, accepted, refused, withSegment, onStep, run}
 use Rattle.typing_rules.proofs.Theorem.{runOf}
 
 -- the number of a premise
@@ -105,9 +105,8 @@ module _ (T : Tables) (C : Context ℕ) where
         needs-in (formed T C (referred T t)) n p9
         (then-in (expr-in a (n + 1) Γ) λ u L.
         needs-in (isKind T u 0) n p10
-        (needs-in (isFresh x Γ) n p7
-        (then-in (expr-in b (n + 1 + size a) (binds Γ x 0 n)) λ v M.
-        needs-in (isBelow T C v (referred T t)) n p11 ok-in)))
+        (then-in (expr-in b (n + 1 + size a) (binds (inner Γ) x 0 n)) λ v M.
+        needs-in (isBelow T C v (referred T t)) n p11 ok-in))
     expr-in (index a b) n Γ =
         then-in (expr-in a (n + 1) Γ) λ t L.
         needs-in (isKind T t 5) n p10
@@ -199,26 +198,26 @@ module _ (T : Tables) (C : Context ℕ) where
       stmt-in last (ifElse a b c) n Γ =
           then-in (expr-in a (n + 1) Γ) λ t L.
           needs-in (isKind T t 1) n p10
-          (then-in (block-in b (n + 1 + size a) Γ) λ p M.
-          then-in (block-in c (n + 1 + size a + sizeBlock b) Γ) λ q N.
+          (then-in (block-in b (n + 1 + size a) (inner Γ)) λ p M.
+          then-in (block-in c (n + 1 + size a + sizeBlock b) (inner Γ)) λ q N.
           ok-in)
       stmt-in last (ifNull x t a b c) n Γ =
           then-in (expr-in a (n + 1) Γ) λ u L.
           needs-in (isKind T u 7) n p10
           (needs-in (isBelow T C (referred T u) t) n p11
-          (then-in (block-in b (n + 1 + size a) (binds Γ x t n)) λ p M.
-          then-in (block-in c (n + 1 + size a + sizeBlock b) Γ) λ q N.
+          (then-in (block-in b (n + 1 + size a) (inner (binds (inner Γ) x t n))) λ p M.
+          then-in (block-in c (n + 1 + size a + sizeBlock b) (inner Γ)) λ q N.
           ok-in))
       stmt-in last (for vs c s b) n Γ =
-          then-in (vars-in vs (n + 1) Γ) λ Δ L.
+          then-in (vars-in vs (n + 1) (inner Γ)) λ Δ L.
           then-in (condition-in c (n + 1 + sizeVars vs) n Δ) λ Δ₁ M.
           then-in (step-in s (n + 1 + sizeVars vs + sizeCondition c) Δ) λ p N.
-          then-in (block-in b (n + 1 + sizeVars vs + sizeCondition c + sizeStep s) Δ) λ q O.
+          then-in (block-in b (n + 1 + sizeVars vs + sizeCondition c + sizeStep s) (inner Δ)) λ q O.
           ok-in
       stmt-in last (while a b) n Γ =
           then-in (expr-in a (n + 1) Γ) λ t L.
           needs-in (isKind T t 1) n p10
-          (then-in (block-in b (n + 1 + size a) Γ) λ p M.
+          (then-in (block-in b (n + 1 + size a) (inner Γ)) λ p M.
           ok-in)
 
       step-in : (s : Step) (n : ℕ) (Γ : Scope ℕ) → InRange (executeStep T C rt s n Γ)

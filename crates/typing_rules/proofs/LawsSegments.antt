@@ -13,11 +13,11 @@ use Rattle.oat.specs.Types.{Ty}
 use Rattle.oat.specs.Syntax.{Expr, Block, size, sizeBlock}
 use Rattle.oat.specs.Nodes.{Stands}
 use Rattle.oat.proofs.LawsTables.{has-kind}
-use Rattle.typing_rules.specs.Contexts.{empty, Context, findName}
+use Rattle.typing_rules.specs.Contexts.{empty, Context, findName, isMiss}
 use Rattle.typing_rules.specs.Labels.{marks, Label, Labels, unlabelled}
 use Rattle.typing_rules.specs.Judge.{ok, referred, judge, executeBlock}
 use Rattle.typing_rules.specs.Steps.{Step, structName, builtIn, heading, globalValue, structFields, body, distinctNames, StepRule, typ-fdeclok}
-use Rattle.typing_rules.specs.Check.{isMiss, Segment, accepted, withSegment, rowsOf, parameterRows, stepRows, rowsBegin, nodeCount, runStep, run, segmentAt}
+use Rattle.typing_rules.specs.Check.{Segment, accepted, withSegment, rowsOf, parameterRows, stepRows, rowsBegin, nodeCount, runStep, run, segmentAt}
 use Rattle.typing_rules.specs.Rows.{RowsAre, rows-node, labelsFrom, ParametersAre, parameters-none, parameters-next}
 use Rattle.typing_rules.proofs.Claims.{File, fits-empty, ContextFits, erase, Holds}
 use Rattle.typing_rules.proofs.LawsBridge.{erase-long}

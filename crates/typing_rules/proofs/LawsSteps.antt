@@ -22,13 +22,13 @@ use Rattle.oat.proofs.LawsBasics.{below-or-last}
 use Rattle.oat.proofs.LawsSame.{iff-then, and-says}
 use Rattle.oat.proofs.LawsTypes.{FunctionType}
 use Rattle.oat.proofs.LawsTables.{HasKind, has-kind}
-use Rattle.typing_rules.specs.Contexts.{Scope, empty, Hit, hit, miss, Context, findName}
+use Rattle.typing_rules.specs.Contexts.{Scope, empty, Hit, hit, miss, Context, findName, isMiss}
 use Rattle.typing_rules.specs.Derivations.{Derives, DerivesBlock}
 use Rattle.typing_rules.specs.Labels.{Result, marks, Label, Labels, unlabelled}
 use Rattle.typing_rules.specs.Judge.{ok, formed, referred, judge, executeBlock}
 use Rattle.typing_rules.specs.Steps.{Step, structName, builtIn, heading, globalValue, structFields, body, distinctFields, distinctNames, FieldsFormed, formed-noField, formed-field, parameters, Unlabelled, StepRule, typ-stdecl, typ-builtin, typ-ftyp, typ-ggdecl, typ-tdeclok, typ-fdeclok, addName, addStruct, contextAfter}
-use Rattle.typing_rules.specs.Check.{isMissing, isMiss, fieldsFormed, runStep, rowsBegin, nodeCount}
-use Rattle.typing_rules.proofs.Claims.{File, Value, ScopeFits, fits-empty, fits-bind, fits-name, ContextFits, eraseScope, eraseNames, eraseContext, erase, Holds}
+use Rattle.typing_rules.specs.Check.{isMissing, fieldsFormed, runStep, rowsBegin, nodeCount}
+use Rattle.typing_rules.proofs.Claims.{File, Value, ScopeFits, fits-empty, fits-bind, fits-name, ContextFits, eraseScope, eraseNames, eraseContext, erase, Holds, eraseBindings}
 use Rattle.typing_rules.proofs.LawsBridge.{eraseHit, name-erase, formed-value, erase-append, erase-long, holds-split, holds-join}
 use Rattle.typing_rules.proofs.LawsOutcome.{ok-is, then-ok, needs-ok}
 use Rattle.typing_rules.proofs.LawsGather.{expr-covered, block-covered}
@@ -100,7 +100,7 @@ fields-within T i m h = sum-within (λ j. structAt T j .count) i m h
 module _ (T : Tables) where
   parameters-written : (xs : List ℕ) (Γ : Scope ℕ) (p m : ℕ)
       → eraseScope T (parameters (λ a. a) T Γ p m xs) ≡ parameters (typeOf T) T (eraseScope T Γ) p m xs
-  unfolding parameters eraseScope
+  unfolding parameters eraseBindings
   parameters-written [] Γ p m = refl
   parameters-written (x ∷ xs) Γ p m = parameters-written xs _ (suc p) (suc m)
 
@@ -135,7 +135,7 @@ module _ (T : Tables) (F : File T) (t : ℕ) (h : hasKind T t 6 ≡ true) where
 -- nodes that are given nothing
 module _ (T : Tables) (D : Labels Ty) where
   none-labelled : (k n : ℕ) → Holds D n (erase T (replicate k unlabelled)) ↔ Unlabelled D n k
-  unfolding Holds erase eraseScope Unlabelled
+  unfolding Holds erase eraseBindings Unlabelled
   none-labelled zero n = (λ h. tt, λ h. tt)
   none-labelled (suc k) n =
       let (l, r) = none-labelled k (suc n) in
@@ -240,7 +240,7 @@ module _ (T : Tables) (F : File T) (C : Context ℕ) (f : ContextFits T C) where
 
   right-global : (n x : ℕ) (a : Expr) (t : ℕ) (L : List (Label ℕ)) → Stands T (n + 1) a → judge T C a (n + 1) empty ≡ ok t L
       → isMiss (findName x (C .names)) ≡ true → RightStep T C (globalValue n x a) (addName C x t n true) (unlabelled ∷ L)
-  unfolding contextAfter eraseNames eraseScope erase Holds rowsBegin
+  unfolding contextAfter eraseNames eraseBindings erase Holds rowsBegin
   right-global n x a t L h e g =
       let r = sound T F C f a (n + 1) empty t L fits-empty h e in
       record {
@@ -265,7 +265,7 @@ module _ (T : Tables) (F : File T) (C : Context ℕ) (f : ContextFits T C) where
   right-body : (n t : ℕ) (ps : List ℕ) (b : Block) (p : ℕ) (L : List (Label ℕ)) → StepStands T (length (C .structs)) (body n t ps b)
       → distinctNames ps ≡ true → executeBlock T C (referred T t) b (n + 1 + length ps) (parameterScope T n t ps) ≡ ok p L → eqb p 1 ≡ true
       → RightStep T C (body n t ps b) C (replicate (1 + length ps) unlabelled ++ L)
-  unfolding contextAfter rowsBegin eraseScope
+  unfolding contextAfter rowsBegin eraseBindings
   right-body n t ps b p L h d e g =
       let r = sound-block T F C f (referred T t) b _ _ p L (returns-within T F t (h .0)) (scope-fits T F t (h .0) n ps (h .1)) (h .2) e in
       record {
@@ -320,7 +320,7 @@ same-mark e f = cc
 module _ (T : Tables) (F : File T) (C : Context ℕ) (f : ContextFits T C) (D : Labels Ty) where
   complete-global : (n x : ℕ) (a : Expr) → Stands T (n + 1) a → D n ≡ unlabelled → D (n + 1) .before ≡ empty
       → Derives T (eraseContext T C) D a (n + 1) → findName x (eraseContext T C .names) ≡ miss → AcceptedStep T C D (globalValue n x a)
-  unfolding runStep eraseScope erase Holds rowsBegin
+  unfolding runStep eraseBindings erase Holds rowsBegin
   complete-global n x a h u b d m =
       let A = complete T F C f D a (n + 1) empty fits-empty h d b in
       record {
@@ -334,7 +334,7 @@ module _ (T : Tables) (F : File T) (C : Context ℕ) (f : ContextFits T C) (D : 
       → Unlabelled D n (1 + length ps) → D (n + 1 + length ps) .before ≡ parameters (typeOf T) T empty (typeAt T t .b) (n + 1) ps
       → DerivesBlock T (eraseContext T C) D (typeOf T (typeAt T t .a)) b (n + 1 + length ps) → D (n + 1 + length ps) .result ≡ marks 1
       → AcceptedStep T C D (body n t ps b)
-  unfolding runStep eraseScope rowsBegin
+  unfolding runStep eraseBindings rowsBegin
   complete-body n t ps b h d u e k m =
       let A = complete-block T F C f D (referred T t) b (n + 1 + length ps) (parameterScope T n t ps) (returns-within T F t (h .0))
       (scope-fits T F t (h .0) n ps (h .1)) (h .2) k (e ∙ sym (parameters-written T ps empty (typeAt T t .b) (n + 1))) in

@@ -3,6 +3,7 @@ pub mod Claims
 pub mod Complete
 pub mod CompleteStmts
 pub mod Endless
+pub mod LawsAlike
 pub mod LawsBridge
 pub mod LawsComputed
 pub mod LawsExecute

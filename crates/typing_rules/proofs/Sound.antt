@@ -16,13 +16,13 @@ use Rattle.oat.specs.Syntax.{Literal, truth, falsity, integer, text, Expr, null
 use Rattle.oat.specs.Nodes.{Stands, StandAll, InitsStand}
 use Rattle.oat.proofs.LawsBasics.{and-parts}
 use Rattle.oat.proofs.LawsTables.{HasKind, has-kind}
-use Rattle.typing_rules.specs.Contexts.{Scope, binds, Hit, hit, miss, find, isFresh, Context, findName, orElse}
+use Rattle.typing_rules.specs.Contexts.{Scope, binds, Hit, hit, miss, find, isFresh, Context, findName, orElse, inner}
 use Rattle.typing_rules.specs.Operators.{isEquality, operandType, resultType, unaryType, literalType}
 use Rattle.typing_rules.specs.Labels.{gives, Label, Labels, unlabelled}
 use Rattle.typing_rules.specs.Rules.{Typed, Has, TypedAll, typed-none, typed-also, TypedInits, typed-noInit, typed-init, namesFit, ExprRule, typ-null, typ-literal, typ-local, typ-global, typ-carr, typ-newarray, typ-newarrayinit, typ-index, typ-length, typ-structex, typ-field, typ-call, typ-bop, typ-eq, typ-uop}
 use Rattle.typing_rules.specs.Derivations.{At, AtAll, AtInits, Derives}
 use Rattle.typing_rules.specs.Judge.{ok, judge, judges, judgeInits, typedAs, plain, isKind, referred, isBelow, formed, hasDefault, eachBelow, argumentsBelow, number, fieldOf, initsBelow}
-use Rattle.typing_rules.proofs.Claims.{File, Value, ScopeFits, fits-bind, ContextFits, eraseScope, eraseContext, erase, Holds}
+use Rattle.typing_rules.proofs.Claims.{File, Value, ScopeFits, fits-bind, ContextFits, eraseScope, eraseContext, erase, Holds, eraseBindings}
 use Rattle.typing_rules.proofs.LawsBridge.{typesOf, Values, values-none, values-also, eraseHit, find-erase, fresh-erase, name-erase, find-value, name-value, is-base, is-void, is-struct, is-array, is-function, is-nullable, array-parts, function-parts, default-is, base-is, base-value, below-sub, formed-value, formed-null, each-below, arguments-below, inits-below, member-value, field-found}
 use Rattle.typing_rules.proofs.LawsOutcome.{ok-is, then-ok, needs-ok, named-ok, field-ok, declared-ok}
 use Rattle.typing_rules.proofs.LawsHolds.{labels-split}
@@ -73,7 +73,7 @@ has-as g e = rw e at (g .has)
 -- a field initializer has no label of its own
 init-split : (T : Tables) (D : Labels Ty) (n k : ℕ) (M N : List (Label ℕ)) → length M ≡ k → Holds D n (erase T (unlabelled ∷ M ++ N))
     → (D n ≡ unlabelled) × Holds D (n + 1) (erase T M) × Holds D (n + 1 + k) (erase T N)
-unfolding Holds erase eraseScope
+unfolding Holds erase eraseBindings
 init-split T D n k M N l (e, h) = let (x, y) = labels-split T D (n + 1) k M N l h in (e, x, y)
 
 -- a premise on a child
@@ -136,7 +136,7 @@ local-or-global miss k e p q = q refl e
 
 -- the scope of an array's initial value has the index
 index-bound : (T : Tables) → File T → (x n : ℕ) (Γ : Scope ℕ) {S : Scope Ty} → S ≡ eraseScope T Γ → eraseScope T (binds Γ x 0 n) ≡ binds S x int n
-unfolding eraseScope
+unfolding eraseBindings
 index-bound T F x n Γ p = λ i. binds (sym p i) x (base-is T F 0 (omega arith) i) n
 
 module _ (T : Tables) (F : File T) (C : Context ℕ) (f : ContextFits T C) where
@@ -209,17 +209,17 @@ module _ (T : Tables) (F : File T) (C : Context ℕ) (f : ContextFits T C) where
         (λ D g h. at-defaultArray (typ-newarray _ (z .is) w (said g ra h e) d (has-as g (z .is))) (ra .derives D h)) j
 
     with-right : {t x : ℕ} {a b : Expr} {u v : ℕ} {M N : List (Label ℕ)} → hasKind T t 5 ≡ true → formed T C (referred T t) ≡ true
-        → isKind T u 0 ≡ true → isFresh x Γ ≡ true → isBelow T C v (referred T t) ≡ true → Right T C a (n + 1) Γ u M
-        → Right T C b (n + 1 + size a) (binds Γ x 0 n) v N → plain t Γ (M ++ N) ≡ ok r L → Right T C (arrayWith t x a b) n Γ r L
-    with-right {t} {x} {a} {b} {u} {v} {M} {N} h fo ku fr be ra rb j =
+        → isKind T u 0 ≡ true → isBelow T C v (referred T t) ≡ true → Right T C a (n + 1) Γ u M
+        → Right T C b (n + 1 + size a) (binds (inner Γ) x 0 n) v N → plain t Γ (M ++ N) ≡ ok r L → Right T C (arrayWith t x a b) n Γ r L
+    with-right {t} {x} {a} {b} {u} {v} {M} {N} h fo ku be ra rb j =
         let z = array-type T F t h in
         let w = formed-value T F C _ (z .element) .0 fo in
         let e = is-base T F u (ra .value .within) 0 (omega arith) .0 ku in
         let sub = below-sub T F C v _ (rb .value) (z .element) .0 be in
         right-two (arrayWith t x a b) t M N _ _ (z .value) (ra .long) (rb .long) refl
         (λ D g h k. at-arrayWith
-        (typ-newarrayinit _ (typeOf T v) (z .is) w (said g ra h e) (rw (g .before) (fresh-erase T x Γ ∙ fr))
-        (record { scope = rb .before D k ∙ index-bound T F x n Γ (g .before); type = rb .result D k }) sub (has-as g (z .is)))
+        (typ-newarrayinit _ (typeOf T v) (z .is) w (said g ra h e)
+        (record { scope = rb .before D k ∙ index-bound T F x n (inner Γ) (ap (λ (G : Scope Ty). inner G) (g .before)); type = rb .result D k }) sub (has-as g (z .is)))
         (ra .derives D h) (rb .derives D k)) j
 
     index-right : {a b : Expr} {t u : ℕ} {M N : List (Label ℕ)} → isKind T t 5 ≡ true → isKind T u 0 ≡ true → Right T C a (n + 1) Γ t M
@@ -381,11 +381,10 @@ module _ (T : Tables) (F : File T) (C : Context ℕ) (f : ContextFits T C) where
         needs-ok (formed T C (referred T t)) _ _ _ j λ fo j₁.
         then-ok (judge T C a (n + 1) Γ) _ j₁ λ u M ja j₂.
         needs-ok (isKind T u 0) _ _ _ j₂ λ ku j₃.
-        needs-ok (isFresh x Γ) _ _ _ j₃ λ fr j₄.
-        then-ok (judge T C b (n + 1 + size a) (binds Γ x 0 n)) _ j₄ λ v N jb j₅.
+        then-ok (judge T C b (n + 1 + size a) (binds (inner Γ) x 0 n)) _ j₃ λ v N jb j₅.
         needs-ok (isBelow T C v (referred T t)) _ _ _ j₅ λ be j₆.
-        with-right (s .1) fo ku fr be (sound a (n + 1) Γ u M g (s .2) ja)
-        (sound b (n + 1 + size a) (binds Γ x 0 n) v N (fits-bind g (base-value T F 0 (omega arith))) (s .3) jb) j₆
+        with-right (s .1) fo ku be (sound a (n + 1) Γ u M g (s .2) ja)
+        (sound b (n + 1 + size a) (binds (inner Γ) x 0 n) v N (fits-bind g (base-value T F 0 (omega arith))) (s .3) jb) j₆
     sound (index a b) n Γ r L g s j =
         then-ok (judge T C a (n + 1) Γ) _ j λ t M ja j₁.
         needs-ok (isKind T t 5) _ _ _ j₁ λ kt j₂.

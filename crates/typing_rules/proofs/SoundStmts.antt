@@ -13,12 +13,12 @@ use Rattle.oat.specs.Types.{Ty, bool, void, function, writtenParams, typeOf}
 use Rattle.oat.specs.Syntax.{Expr, Exprs, Target, targetExpr, Vars, noVar, nextVar, Condition, noCondition, condition, Stmt, assign, var, returnValue, returnVoid, callStmt, ifElse, ifNull, for, while, Step, noStep, step, Block, block, Stmts, empty, then, size, count, sizeTarget, sizeVars, sizeCondition, sizeStep, sizeBlock, sizeStmt, sizeStmts}
 use Rattle.oat.specs.Nodes.{Stands, StandAll, VarsStand, ConditionStands, StmtStands, StepStands, BlockStands, StmtsStand, hasReferenceKind}
 use Rattle.oat.proofs.LawsBasics.{and-parts}
-use Rattle.typing_rules.specs.Contexts.{Scope, binds, isFresh, Context}
+use Rattle.typing_rules.specs.Contexts.{Scope, binds, isFresh, Context, inner}
 use Rattle.typing_rules.specs.Labels.{gives, marks, Label, Labels, unlabelled}
 use Rattle.typing_rules.specs.Rules.{assigns, Typed, Marked, Ends, TypedAll, ExprRule, both, VarsChain, ConditionHolds, StepGoesOn, Chain, StmtRule, typ-assn, typ-decl, typ-rett, typ-retvoid, typ-scall, typ-if, typ-ifq, typ-while, typ-for, BlockRule, typ-block, whileMark}
 use Rattle.typing_rules.specs.Derivations.{AtAll, Node, AtVars, at-var, in-var, in-vars, AtCondition, in-condition, InStmt, in-target, in-assigned, in-initial, in-returned, in-called, in-passed, in-test, in-then, in-else, in-nullable, in-some, in-null, in-for-vars, in-for-condition, in-for-step, in-for-body, in-while-test, in-while-body, AtStep, at-step, in-step, AtBlock, here-block, in-block, AtStmts, at-stmt, in-stmt, in-stmts, RuleAt, Derives, DerivesBlock, isEmpty}
 use Rattle.typing_rules.specs.Judge.{ok, markedAs, Done, done, isKind, referred, isBelow, argumentsBelow, judge, judges, assignsTo, executeVars, judgeCondition, execute, executeStep, executeBlock, executeAll}
-use Rattle.typing_rules.proofs.Claims.{File, Value, ScopeFits, fits-bind, ContextFits, eraseScope, eraseContext, erase, Holds}
+use Rattle.typing_rules.proofs.Claims.{File, Value, ScopeFits, fits-bind, ContextFits, eraseScope, eraseContext, erase, Holds, eraseBindings}
 use Rattle.typing_rules.proofs.LawsBridge.{typesOf, fresh-erase, assigns-erase, is-base, is-void, is-function, is-nullable, function-parts, nullable-parts, below-sub, arguments-below}
 use Rattle.typing_rules.proofs.LawsOutcome.{IfOk, ok-says, needs-says, then-says}
 use Rattle.typing_rules.proofs.LawsHolds.{labels-split, Labelled, one-part, two-parts, three-parts}
@@ -166,7 +166,7 @@ module _ {T : Tables} {D : Labels Ty} {n p : ℕ} {Γ Δ : Scope ℕ} (h : Label
 
   -- a name bound at the node
   binds-is : (x t : ℕ) → binds (D n .before) x (typeOf T t) n ≡ eraseScope T (binds Γ x t n)
-  unfolding eraseScope
+  unfolding eraseBindings
   binds-is x t = ap (λ (G : Scope Ty). binds G x (typeOf T t) n) before-is
 
   says-of : {C : Context ℕ} {rt : ℕ} {last : Bool} {s : Stmt} → StmtRule T (eraseContext T C) D (typeOf T rt) last n s
@@ -175,7 +175,7 @@ module _ {T : Tables} {D : Labels Ty} {n p : ℕ} {Γ Δ : Scope ℕ} (h : Label
 
 -- a node that is given nothing
 not-labelled : (T : Tables) (D : Labels Ty) (n : ℕ) → Holds D n (erase T (unlabelled ∷ [])) → D n ≡ unlabelled
-unfolding Holds erase eraseScope
+unfolding Holds erase eraseBindings
 not-labelled T D n h = h .0
 
 -- tests that pass
@@ -273,19 +273,19 @@ module _ {T : Tables} {C : Context ℕ} {rt n : ℕ} {last : Bool} {Γ : Scope �
   }
 
   right-while : {L M : List (Label ℕ)} {a : Expr} {b : Block} {i p : ℕ} → Right T C a (n + 1) Γ i L → isKind T i 1 ≡ true
-      → RightBlock T C rt b (n + 1 + size a) Γ p M → RightStmt T C rt last (while a b) n Γ (done (whileMark last a) Γ) (markedAs (whileMark last a) Γ Γ ∷ L ++ M)
+      → RightBlock T C rt b (n + 1 + size a) (inner Γ) p M → RightStmt T C rt last (while a b) n Γ (done (whileMark last a) Γ) (markedAs (whileMark last a) Γ Γ ∷ L ++ M)
   right-while {L} {M} {a} {b} {i} {p} r e q = record {
     fits = g;
     long = simp (length-append, r .long, q .long) (omega arith);
     says = λ D h.
         let (k, x, y) = two-parts T D n L (size a) (r .long) M h in
         let B = before-is k in
-        let rule = typ-while p (typed-child r x B (is-bool T F (r .value) e)) (marked-child q y B) (ends-with k B) in
+        let rule = typ-while p (typed-child r x B (is-bool T F (r .value) e)) (marked-child q y (ap (λ (G : Scope Ty). inner G) B)) (ends-with k B) in
         says-of k rule (rules-while (r .derives D x) (q .derives D y));
   }
 
   right-if : {L M N : List (Label ℕ)} {a : Expr} {b c : Block} {i p q : ℕ} → Right T C a (n + 1) Γ i L → isKind T i 1 ≡ true
-      → RightBlock T C rt b (n + 1 + size a) Γ p M → RightBlock T C rt c (n + 1 + size a + sizeBlock b) Γ q N
+      → RightBlock T C rt b (n + 1 + size a) (inner Γ) p M → RightBlock T C rt c (n + 1 + size a + sizeBlock b) (inner Γ) q N
       → RightStmt T C rt last (ifElse a b c) n Γ (done (both p q) Γ) (markedAs (both p q) Γ Γ ∷ L ++ (M ++ N))
   right-if {L} {M} {N} {a} {b} {c} {i} {p} {q} r e v w = record {
     fits = g;
@@ -293,14 +293,15 @@ module _ {T : Tables} {C : Context ℕ} {rt n : ℕ} {last : Bool} {Γ : Scope �
     says = λ D h.
         let (k, x, y, z) = three-parts T D n L (size a) (r .long) M (sizeBlock b) (v .long) N h in
         let B = before-is k in
-        let rule = typ-if p q (typed-child r x B (is-bool T F (r .value) e)) (marked-child v y B) (marked-child w z B) (ends-with k B) in
+        let rule = typ-if p q (typed-child r x B (is-bool T F (r .value) e)) (marked-child v y (ap (λ (G : Scope Ty). inner G) B)) (marked-child w z (ap (λ (G : Scope Ty). inner G) B)) (ends-with k B) in
         says-of k rule (rules-if (r .derives D x) (v .derives D y) (w .derives D z));
   }
 
   right-null : {L M N : List (Label ℕ)} {x t : ℕ} {a : Expr} {b c : Block} {i p q : ℕ} → Value T t → Right T C a (n + 1) Γ i L → isKind T i 7 ≡ true
-      → isBelow T C (referred T i) t ≡ true → RightBlock T C rt b (n + 1 + size a) (binds Γ x t n) p M
-      → RightBlock T C rt c (n + 1 + size a + sizeBlock b) Γ q N
+      → isBelow T C (referred T i) t ≡ true → RightBlock T C rt b (n + 1 + size a) (inner (binds (inner Γ) x t n)) p M
+      → RightBlock T C rt c (n + 1 + size a + sizeBlock b) (inner Γ) q N
       → RightStmt T C rt last (ifNull x t a b c) n Γ (done (both p q) Γ) (markedAs (both p q) Γ Γ ∷ L ++ (M ++ N))
+  unfolding eraseBindings
   right-null {L} {M} {N} {x} {t} {a} {b} {c} {i} {p} {q} o r e l v w = record {
     fits = g;
     long = simp (length-append, r .long, v .long, w .long) (omega arith);
@@ -309,14 +310,14 @@ module _ {T : Tables} {C : Context ℕ} {rt n : ℕ} {last : Bool} {Γ : Scope �
         let B = before-is k in
         let null-is = is-nullable T F i (r .value .within) .0 e in
         let sub = below-sub T F C (referred T i) t (nullable-parts T F i (r .value .within) _ null-is .2) o .0 l in
-        let rule = typ-ifq _ p q (typed-child r y B null-is) sub (marked-child v z (binds-is k x t)) (marked-child w u B) (ends-with k B) in
+        let rule = typ-ifq _ p q (typed-child r y B null-is) sub (marked-child v z (ap (λ (G : Scope Ty). inner (binds (inner G) x (typeOf T t) n)) B)) (marked-child w u (ap (λ (G : Scope Ty). inner G) B)) (ends-with k B) in
         says-of k rule (rules-null (r .derives D y) (v .derives D z) (w .derives D u));
   }
 
   right-for : {L M N O : List (Label ℕ)} {vs : Vars} {c : Condition} {s : Step} {b : Block} {Δ E : Scope ℕ} {p q : ℕ}
-      → RightVars T C rt vs (n + 1) Γ Δ L → RightCondition T C rt c (n + 1 + sizeVars vs) Δ E M
+      → RightVars T C rt vs (n + 1) (inner Γ) Δ L → RightCondition T C rt c (n + 1 + sizeVars vs) Δ E M
       → RightStep T C rt s (n + 1 + sizeVars vs + sizeCondition c) Δ p N
-      → RightBlock T C rt b (n + 1 + sizeVars vs + sizeCondition c + sizeStep s) Δ q O
+      → RightBlock T C rt b (n + 1 + sizeVars vs + sizeCondition c + sizeStep s) (inner Δ) q O
       → RightStmt T C rt last (for vs c s b) n Γ (done 0 Γ) (markedAs 0 Γ Γ ∷ L ++ (M ++ (N ++ O)))
   right-for {L} {M} {N} {O} {vs} {c} {s} {b} {Δ} {E} {p} {q} r e v w = record {
     fits = g;
@@ -325,7 +326,7 @@ module _ {T : Tables} {C : Context ℕ} {rt n : ℕ} {last : Bool} {Γ : Scope �
         let (k, x, y, zu) = three-parts T D n L (sizeVars vs) (r .long) M (sizeCondition c) (e .long) (N ++ O) h in
         let (z, u) = labels-split T D (n + 1 + sizeVars vs + sizeCondition c) (sizeStep s) N O (v .long) zu in
         let B = before-is k in
-        let chain : VarsChain D (n + 1) vs (D n .before) (eraseScope T Δ) = rw B (r .chain D x) in
+        let chain : VarsChain D (n + 1) vs (inner (D n .before)) (eraseScope T Δ) = rw B (r .chain D x) in
         let rule = typ-for (eraseScope T Δ) q chain (e .holds D y) (v .goes D z) (marked-child w u refl) (ends-with k B) in
         says-of k rule (rules-for (r .derives D x) (e .derives D y) (v .derives D z) (w .derives D u));
   }
@@ -455,27 +456,27 @@ module _ (T : Tables) (F : File T) (C : Context ℕ) (f : ContextFits T C) (rt :
     stmt-says last (ifElse a b c) n Γ g s =
         then-says _ _ (expr-says a (n + 1) Γ g (s .1)) λ t L r.
         needs-says _ _ _ _ λ e.
-        then-says _ _ (block-says b (n + 1 + size a) Γ g (s .2)) λ p M v.
-        then-says _ _ (block-says c (n + 1 + size a + sizeBlock b) Γ g (s .3)) λ q N w.
+        then-says _ _ (block-says b (n + 1 + size a) (inner Γ) g (s .2)) λ p M v.
+        then-says _ _ (block-says c (n + 1 + size a + sizeBlock b) (inner Γ) g (s .3)) λ q N w.
         ok-says (right-if F g r e v w)
     stmt-says last (ifNull x t a b c) n Γ g s =
         let o = reference-value T F t (s .1) in
         then-says _ _ (expr-says a (n + 1) Γ g (s .2)) λ i L r.
         needs-says _ _ _ _ λ e.
         needs-says _ _ _ _ λ k.
-        then-says _ _ (block-says b (n + 1 + size a) (binds Γ x t n) (fits-bind g o) (s .3)) λ p M v.
-        then-says _ _ (block-says c (n + 1 + size a + sizeBlock b) Γ g (s .4)) λ q N w.
+        then-says _ _ (block-says b (n + 1 + size a) (inner (binds (inner Γ) x t n)) (fits-bind g o) (s .3)) λ p M v.
+        then-says _ _ (block-says c (n + 1 + size a + sizeBlock b) (inner Γ) g (s .4)) λ q N w.
         ok-says (right-null F g o r e k v w)
     stmt-says last (for vs c s b) n Γ g h =
-        then-says _ _ (vars-say vs (n + 1) Γ g (h .1)) λ Δ L r.
+        then-says _ _ (vars-say vs (n + 1) (inner Γ) g (h .1)) λ Δ L r.
         then-says _ _ (condition-says c (n + 1 + sizeVars vs) n Δ (r .fits) (h .2)) λ E M e.
         then-says _ _ (step-says s (n + 1 + sizeVars vs + sizeCondition c) Δ (r .fits) (h .3)) λ p N v.
-        then-says _ _ (block-says b (n + 1 + sizeVars vs + sizeCondition c + sizeStep s) Δ (r .fits) (h .4)) λ q O w.
+        then-says _ _ (block-says b (n + 1 + sizeVars vs + sizeCondition c + sizeStep s) (inner Δ) (r .fits) (h .4)) λ q O w.
         ok-says (right-for F g r e v w)
     stmt-says last (while a b) n Γ g s =
         then-says _ _ (expr-says a (n + 1) Γ g (s .1)) λ t L r.
         needs-says _ _ _ _ λ e.
-        then-says _ _ (block-says b (n + 1 + size a) Γ g (s .2)) λ p M v.
+        then-says _ _ (block-says b (n + 1 + size a) (inner Γ) g (s .2)) λ p M v.
         ok-says (right-while F g r e v)
 
     step-says : (s : Step) (n : ℕ) (Γ : Scope ℕ) → ScopeFits T Γ → StepStands T n s → IfOk (RightStep T C rt s n Γ) (executeStep T C rt s n Γ)

@@ -10,7 +10,7 @@ use Rattle.oat.specs.Types.{Field, Lookup, found, missing, lookup, structOf}
 use Rattle.oat.specs.Decide.{isFormed}
 use Rattle.oat.specs.Syntax.{Decl, size, sizeBlock, sizeDecl}
 use Rattle.oat.specs.ProgramFile.{Program}
-use Rattle.typing_rules.specs.Contexts.{empty, Hit, hit, miss, Context, findName}
+use Rattle.typing_rules.specs.Contexts.{empty, isMiss, Context, findName}
 use Rattle.typing_rules.specs.Labels.{Result, gives, marks, nothing, Label, unlabelled}
 use Rattle.typing_rules.specs.Judge.{Out, ok, no, andThen, needs, formed, referred, judge, executeBlock}
 use Rattle.typing_rules.specs.Steps.{Step, structName, builtIn, heading, globalValue, structFields, body, stepsOf, distinctFields, distinctNames, parameters, addName, addStruct, emptyContext}
@@ -18,10 +18,6 @@ use Rattle.typing_rules.specs.Steps.{Step, structName, builtIn, heading,
 abbrev pub isMissing : Lookup → Bool
 isMissing missing = true
 isMissing (found fs) = false
-
-abbrev pub isMiss : {A : Type 0} → Hit A → Bool
-isMiss miss = true
-isMiss (hit t b) = false
 
 unfoldable pub fieldsFormed : Context ℕ → List Field → Bool
 fieldsFormed C [] = true

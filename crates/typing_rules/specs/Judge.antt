@@ -11,7 +11,7 @@ use Rattle.oat.specs.TypeRules.{kindAt}
 use Rattle.oat.specs.Types.{typeOf, Field, Lookup, found, missing, lookup}
 use Rattle.oat.specs.Decide.{below, isFormed}
 use Rattle.oat.specs.Syntax.{Expr, null, literal, name, arrayLiteral, defaultArray, arrayWith, index, lengthOf, structLiteral, field, call, unary, binary, Exprs, none, also, count, Inits, noInit, init, Target, nameTarget, indexTarget, fieldTarget, targetExpr, Vars, noVar, nextVar, Condition, noCondition, condition, Stmt, assign, var, returnValue, returnVoid, callStmt, ifElse, ifNull, for, while, Step, noStep, step, Block, block, Stmts, empty, then, size, sizeTarget, sizeVars, sizeCondition, sizeStep, sizeBlock, sizeStmt}
-use Rattle.typing_rules.specs.Contexts.{Scope, binds, Hit, hit, miss, find, isFresh, Context, findName, isFixed, orElse}
+use Rattle.typing_rules.specs.Contexts.{Scope, binds, inner, Hit, hit, miss, find, isFresh, isUnbound, Context, findName, isFixed, orElse}
 use Rattle.typing_rules.specs.Operators.{isEquality, operandType, resultType, unaryType, literalType}
 use Rattle.typing_rules.specs.Labels.{gives, marks, Label, unlabelled}
 use Rattle.typing_rules.specs.Rules.{namesFit, Member, has, lacks, member, both, whileMark}
@@ -125,9 +125,8 @@ unfoldable mutual
       needs (formed T C (referred T t)) 9 n
       (andThen (judge T C a (n + 1) Γ) λ u L.
       needs (isKind T u 0) 10 n
-      (needs (isFresh x Γ) 7 n
-      (andThen (judge T C b (n + 1 + size a) (binds Γ x 0 n)) λ v M.
-      needs (isBelow T C v (referred T t)) 11 n (plain t Γ (L ++ M)))))
+      (andThen (judge T C b (n + 1 + size a) (binds (inner Γ) x 0 n)) λ v M.
+      needs (isBelow T C v (referred T t)) 11 n (plain t Γ (L ++ M))))
   judge T C (index a b) n Γ =
       andThen (judge T C a (n + 1) Γ) λ t L.
       needs (isKind T t 5) 10 n
@@ -190,7 +189,7 @@ ends p Γ Δ L = ok (done p Δ) (markedAs p Γ Δ ∷ L)
 
 -- the name of a function or of a built-in, where no local hides it, cannot be assigned
 unfoldable pub assignsTo : Context ℕ → Scope ℕ → Target → Bool
-assignsTo C Γ (nameTarget x) = pick (isFresh x Γ) (not (isFixed x (C .names))) true
+assignsTo C Γ (nameTarget x) = pick (isUnbound x Γ) (not (isFixed x (C .names))) true
 assignsTo C Γ (indexTarget a b) = true
 assignsTo C Γ (fieldTarget x a) = true
 
@@ -236,26 +235,26 @@ unfoldable mutual
   execute T C rt last (ifElse a b c) n Γ =
       andThen (judge T C a (n + 1) Γ) λ t L.
       needs (isKind T t 1) 10 n
-      (andThen (executeBlock T C rt b (n + 1 + size a) Γ) λ p M.
-      andThen (executeBlock T C rt c (n + 1 + size a + sizeBlock b) Γ) λ q N.
+      (andThen (executeBlock T C rt b (n + 1 + size a) (inner Γ)) λ p M.
+      andThen (executeBlock T C rt c (n + 1 + size a + sizeBlock b) (inner Γ)) λ q N.
       ends (both p q) Γ Γ (L ++ (M ++ N)))
   execute T C rt last (ifNull x t a b c) n Γ =
       andThen (judge T C a (n + 1) Γ) λ u L.
       needs (isKind T u 7) 10 n
       (needs (isBelow T C (referred T u) t) 11 n
-      (andThen (executeBlock T C rt b (n + 1 + size a) (binds Γ x t n)) λ p M.
-      andThen (executeBlock T C rt c (n + 1 + size a + sizeBlock b) Γ) λ q N.
+      (andThen (executeBlock T C rt b (n + 1 + size a) (inner (binds (inner Γ) x t n))) λ p M.
+      andThen (executeBlock T C rt c (n + 1 + size a + sizeBlock b) (inner Γ)) λ q N.
       ends (both p q) Γ Γ (L ++ (M ++ N))))
   execute T C rt last (for vs c s b) n Γ =
-      andThen (executeVars T C vs (n + 1) Γ) λ Δ L.
+      andThen (executeVars T C vs (n + 1) (inner Γ)) λ Δ L.
       andThen (judgeCondition T C c (n + 1 + sizeVars vs) n Δ) λ Δ₁ M.
       andThen (executeStep T C rt s (n + 1 + sizeVars vs + sizeCondition c) Δ) λ p N.
-      andThen (executeBlock T C rt b (n + 1 + sizeVars vs + sizeCondition c + sizeStep s) Δ) λ q O.
+      andThen (executeBlock T C rt b (n + 1 + sizeVars vs + sizeCondition c + sizeStep s) (inner Δ)) λ q O.
       ends 0 Γ Γ (L ++ (M ++ (N ++ O)))
   execute T C rt last (while a b) n Γ =
       andThen (judge T C a (n + 1) Γ) λ t L.
       needs (isKind T t 1) 10 n
-      (andThen (executeBlock T C rt b (n + 1 + size a) Γ) λ p M.
+      (andThen (executeBlock T C rt b (n + 1 + size a) (inner Γ)) λ p M.
       ends (whileMark last a) Γ Γ (L ++ M))
 
   -- a returning step breaks at itself

@@ -13,7 +13,7 @@ use Rattle.oat.specs.Tables.{Tables}
 use Rattle.oat.specs.Types.{Ty, int, bool, void, struct, array, function, nullable, Tys, noTy, andTy, typeOf, Field, Struct, found, lookup}
 use Rattle.oat.specs.Subtyping.{Sub, SubAll, Formed}
 use Rattle.oat.specs.Syntax.{Literal, truth, falsity, integer, text, Expr, null, literal, name, arrayLiteral, defaultArray, arrayWith, index, lengthOf, structLiteral, field, call, unary, binary, Exprs, none, also, Inits, noInit, init, Target, nameTarget, indexTarget, fieldTarget, Vars, noVar, nextVar, Condition, noCondition, condition, Stmt, assign, var, returnValue, returnVoid, callStmt, ifElse, ifNull, for, while, Step, noStep, step, Block, block, Stmts, empty, then, size, sizeTarget, sizeVars, sizeCondition, sizeStep, sizeBlock, sizeStmt, countInits}
-use Rattle.typing_rules.specs.Contexts.{Scope, binds, hit, miss, find, isFresh, Context, findName, isFixed}
+use Rattle.typing_rules.specs.Contexts.{Scope, binds, inner, hit, miss, find, isFresh, isUnbound, Context, findName, isFixed}
 use Rattle.typing_rules.specs.Operators.{isEquality, operandType, resultType, unaryType, baseType, literalType}
 use Rattle.typing_rules.specs.Labels.{gives, marks, Labels, unlabelled}
 
@@ -100,7 +100,7 @@ pub data ExprRule (T : Tables) (C : Context Ty) (D : Labels Ty) (n : ℕ) : Expr
   typ-global : {x : ℕ} (t : Ty) (b : ℕ) → find x (D n .before) ≡ miss → findName x (C .names) ≡ hit t b → Has D n t b → ExprRule T C D n (name x)
   typ-carr : {t : ℕ} {es : Exprs} (u : Ty) (ts : Tys) → typeOf T t ≡ array u → Formed (C .structs) u → TypedAll D (D n .before) (n + 1) es ts → SubEach (C .structs) u ts → Has D n (array u) 65535 → ExprRule T C D n (arrayLiteral t es)
   typ-newarray : {t : ℕ} {a : Expr} (u : Ty) → typeOf T t ≡ array u → Formed (C .structs) u → Typed D (n + 1) (D n .before) int → HasDefault u → Has D n (array u) 65535 → ExprRule T C D n (defaultArray t a)
-  typ-newarrayinit : {t x : ℕ} {a b : Expr} (u v : Ty) → typeOf T t ≡ array u → Formed (C .structs) u → Typed D (n + 1) (D n .before) int → isFresh x (D n .before) ≡ true → Typed D (n + 1 + size a) (binds (D n .before) x int n) v → Sub (C .structs) v u → Has D n (array u) 65535 → ExprRule T C D n (arrayWith t x a b)
+  typ-newarrayinit : {t x : ℕ} {a b : Expr} (u v : Ty) → typeOf T t ≡ array u → Formed (C .structs) u → Typed D (n + 1) (D n .before) int → Typed D (n + 1 + size a) (binds (inner (D n .before)) x int n) v → Sub (C .structs) v u → Has D n (array u) 65535 → ExprRule T C D n (arrayWith t x a b)
   typ-index : {a b : Expr} (t : Ty) → Typed D (n + 1) (D n .before) (array t) → Typed D (n + 1 + size a) (D n .before) int → Has D n t 65535 → ExprRule T C D n (index a b)
   typ-length : {a : Expr} (t : Ty) → Typed D (n + 1) (D n .before) (array t) → Has D n int 65535 → ExprRule T C D n (lengthOf a)
   typ-structex : {t : ℕ} {is : Inits} (s : ℕ) (fs : List Field) (ts : Tys) → typeOf T t ≡ struct s → lookup (C .structs) s ≡ found fs → namesFit fs is ≡ true → TypedInits D (D n .before) (n + 1) is ts → InitsBelow (C .structs) fs is ts → Has D n (struct s) 65535 → ExprRule T C D n (structLiteral t is)
@@ -115,7 +115,7 @@ pub data ExprRule (T : Tables) (C : Context Ty) (D : Labels Ty) (n : ℕ) : Expr
 
 -- the name of a function or of a built-in, where no local hides it, cannot be assigned
 unfoldable pub assigns : Context Ty → Scope Ty → Target → Bool
-assigns C Γ (nameTarget x) = pick (isFresh x Γ) (not (isFixed x (C .names))) true
+assigns C Γ (nameTarget x) = pick (isUnbound x Γ) (not (isFixed x (C .names))) true
 assigns C Γ (indexTarget a b) = true
 assigns C Γ (fieldTarget x a) = true
 
@@ -175,10 +175,10 @@ pub data StmtRule (T : Tables) (C : Context Ty) (D : Labels Ty) (rt : Ty) (last 
   typ-rett : {a : Expr} (t : Ty) → (rt ≡ void → ⊥) → Typed D (n + 1) (D n .before) t → Sub (C .structs) t rt → Ends D n 1 (D n .before) → StmtRule T C D rt last n (returnValue a)
   typ-retvoid : rt ≡ void → Ends D n 1 (D n .before) → StmtRule T C D rt last n returnVoid
   typ-scall : {a : Expr} {es : Exprs} (us ts : Tys) → Typed D (n + 1) (D n .before) (function us void) → TypedAll D (D n .before) (n + 1 + size a) es ts → SubAll (C .structs) ts us → Ends D n 0 (D n .before) → StmtRule T C D rt last n (callStmt a es)
-  typ-if : {a : Expr} {b c : Block} (p q : ℕ) → Typed D (n + 1) (D n .before) bool → Marked D (n + 1 + size a) (D n .before) p → Marked D (n + 1 + size a + sizeBlock b) (D n .before) q → Ends D n (both p q) (D n .before) → StmtRule T C D rt last n (ifElse a b c)
-  typ-ifq : {x t : ℕ} {a : Expr} {b c : Block} (r : Ty) (p q : ℕ) → Typed D (n + 1) (D n .before) (nullable r) → Sub (C .structs) r (typeOf T t) → Marked D (n + 1 + size a) (binds (D n .before) x (typeOf T t) n) p → Marked D (n + 1 + size a + sizeBlock b) (D n .before) q → Ends D n (both p q) (D n .before) → StmtRule T C D rt last n (ifNull x t a b c)
-  typ-while : {a : Expr} {b : Block} (p : ℕ) → Typed D (n + 1) (D n .before) bool → Marked D (n + 1 + size a) (D n .before) p → Ends D n (whileMark last a) (D n .before) → StmtRule T C D rt last n (while a b)
-  typ-for : {vs : Vars} {c : Condition} {s : Step} {b : Block} (Δ : Scope Ty) (p : ℕ) → VarsChain D (n + 1) vs (D n .before) Δ → ConditionHolds D (n + 1 + sizeVars vs) Δ c → StepGoesOn D (n + 1 + sizeVars vs + sizeCondition c) Δ s → Marked D (n + 1 + sizeVars vs + sizeCondition c + sizeStep s) Δ p → Ends D n 0 (D n .before) → StmtRule T C D rt last n (for vs c s b)
+  typ-if : {a : Expr} {b c : Block} (p q : ℕ) → Typed D (n + 1) (D n .before) bool → Marked D (n + 1 + size a) (inner (D n .before)) p → Marked D (n + 1 + size a + sizeBlock b) (inner (D n .before)) q → Ends D n (both p q) (D n .before) → StmtRule T C D rt last n (ifElse a b c)
+  typ-ifq : {x t : ℕ} {a : Expr} {b c : Block} (r : Ty) (p q : ℕ) → Typed D (n + 1) (D n .before) (nullable r) → Sub (C .structs) r (typeOf T t) → Marked D (n + 1 + size a) (inner (binds (inner (D n .before)) x (typeOf T t) n)) p → Marked D (n + 1 + size a + sizeBlock b) (inner (D n .before)) q → Ends D n (both p q) (D n .before) → StmtRule T C D rt last n (ifNull x t a b c)
+  typ-while : {a : Expr} {b : Block} (p : ℕ) → Typed D (n + 1) (D n .before) bool → Marked D (n + 1 + size a) (inner (D n .before)) p → Ends D n (whileMark last a) (D n .before) → StmtRule T C D rt last n (while a b)
+  typ-for : {vs : Vars} {c : Condition} {s : Step} {b : Block} (Δ : Scope Ty) (p : ℕ) → VarsChain D (n + 1) vs (inner (D n .before)) Δ → ConditionHolds D (n + 1 + sizeVars vs) Δ c → StepGoesOn D (n + 1 + sizeVars vs + sizeCondition c) Δ s → Marked D (n + 1 + sizeVars vs + sizeCondition c + sizeStep s) (inner Δ) p → Ends D n 0 (D n .before) → StmtRule T C D rt last n (for vs c s b)
 
 -- TYP_BLOCK
 pub data BlockRule (D : Labels Ty) (n : ℕ) : Block → Type 0 where

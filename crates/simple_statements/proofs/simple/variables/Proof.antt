@@ -11,11 +11,11 @@ use Rattle.simple_statements.proofs.simple.variables.Statement.{stateme
 use Rattle.simple_statements.proofs.simple.variables.Tie as tie
 
 abbrev Inv-loop : tie.InvT-loop
-Inv-loop file frame index rows₀ work₀ chains₀ count here₀ i₀ rows work chains here i =
-    WalkedVars file (frame .sections) index (frame .base) (here₀ .node) (here₀ .scope) rows₀ work₀ count (here .node) (here .scope) i rows work chains × (length rows ≡ length rows₀) × (length work ≡ length work₀)
+Inv-loop file frame index rows₀ work₀ chains₀ count start here₀ i₀ rows work chains here i =
+    WalkedVars file (frame .sections) index (frame .base) start (here₀ .node) (here₀ .scope) rows₀ work₀ count (here .node) (here .scope) i rows work chains × (length rows ≡ length rows₀) × (length work ≡ length work₀)
 
 abbrev μ-loop : tie.MeasureT-loop
-μ-loop file frame index rows₀ work₀ chains₀ count here₀ i₀ rows work chains here i = count - i
+μ-loop file frame index rows₀ work₀ chains₀ count start here₀ i₀ rows work chains here i = count - i
 
 loop-holds : tie.Need-loop-holds Inv-loop μ-loop
 loop-holds c = (vars-start (c .before .before .before .before .pre), refl, refl)

@@ -8,9 +8,7 @@ use Rattle.expressions.proofs.cycle.array_with.Reads as array-with
 use Rattle.expressions.proofs.cycle.array_value.Reads as array-value
 use Rattle.answers.proofs.answer.refused.Reads as refused-reads
 use Rattle.answers.proofs.answer.typed.Reads as typed-reads
-use Rattle.bindings.proofs.is_fresh.Reads as is-fresh-reads
 use Rattle.file_sections.proofs.records.node_t.Reads as node-t-reads
-use Rattle.file_sections.proofs.records.node_x.Reads as node-x-reads
 use Rattle.file_sections.proofs.records.type_a.Reads as type-a-reads
 use Rattle.file_sections.proofs.records.type_kind.Reads as type-kind-reads
 use Rattle.type_index.proofs.formed.is_formed.Reads as is-formed-reads
@@ -18,10 +16,10 @@ use Rattle.expressions.proofs.cycle.+array_literal+array_value+array_wi
 use Rattle.expressions.proofs.LawsMeets.{untyped}
 use Rattle.expressions.proofs.LawsChild.{has-node, child-type}
 use Rattle.expressions.proofs.LawsListRules.{row-fits}
-use Rattle.expressions.proofs.LawsArrayWith.{filling-fine, filled-first, filled-some, filled-filling, filled-within, filled-array, filled-entered, filled-unformed, filled-no, filled-sort, filled-taken, filled-no-2, filled-ok}
+use Rattle.expressions.proofs.LawsArrayWith.{filling-fine, filled-first, filled-filling, filled-within, filled-array, filled-entered, filled-unformed, filled-no, filled-sort, filled-no-2, filled-ok}
 
 abbrev claims : ℕ → array-with-lts.Claims
-claims t = (node-t-reads.Asked, node-t-reads.Learnt, type-a-reads.Asked, type-a-reads.Learnt, is-formed-reads.Asked, is-formed-reads.Learnt, refused-reads.Asked, refused-reads.Learnt, expression-below t, expression.Post, type-kind-reads.Asked, type-kind-reads.Learnt, node-x-reads.Asked, node-x-reads.Learnt, is-fresh-reads.Asked, is-fresh-reads.Learnt, array-value-below t, array-value.Post, typed-reads.Asked, typed-reads.Learnt)
+claims t = (node-t-reads.Asked, node-t-reads.Learnt, type-a-reads.Asked, type-a-reads.Learnt, is-formed-reads.Asked, is-formed-reads.Learnt, refused-reads.Asked, refused-reads.Learnt, expression-below t, expression.Post, type-kind-reads.Asked, type-kind-reads.Learnt, array-value-below t, array-value.Post, typed-reads.Asked, typed-reads.Learnt)
 
 node-t-requires : (t : ℕ) → array-with-lts.Need-node-t-requires (claims t) (array-with-at t) array-with.Post
 node-t-requires t c κs =
@@ -84,59 +82,29 @@ returns-3 t c =
     let at-start = at-node-t .before .before .before .before .before in
     filled-sort (at-start .pre .1 .0) (at-start .pre .1 .1) (at-node-t .node-t .ensures .0) (at-type-a .type-a .ensures .0) (at-is-formed .is-formed .ensures) (at-if1 .if1 .left) (at-expression .expression .ensures) (at-first .first .given .1) (at-type-kind .type-kind .ensures .0) (c .before .if2 .taken) (c .refused2 .ensures .0)
 
-node-x-requires : (t : ℕ) → array-with-lts.Need-node-x-requires (claims t) (array-with-at t) array-with.Post
-node-x-requires t c κs =
-    let at-start = c .before .before .before .before .before .before .before .before .before .before .before .before .before .before .before .before .before .before .before .before .before .before .before .before .before in
-    has-node ((at-start .pre .1 .0) .fine .good-tables) ((at-start .pre .1 .0) .within)
-
-is-fresh-requires : (t : ℕ) → array-with-lts.Need-is-fresh-requires (claims t) (array-with-at t) array-with.Post
-is-fresh-requires t c κs =
-    let at-first = c .before .before .before .before .before .before .before in
-    let at-expression = at-first .before .before .before .before .before .before in
-    let at-start = at-expression .before .before .before .before .before .before .before .before .before .before .before .before .before in
-    filled-some (at-start .pre .1 .0) (at-start .pre .1 .1) (at-expression .expression .ensures) (at-first .first .given .1)
-
-returns-4 : (t : ℕ) → array-with-lts.Need-returns-4 (claims t) (array-with-at t) array-with.Post
-returns-4 t c =
-    let at-is-fresh = c .before .before in
-    let at-node-x = at-is-fresh .before in
-    let at-if2 = at-node-x .before .before .before .before in
-    let at-type-kind = at-if2 .before in
-    let at-first = at-type-kind .before .before in
-    let at-expression = at-first .before .before .before .before .before .before in
-    let at-if1 = at-expression .before .before .before .before .before in
-    let at-is-formed = at-if1 .before in
-    let at-type-a = at-is-formed .before in
-    let at-node-t = at-type-a .before in
-    let at-start = at-node-t .before .before .before .before .before in
-    filled-taken (at-start .pre .1 .0) (at-start .pre .1 .1) (at-node-t .node-t .ensures .0) (at-type-a .type-a .ensures .0) (at-is-formed .is-formed .ensures) (at-if1 .if1 .left) (at-expression .expression .ensures) (at-first .first .given .1) (at-type-kind .type-kind .ensures .0) (at-if2 .if2 .left) (at-node-x .node-x .ensures .0) (at-is-fresh .is-fresh .ensures) (c .before .if3 .taken) (c .refused3 .ensures .0)
-
 array-value-requires : (t : ℕ) → array-with-lts.Need-array-value-requires (claims t) (array-with-at t) array-with.Post
 array-value-requires t c κs =
-    let at-first = c .before .before .before .before .before .before .before .before .before .before .before .before in
+    let at-first = c .before .before .before .before .before .before in
     let at-expression = at-first .before .before .before .before .before .before in
     let at-start = at-expression .before .before .before .before .before .before .before .before .before .before .before .before .before in
     (omega (arith, at-start .pre .0, (at-start .pre .1 .0) .within), filled-filling (at-start .pre .1 .0) (at-start .pre .1 .1) (at-expression .expression .ensures) (at-first .first .given .1))
 
-same-length-7 : (t : ℕ) → array-with-lts.Need-same-length-7 (claims t) (array-with-at t) array-with.Post
-same-length-7 t c =
+same-length-5 : (t : ℕ) → array-with-lts.Need-same-length-5 (claims t) (array-with-at t) array-with.Post
+same-length-5 t c =
     let at-array-value = c .before .before .before .before .before in
-    let at-expression = at-array-value .before .before .before .before .before .before .before .before .before .before .before .before .before .before .before .before .before .before .before in
+    let at-expression = at-array-value .before .before .before .before .before .before .before .before .before .before .before .before .before in
     omega (arith, at-expression .expression, at-array-value .array-value)
 
-same-length-8 : (t : ℕ) → array-with-lts.Need-same-length-8 (claims t) (array-with-at t) array-with.Post
-same-length-8 t c =
+same-length-6 : (t : ℕ) → array-with-lts.Need-same-length-6 (claims t) (array-with-at t) array-with.Post
+same-length-6 t c =
     let at-array-value = c .before .before .before .before .before in
-    let at-expression = at-array-value .before .before .before .before .before .before .before .before .before .before .before .before .before .before .before .before .before .before .before in
+    let at-expression = at-array-value .before .before .before .before .before .before .before .before .before .before .before .before .before in
     omega (arith, at-expression .expression, at-array-value .array-value)
 
-returns-5 : (t : ℕ) → array-with-lts.Need-returns-5 (claims t) (array-with-at t) array-with.Post
-returns-5 t c =
+returns-4 : (t : ℕ) → array-with-lts.Need-returns-4 (claims t) (array-with-at t) array-with.Post
+returns-4 t c =
     let at-array-value = c .before .before .before .before .before in
-    let at-if3 = at-array-value .before .before .before .before in
-    let at-is-fresh = at-if3 .before in
-    let at-node-x = at-is-fresh .before in
-    let at-if2 = at-node-x .before .before .before .before in
+    let at-if2 = at-array-value .before .before .before .before in
     let at-type-kind = at-if2 .before in
     let at-first = at-type-kind .before .before in
     let at-expression = at-first .before .before .before .before .before .before in
@@ -145,40 +113,37 @@ returns-5 t c =
     let at-type-a = at-is-formed .before in
     let at-node-t = at-type-a .before in
     let at-start = at-node-t .before .before .before .before .before in
-    filled-no-2 (at-start .pre .1 .0) (at-start .pre .1 .1) (at-node-t .node-t .ensures .0) (at-type-a .type-a .ensures .0) (at-is-formed .is-formed .ensures) (at-if1 .if1 .left) (at-expression .expression .ensures) (at-first .first .given .1) (at-type-kind .type-kind .ensures .0) (at-if2 .if2 .left) (at-node-x .node-x .ensures .0) (at-is-fresh .is-fresh .ensures) (at-if3 .if3 .left) (at-array-value .array-value .ensures) (untyped _ (c .match2 .keys2))
+    filled-no-2 (at-start .pre .1 .0) (at-start .pre .1 .1) (at-node-t .node-t .ensures .0) (at-type-a .type-a .ensures .0) (at-is-formed .is-formed .ensures) (at-if1 .if1 .left) (at-expression .expression .ensures) (at-first .first .given .1) (at-type-kind .type-kind .ensures .0) (at-if2 .if2 .left) (at-array-value .array-value .ensures) (untyped _ (c .match2 .keys2))
 
 typed-requires : (t : ℕ) → array-with-lts.Need-typed-requires (claims t) (array-with-at t) array-with.Post
 typed-requires t c κs =
     let at-array-value = c .before .before .before .before .before .before .before in
-    let at-first = at-array-value .before .before .before .before .before .before .before .before .before .before .before .before .before in
+    let at-first = at-array-value .before .before .before .before .before .before .before in
     let at-expression = at-first .before .before .before .before .before .before in
     let at-node-t = at-expression .before .before .before .before .before .before .before .before in
     let at-start = at-node-t .before .before .before .before .before in
     row-fits (filling-fine (filled-filling (at-start .pre .1 .0) (at-start .pre .1 .1) (at-expression .expression .ensures) (at-first .first .given .1)) (at-array-value .array-value .ensures) (c .before .enum-told .given .1)) ((at-start .pre .1 .0) .within) (filled-within (at-start .pre .1 .0) (at-start .pre .1 .1) (at-node-t .node-t .ensures .0))
 
-same-length-9 : (t : ℕ) → array-with-lts.Need-same-length-9 (claims t) (array-with-at t) array-with.Post
-same-length-9 t c =
+same-length-7 : (t : ℕ) → array-with-lts.Need-same-length-7 (claims t) (array-with-at t) array-with.Post
+same-length-7 t c =
     let at-typed = c .before .before in
     let at-array-value = at-typed .before .before .before .before .before .before .before .before in
-    let at-expression = at-array-value .before .before .before .before .before .before .before .before .before .before .before .before .before .before .before .before .before .before .before in
+    let at-expression = at-array-value .before .before .before .before .before .before .before .before .before .before .before .before .before in
     omega (arith, at-expression .expression, at-array-value .array-value, at-typed .typed)
 
-same-length-10 : (t : ℕ) → array-with-lts.Need-same-length-10 (claims t) (array-with-at t) array-with.Post
-same-length-10 t c =
+same-length-8 : (t : ℕ) → array-with-lts.Need-same-length-8 (claims t) (array-with-at t) array-with.Post
+same-length-8 t c =
     let at-typed = c .before .before in
     let at-array-value = at-typed .before .before .before .before .before .before .before .before in
-    let at-expression = at-array-value .before .before .before .before .before .before .before .before .before .before .before .before .before .before .before .before .before .before .before in
+    let at-expression = at-array-value .before .before .before .before .before .before .before .before .before .before .before .before .before in
     omega (arith, at-expression .expression, at-array-value .array-value, at-typed .typed)
 
-returns-6 : (t : ℕ) → array-with-lts.Need-returns-6 (claims t) (array-with-at t) array-with.Post
-returns-6 t c =
+returns-5 : (t : ℕ) → array-with-lts.Need-returns-5 (claims t) (array-with-at t) array-with.Post
+returns-5 t c =
     let at-typed = c .before .before in
     let at-enum-told = at-typed .before .before in
     let at-array-value = at-enum-told .before .before .before .before .before .before in
-    let at-if3 = at-array-value .before .before .before .before in
-    let at-is-fresh = at-if3 .before in
-    let at-node-x = at-is-fresh .before in
-    let at-if2 = at-node-x .before .before .before .before in
+    let at-if2 = at-array-value .before .before .before .before in
     let at-type-kind = at-if2 .before in
     let at-first = at-type-kind .before .before in
     let at-expression = at-first .before .before .before .before .before .before in
@@ -187,7 +152,7 @@ returns-6 t c =
     let at-type-a = at-is-formed .before in
     let at-node-t = at-type-a .before in
     let at-start = at-node-t .before .before .before .before .before in
-    filled-ok (at-start .pre .1 .0) (at-start .pre .1 .1) (at-node-t .node-t .ensures .0) (at-type-a .type-a .ensures .0) (at-is-formed .is-formed .ensures) (at-if1 .if1 .left) (at-expression .expression .ensures) (at-first .first .given .1) (at-type-kind .type-kind .ensures .0) (at-if2 .if2 .left) (at-node-x .node-x .ensures .0) (at-is-fresh .is-fresh .ensures) (at-if3 .if3 .left) (at-array-value .array-value .ensures) (at-enum-told .enum-told .given .1) (at-typed .typed .ensures .0) (at-typed .typed .ensures .1)
+    filled-ok (at-start .pre .1 .0) (at-start .pre .1 .1) (at-node-t .node-t .ensures .0) (at-type-a .type-a .ensures .0) (at-is-formed .is-formed .ensures) (at-if1 .if1 .left) (at-expression .expression .ensures) (at-first .first .given .1) (at-type-kind .type-kind .ensures .0) (at-if2 .if2 .left) (at-array-value .array-value .ensures) (at-enum-told .enum-told .given .1) (at-typed .typed .ensures .0) (at-typed .typed .ensures .1)
 
 pub closed : {M : Type 1} (t : ℕ) → array-with-lts.Closed (claims t) (array-with-at t) array-with.Post M
-closed t = array-with-lts.spec (claims t) (array-with-at t) array-with.Post (node-t-requires t) (type-a-requires t) (is-formed-requires t) (λ c κs. search needs) (returns t) (add-if2 t) (expression-requires t) (λ c. search needs) (λ c. search needs) (λ c. search needs) (returns-2 t) (type-kind-requires t) (λ c κs. search needs) (λ c. search needs) (λ c. search needs) (returns-3 t) (node-x-requires t) (is-fresh-requires t) (λ c κs. search needs) (λ c. search needs) (λ c. search needs) (returns-4 t) (array-value-requires t) (λ c. search needs) (same-length-7 t) (same-length-8 t) (returns-5 t) (typed-requires t) (same-length-9 t) (same-length-10 t) (returns-6 t)
+closed t = array-with-lts.spec (claims t) (array-with-at t) array-with.Post (node-t-requires t) (type-a-requires t) (is-formed-requires t) (λ c κs. search needs) (returns t) (add-if2 t) (expression-requires t) (λ c. search needs) (λ c. search needs) (λ c. search needs) (returns-2 t) (type-kind-requires t) (λ c κs. search needs) (λ c. search needs) (λ c. search needs) (returns-3 t) (array-value-requires t) (λ c. search needs) (same-length-5 t) (same-length-6 t) (returns-4 t) (typed-requires t) (same-length-7 t) (same-length-8 t) (returns-5 t)

@@ -15,7 +15,7 @@ use Rattle.simple_statements.proofs.simple.return_value.Reads as return-value-r
 use Rattle.simple_statements.proofs.simple.return_void.Reads as return-void-reads
 use Rattle.simple_statements.proofs.simple.variable.Reads as variable-reads
 use Rattle.statements.proofs.cycle.+arms+block+for_loop+if_else+if_null+statement+statements+step+turn+while_loop.Proof.Measures.{statement-at, for-loop-below, if-else-below, if-null-below, while-loop-below}
-use Rattle.statements.proofs.LawsStatement.{stmt-node, stmt-kind-at, while-kind, told-anywhere, any-told}
+use Rattle.statements.proofs.LawsStatement.{stmt-node, stmt-kind-at, while-kind, var-told, while-told, told-anywhere, any-told}
 
 abbrev claims : ℕ → statement-lts.Claims
 claims t = (node-kind-reads.Asked, node-kind-reads.Learnt, assignment-reads.Asked, assignment-reads.Learnt, variable-reads.Asked, variable-reads.Learnt, return-value-reads.Asked, return-value-reads.Learnt, return-void-reads.Asked, return-void-reads.Learnt, call-statement-reads.Asked, call-statement-reads.Learnt, if-else-below t, if-else.Post, if-null-below t, if-null.Post, for-loop-below t, for-loop.Post, while-loop-below t, while-loop.Post)
@@ -94,7 +94,7 @@ returns t c =
 returns-2 : (t : ℕ) → statement-lts.Need-returns-2 (claims t) (statement-at t) statement′.Post
 returns-2 t c =
     let at-variable = c .before .before .before .before in
-    any-told (at-variable .variable .ensures)
+    var-told (at-variable .variable .ensures)
 
 returns-3 : (t : ℕ) → statement-lts.Need-returns-3 (claims t) (statement-at t) statement′.Post
 returns-3 t c =
@@ -129,7 +129,7 @@ returns-8 t c =
 returns-9 : (t : ℕ) → statement-lts.Need-returns-9 (claims t) (statement-at t) statement′.Post
 returns-9 t c =
     let at-while-loop = c .before .before .before .before in
-    at-while-loop .while-loop .ensures
+    while-told (at-while-loop .while-loop .ensures)
 
 pub closed : {M : Type 1} (t : ℕ) → statement-lts.Closed (claims t) (statement-at t) statement′.Post M
 closed t =

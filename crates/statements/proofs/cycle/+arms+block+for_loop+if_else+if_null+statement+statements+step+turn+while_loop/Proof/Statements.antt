@@ -19,10 +19,10 @@ abbrev claims : ℕ → statements-lts.Claims
 claims t = (refused-reads.Asked, refused-reads.Learnt, statement-below t, statement′.Post, mark-of-reads.Asked, mark-of-reads.Learnt, with-mark-reads.Asked, with-mark-reads.Learnt)
 
 abbrev Inv-loop : statements-lts.InvT-loop
-Inv-loop = λ file frame index rows₀ work₀ chains₀ count parent here₀ previous₀ mark₀ i₀ rows work chains here previous mark i. WalkedStmts file (frame .sections) index (frame .base) (frame .result) (here₀ .node) (here₀ .scope) rows₀ work₀ count parent (here .node) (here .scope) previous mark i rows work chains × (length rows ≡ length rows₀) × (length work ≡ length work₀)
+Inv-loop = λ file frame index rows₀ work₀ chains₀ count parent start here₀ previous₀ mark₀ i₀ rows work chains here previous mark i. WalkedStmts file (frame .sections) index (frame .base) start (frame .result) (here₀ .node) (here₀ .scope) rows₀ work₀ count parent (here .node) (here .scope) previous mark i rows work chains × (length rows ≡ length rows₀) × (length work ≡ length work₀)
 
 abbrev μ-loop : statements-lts.MeasureT-loop
-μ-loop = λ file frame index rows₀ work₀ chains₀ count parent here₀ previous₀ mark₀ i₀ rows work chains here previous mark i. count - i
+μ-loop = λ file frame index rows₀ work₀ chains₀ count parent start here₀ previous₀ mark₀ i₀ rows work chains here previous mark i. count - i
 
 loop-holds : (t : ℕ) → statements-lts.Need-loop-holds (claims t) (statements-at t) statements.Post Inv-loop μ-loop
 loop-holds t c = (run-start (c .before .before .before .before .pre .1), refl, refl)

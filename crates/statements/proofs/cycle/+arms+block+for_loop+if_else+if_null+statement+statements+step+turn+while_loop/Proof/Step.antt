@@ -23,8 +23,8 @@ claims t = (node-kind-reads.Asked, node-kind-reads.Learnt, ends-reads.Asked, end
 node-kind-requires : (t : ℕ) → step-lts.Need-node-kind-requires (claims t) (step-at t) step.Post
 node-kind-requires t c κs = step-node (c .before .before .before .before .pre .1)
 
-add-t14 : (t : ℕ) → step-lts.Need-add-t14 (claims t) (step-at t) step.Post
-add-t14 t c =
+add-t15 : (t : ℕ) → step-lts.Need-add-t15 (claims t) (step-at t) step.Post
+add-t15 t c =
     let at-start = c .before .before .before .before .before .before .before .before in
     omega (arith, (at-start .pre .1) .within, (at-start .pre .1) .fine .good-tables .laid .nodes-most)
 
@@ -100,4 +100,4 @@ returns-4 t c =
     step-ok (at-start .pre .1) (at-node-kind .node-kind .ensures .0) (at-if1 .if1 .left) (at-statement .statement .ensures) (unrefused _ (at-match .match .keys2)) (at-mark-of .mark-of .ensures .0) (at-if2 .if2 .left) (at-leave .leave .ensures) (answered (c .goes-on .ensures) refl refl)
 
 pub closed : {M : Type 1} (t : ℕ) → step-lts.Closed (claims t) (step-at t) step.Post M
-closed t = step-lts.spec (claims t) (step-at t) step.Post (node-kind-requires t) (add-t14 t) (ends-requires t) (λ c. search needs) (returns t) (statement-requires t) (λ c. search needs) (λ c. search needs) (λ c. search needs) (returns-2 t) (λ c κs. search needs) (λ c κs. search needs) (λ c. search needs) (λ c. search needs) (returns-3 t) (leave-requires t) (λ c κs. search needs) (same-length-6 t) (same-length-7 t) (returns-4 t)
+closed t = step-lts.spec (claims t) (step-at t) step.Post (node-kind-requires t) (add-t15 t) (ends-requires t) (λ c. search needs) (returns t) (statement-requires t) (λ c. search needs) (λ c. search needs) (λ c. search needs) (returns-2 t) (λ c κs. search needs) (λ c κs. search needs) (λ c. search needs) (λ c. search needs) (returns-3 t) (leave-requires t) (λ c κs. search needs) (same-length-6 t) (same-length-7 t) (returns-4 t)
