@@ -12,7 +12,7 @@ With --limits each file is asked under four settings of document 02's limits, re
 Besides, request (xi)'s claim is tested on the program's own answers: for every two settings of one file, both in range, of which one is at least the
 other, all lines are the same unless the file is 3 or 5 under the smaller; such a file is neither 1 nor 2 under the larger and, if it was 5, nor 3 or 4.
 
-With --names the files are about the names of struct literals, with --endless about loops that never end."""
+With --names the files are about the names of struct literals, with --endless about loops that never end, with --levels about names in inner blocks."""
 import argparse
 import collections
 import itertools
@@ -56,6 +56,7 @@ def unpack_limited(packed):
 CHECK = Question("gen", "batch", "check_vectors", unpack, 0)
 NAMES = CHECK._replace(make="gennames")
 ENDLESS = CHECK._replace(make="genendless")
+LEVELS = CHECK._replace(make="genlevels")
 LIMITS = Question("genlimits", "limitbatch", "limit_vectors", unpack_limited, 2)
 
 
@@ -138,11 +139,13 @@ def main():
     sorts.add_argument("--limits", action="store_true", help="ask each file under four settings of the limits")
     sorts.add_argument("--names", action="store_true", help="files about the names of struct literals")
     sorts.add_argument("--endless", action="store_true", help="files about loops that never end")
+    sorts.add_argument("--levels", action="store_true", help="files about names in inner blocks")
     words.add_argument("--program", help="target/bin/check_vectors, with --limits target/bin/limit_vectors")
     words.add_argument("--peer", default=os.path.join(ROOT, "tests", "peer", "target", "release", "oat_peer"), help="the peer's program")
     words.add_argument("--keep", default="different.oat", help="where a file that differs is kept (different.oat)")
     given = words.parse_args()
-    question = LIMITS if given.limits else NAMES if given.names else ENDLESS if given.endless else CHECK
+    asked = ((given.limits, LIMITS), (given.names, NAMES), (given.endless, ENDLESS), (given.levels, LEVELS), (True, CHECK))
+    question = next(question for chosen, question in asked if chosen)
     given.program = given.program or os.path.join(ROOT, "target", "bin", question.program)
     counts, done = collections.Counter(), 0
     while done < given.count:

@@ -121,6 +121,10 @@ class Example:
         t = self.array(element)
         return Node(17, f"default array, of type {t}", length, t=t)
 
+    def filled(self, element, name, length, value):
+        t = self.array(element)
+        return Node(18, f"array with index name {name}, of type {t}", length, value, x=self.name(name), t=t)
+
     def index(self, array, at):
         return Node(19, "index", array, at)
 
@@ -327,6 +331,83 @@ def _():
     return e
 
 
+@example("same_name_inner", """
+    int stir(int i) {
+      var turns = 0;
+      for (var i = 0; i < 3; i = i + 1) {
+        for (var i = 0; i < 4; i = i + 1) { turns = turns + i; }
+        while (turns < i) { var i = true; }
+        turns = turns + i;
+      }
+      return turns + i;
+    }
+    """, """
+    An inner block may bind a name again. In the inner for i means node 18, in the outer one node 6, behind both the parameter, and the var of the
+    while's block hides the outer for's i there alone: each name's row has its nearest binder.""")
+def _():
+    e = Example()
+    i, turns = e.id("i"), e.id("turns")
+
+    def count(most, body):
+        return e.loop([e.var("i", e.integer(0))], e.binary("<", i, e.integer(most)), e.assign(i, e.binary("+", i, e.integer(1))), body)
+    more = e.assign(turns, e.binary("+", turns, i))
+    e.function(
+        "stir", INT, [(INT, "i")],
+        e.var("turns", e.integer(0)),
+        count(3, e.block(count(4, e.block(more)), e.during(e.binary("<", turns, i), e.block(e.var("i", e.true()))), more)),
+        e.give(e.binary("+", turns, i)))
+    return e
+
+
+@example("same_name_own_block", """
+    void stir(int i) {
+      while (i < 3) { var i = 1; }
+      var i = 2;
+      return;
+    }
+    """, """
+    Parameters and the block of the body are one block, so the second var is refused. The first stands in a block of its own, and passes.""")
+def _():
+    e = Example()
+    e.function(
+        "stir", VOID, [(INT, "i")],
+        e.during(e.binary("<", e.id("i"), e.integer(3)), e.block(e.var("i", e.integer(1)))),
+        e.var("i", e.integer(2)), e.leave())
+    return e
+
+
+@example("step_binds_variable", """
+    void stir() {
+      for (var i = 0; i < 3; var i = 1) { var i = true; }
+      return;
+    }
+    """, """
+    The variables of a for and its step are one block, so the step's var is refused, at itself. The block of the for stands inside and may bind
+    i again.""")
+def _():
+    e = Example()
+    e.function(
+        "stir", VOID, [],
+        e.loop([e.var("i", e.integer(0))], e.binary("<", e.id("i"), e.integer(3)), e.var("i", e.integer(1)), e.block(e.var("i", e.true()))),
+        e.leave())
+    return e
+
+
+@example("index_name_again", """
+    int[][] rows(int i) {
+      return new int[][i]{ i -> new int[i]{ i -> i } };
+    }
+    """, """
+    An index name may hide any local, another index name too; it is bound in the value alone. So the first length is the parameter, the second
+    the outer index name, and the innermost value the inner one.""")
+def _():
+    e = Example()
+    i = e.id("i")
+    row = e.filled(INT, "i", i, i)
+    e.function("rows", e.array(e.array(INT)), [(INT, "i")], e.give(e.filled(e.array(INT), "i", i, row)))
+    return e
+
+
 @example("struct_twice", """
     struct A { int p; int dry }
     struct A { int p }
@@ -345,7 +426,7 @@ def _():
       return;
     }
     """, """
-    A var may hide a global, a function or a built-in, but no local that is in scope.""")
+    A var may hide a global, a function, a built-in or a local of an outer block, but its own block must not have bound the name.""")
 def _():
     e = Example()
     e.function("f", VOID, [], e.var("x", e.integer(1)), e.var("x", e.integer(2)), e.leave())

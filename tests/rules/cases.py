@@ -1,8 +1,9 @@
 #!/usr/bin/env python3
 """Writes crates/typing_rules/proofs/Cases.antt: small files of the peer's stored vectors as programs of the definitions, each with a theorem
 that antt computes: the program is that of a file, and the answer and rows are the peer's. Files are chosen so that together they have
-every node kind and operator in an accepted program, whiles with either mark by their condition and by whether they are a for's step, and
-every number from 7 to 16 at every kind of place and group of steps that a small file of the vectors has, 14 with and without while(true).
+every node kind and operator in an accepted program, whiles with either mark by their condition and by whether they are a for's step, uses of
+each kind of local binder by how many binders of the name they have around them, and every number from 7 to 16 at every kind of place and group
+of steps that a small file of the vectors has, 14 with and without while(true), 7 at a var by what it stands in.
 
     tests/rules/cases.py            write the file
     tests/rules/cases.py ALL FROM TO    write every file of at most ALL nodes from number FROM up to TO instead, to try a definition
@@ -197,6 +198,23 @@ class Trees:
         return terms, kinds
 
 
+def parent_of(nodes, place):
+    """The node whose child the place is."""
+    left = []
+    for n, node in enumerate(nodes):
+        while left and left[-1][1] == 0:
+            left.pop()
+        if n == place:
+            return left[-1][0]
+        if left:
+            left[-1][1] -= 1
+        left.append([n, node[3]])
+
+
+def function_of(nodes, place):
+    return max(n for n in range(place + 1) if nodes[n][0] in (1, 2))
+
+
 class Case:
     def __init__(self, file, lines):
         self.length = len(file)
@@ -229,13 +247,23 @@ class Case:
         nodes = self.sections[5]
         return {(nodes[n + 1][0] == 11, n in self.steps, self.rows[2 * n]) for n, node in enumerate(nodes) if node[0] == 38}
 
+    def binders(self):
+        """Each use of a local: its binder's kind, and how many nodes of its function that bind the name are used, three or more being alike."""
+        nodes = self.sections[5]
+        uses = [(n, int(self.rows[2 * n + 1])) for n, node in enumerate(nodes) if node[0] == 15]
+        local = [(function_of(nodes, n), nodes[n][1], b) for n, b in uses if b < len(nodes) and nodes[b][0] in (3, 18, 31, 36)]
+        return {(nodes[b][0], min(3, len({c for g, y, c in local if (g, y) == (f, x)}))) for f, x, b in local}
+
     def features(self):
         nodes = self.sections[5]
         if self.number == 0:
-            return {(k, x if k in (25, 26) else 0) for k, x, _, _ in nodes} | {(38,) + w for w in self.whiles()}
+            kinds = {(k, x if k in (25, 26) else 0) for k, x, _, _ in nodes}
+            return kinds | {(38,) + w for w in self.whiles()} | {(15,) + b for b in self.binders()}
         group = self.group()
         endless = self.number == 14 and any(w[0] for w in self.whiles())
-        return {(self.number, group, nodes[self.place][0] if group in (2, 3, 5) else -1, endless)}
+        kind = nodes[self.place][0] if group in (2, 3, 5) else -1
+        around = (nodes[parent_of(nodes, self.place)][0], self.place in self.steps) if (self.number, kind) == (7, 31) else None
+        return {(self.number, group, kind, endless, around)}
 
     def text(self, name):
         program = "pub program-%s : Program\nprogram-%s = %s\n" % (name, name, self.program)

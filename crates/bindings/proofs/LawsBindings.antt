@@ -1,7 +1,7 @@
 -- Laws of the bindings: the binder, the type and the name of a position, what a name means in the scope that the buffers hold, the way
 -- along a chain, one binding more and one less. Assumes nothing.
 use mathlib.Core.Path.{_≡_, refl, ap, sym, subst, _∙_}
-use mathlib.Core.Bool.{Bool, true, false, not, _&&_}
+use mathlib.Core.Bool.{Bool, true, false, not}
 use mathlib.Core.List.{List, _∷_}
 use Prim.Native.Nat.{ℕ, zero, suc, _+_, _-_, _*_, _%_, _≤_, _<_}
 use native.Mathlib.Numerals.{add-one}
@@ -11,12 +11,13 @@ use lib.ListN.{length, getD, set, length-set}
 use lib.Seq.{getD-set-same, getD-set-other}
 use lib.Dec.{eqb, ltb}
 use borrow.Author.Count.{below-more}
-use borrow.Author.Tests.{eq-eqb, ne-eqb, ltb-true, ltb-false, lt-ltb, le-ltb}
+use borrow.Author.Tests.{ltb-true, ltb-false, lt-ltb, le-ltb}
 use Rattle.oat.specs.Basics.{pick}
 use Rattle.oat.specs.Tables.{Tables, builtInAt, nodeAt}
 use Rattle.chains.specs.Chains.{highest, Chains}
 use Rattle.chains.proofs.LawsChains.{Walks, highest-most, highest-reaches, walk-starts, walk-falls, walk-on, walk-highest, chains-same, chains-none, linked, unlinked}
 use Rattle.typing_rules.specs.Contexts.{Scope, empty, binds, inner, Hit, hit, miss, isMiss, nearest, Entry, find, findName, isUnbound, isFreshAt, isFresh, isFixed, orElse}
+use Rattle.typing_rules.proofs.LawsLevels.{deepest-inner, deepest-binds, fresh-inner, fresh-binds}
 use Rattle.file_sections.specs.declared.Sections.{Sections}
 use Rattle.file_sections.specs.Layout.{Laid, Has, tablesOf}
 use Rattle.file_sections.specs.Frames.{Same}
@@ -495,22 +496,22 @@ module _ {T : Tables} {W : List ℕ} {base start s : ℕ} {Γ : Scope ℕ} (h : 
   holds-inner = record {
     low = omega arith;
     means = h .means;
-    fresh = λ x. h .deepest (suc (Γ .level)) x (omega arith) ∙ ap (isUnbound x) (sym (scope-none T W s));
-    deepest = λ l x k. h .deepest l x (omega arith);
+    fresh = λ x. fresh-inner Γ (h .deepest) x ∙ ap (isUnbound x) (sym (scope-none T W s));
+    deepest = deepest-inner Γ (h .deepest);
   }
 
   holds-more : base ≤ s → Holds T W base start (suc s) (binds Γ (nameBound T W s) (typeBound T W s) (binderOf T W s))
-  unfolding nearest isFreshAt
+  unfolding nearest
   holds-more l = record {
     low = omega (arith, h .low);
     means = λ x. ap (λ m. pick (eqb (nameBound T W s) x) (hit (typeBound T W s) (binderOf T W s)) m) (h .means x) ∙ ap (find x) (sym (scope-more T W base s l));
-    fresh = λ x. own x ∙ ap (λ m. pick (eqb (nameBound T W s) x) false m) (h .fresh x) ∙ taken (eqb (nameBound T W s) x) _ ∙ ap (isUnbound x) (sym (scope-more T W start s (h .low)));
-    deepest = λ k x g. rw (ne-eqb (Γ .level) k (λ e. omega arith)) (h .deepest k x g);
+    fresh = λ x. fresh-binds Γ (nameBound T W s) (typeBound T W s) (binderOf T W s) x
+        ∙ ap (λ m. pick (eqb (nameBound T W s) x) false m) (h .fresh x)
+        ∙ taken (eqb (nameBound T W s) x) _
+        ∙ ap (isUnbound x) (sym (scope-more T W start s (h .low)));
+    deepest = deepest-binds Γ (h .deepest) (nameBound T W s) (typeBound T W s) (binderOf T W s);
   }
     where
-      own : (x : ℕ) → isFresh x (binds Γ (nameBound T W s) (typeBound T W s) (binderOf T W s)) ≡ pick (eqb (nameBound T W s) x) false (isFresh x Γ)
-      own x = rw (eq-eqb (Γ .level) (Γ .level) refl)
-
       taken : (a : Bool) (m : Hit ℕ) → pick a false (isMiss m) ≡ isMiss (pick a (hit (typeBound T W s) (binderOf T W s)) m)
       taken true m = refl
       taken false m = refl

@@ -1,4 +1,5 @@
 pub mod Blank
+pub mod Blocks
 pub mod Endless
 pub mod Example
 pub mod Growth

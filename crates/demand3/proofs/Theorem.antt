@@ -128,17 +128,21 @@ module _ (limits : Limits) (bytes rows work : List ℕ) where
   same-outcome : (p q : Program) → IsFile limits bytes p → IsFile limits bytes q → outcomeOf q rows (checkOf q) ≡ outcomeOf p rows (checkOf p)
   same-outcome p q f g = ap (λ (x : Program). outcomeOf x rows (checkOf x)) (one-program limits bytes q p g f)
 
+  pub outcome-is : inRange limits ≡ true → (p : Program) → IsFile limits bytes p → needed p ≤ length rows → needed p ≤ length work → (o : Outcome) → Checks limits bytes rows work o
+      → o ≡ outcome (checkOf p .number) (checkOf p .step) (checkOf p .place) (checkOf p .rows ++ drop (needed p) rows)
+  unfolding outcomeOf
+  outcome-is i p f r w o (unreadable n e) = absurd (not-refused limits i bytes n e p f)
+  outcome-is i p f r w o (rows-short j q g l) =
+      let same : needed q ≡ needed p = ap needed (one-program limits bytes q p g f) in
+      absurd (omega arith)
+  outcome-is i p f r w o (work-short j q g l k) =
+      let same : needed q ≡ needed p = ap needed (one-program limits bytes q p g f) in
+      absurd (omega arith)
+  outcome-is i p f r w o (checked j q g l k) = same-outcome p q f g
+
   pub demand3 : inRange limits ≡ true → (p : Program) → IsFile limits bytes p → needed p ≤ length rows → needed p ≤ length work → (o : Outcome) → Checks limits bytes rows work o → Demand3 p rows o
   unfolding outcomeOf
-  demand3 i p f r w o (unreadable n e) = absurd (not-refused limits i bytes n e p f)
-  demand3 i p f r w o (rows-short j q g l) =
-      let same : needed q ≡ needed p = ap needed (one-program limits bytes q p g f) in
-      absurd (omega arith)
-  demand3 i p f r w o (work-short j q g l k) =
-      let same : needed q ≡ needed p = ap needed (one-program limits bytes q p g f) in
-      absurd (omega arith)
-  demand3 i p f r w o (checked j q g l k) =
-      subst (Demand3 p rows) (sym (same-outcome p q f g)) (checked-case bytes rows p (wider (within-widest limits i) f))
+  demand3 i p f r w o c = subst (Demand3 p rows) (sym (outcome-is i p f r w o c)) (checked-case bytes rows p (wider (within-widest limits i) f))
 
   -- every input has an outcome
   lengths : inRange limits ≡ true → (p : Program) → IsFile limits bytes p → (a b : Bool) → ltb (length rows) (needed p) ≡ a → ltb (length work) (needed p) ≡ b → (o : Outcome) × Checks limits bytes rows work o

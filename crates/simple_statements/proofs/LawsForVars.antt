@@ -185,7 +185,6 @@ module _ {F : List ℕ} {S : Sections} {X R W K : List ℕ} {base start n s left
     so-far : PrefixVars F S X base start n s R W left m h i R₁ W₁ K₁ (g .vars) (some-scope .0)
     so-far = w .part (g .vars) (g .stand) (g .counted) (some-scope .0) (some-scope .1)
 
-
     module _ (more : i < left) where
       pub vars-kind : nodeAt (tablesOf F S) m .kind ≡ 31
       vars-kind =

@@ -33,22 +33,23 @@ pub record Answers (p : Program) (number step place : ℕ) (rows : List ℕ) : T
 pub program-accepted-1 : Program
 program-accepted-1 = record {
   tables = record {
-    types = (ty 0 0 0 0 ∷ ty 1 0 0 0 ∷ ty 2 0 0 0 ∷ ty 3 0 0 0 ∷ ty 4 1 0 0 ∷ ty 4 2 0 0 ∷ ty 4 3 0 0 ∷ ty 7 4 0 0 ∷ ty 7 5 0 0
-        ∷ ty 5 4 0 0 ∷ ty 5 5 0 0 ∷ ty 5 0 0 0 ∷ ty 6 3 0 0 ∷ ty 6 0 0 0 ∷ ty 6 0 0 1 ∷ ty 4 9 0 0 ∷ ty 7 15 0 0 ∷ ty 5 15 0 0
-        ∷ ty 6 3 1 1 ∷ ty 7 2 0 0 ∷ ty 5 2 0 0 ∷ ty 5 0 0 0 ∷ ty 4 1 0 0 ∷ ty 5 7 0 0 ∷ ty 7 11 0 0 ∷ ty 6 5 2 1 ∷ ty 6 4 3 1
-        ∷ ty 5 1 0 0 ∷ ty 6 3 4 2 ∷ ty 5 11 0 0 ∷ ty 7 13 0 0 ∷ ty 6 15 6 0 ∷ ty 6 17 6 1 ∷ ty 7 17 0 0 ∷ ty 6 21 7 0
-        ∷ ty 6 21 7 1 ∷ ty 6 11 8 1 ∷ ty 6 3 9 1 ∷ ty 6 3 10 2 ∷ ty 6 3 12 2 ∷ []);
-    list = (0 ∷ 15 ∷ 4 ∷ 5 ∷ 0 ∷ 1 ∷ 17 ∷ 21 ∷ 22 ∷ 7 ∷ 0 ∷ 0 ∷ 4 ∷ 4 ∷ []);
+    types = (ty 0 0 0 0 ∷ ty 1 0 0 0 ∷ ty 2 0 0 0 ∷ ty 3 0 0 0 ∷ ty 6 3 0 0 ∷ ty 6 0 0 0 ∷ ty 6 0 0 1 ∷ ty 6 3 1 2 ∷ ty 7 2 0 0
+        ∷ ty 5 0 0 0 ∷ ty 5 9 0 0 ∷ ty 7 9 0 0 ∷ ty 5 1 0 0 ∷ ty 6 3 3 1 ∷ ty 6 9 4 1 ∷ ty 4 9 0 0 ∷ ty 7 15 0 0 ∷ ty 5 15 0 0
+        ∷ []);
+    list = (0 ∷ 0 ∷ 0 ∷ 8 ∷ 9 ∷ []);
     fields = ([]);
     structs = ([]);
     builtIns = ([]);
-    nodes = (nd 2 10 13 1 ∷ nd 39 0 0 1 ∷ nd 32 0 0 1 ∷ nd 26 3 0 2 ∷ nd 13 1 0 0 ∷ nd 13 1 0 0 ∷ []);
+    nodes = (nd 2 10 6 2 ∷ nd 3 20 0 0 ∷ nd 39 0 0 2 ∷ nd 37 0 0 3 ∷ nd 40 0 0 0 ∷ nd 38 0 0 2 ∷ nd 12 0 0 0 ∷ nd 39 0 0 2
+        ∷ nd 31 20 0 1 ∷ nd 11 0 0 0 ∷ nd 30 0 0 2 ∷ nd 15 20 0 0 ∷ nd 11 0 0 0 ∷ nd 39 0 0 0 ∷ nd 32 0 0 1 ∷ nd 15 20 0 0 ∷ []);
   };
-  declarations = (function 10 13 ([]) (block (then (returnValue (binary 3 (literal (integer 1)) (literal (integer 1)))) empty))
-      ∷ []);
+  declarations = (function 10 6 (20 ∷ []) (block (then (for noVar noCondition (step (while (literal falsity) (block (then (var 20
+      (literal truth)) (then (assign (nameTarget 20) (literal truth)) empty))))) (block empty)) (then (returnValue (name 20))
+      empty))) ∷ []);
 }
 
-pub accepted-1 : Answers program-accepted-1 0 2 0 (1 ∷ 65535 ∷ 1 ∷ 65535 ∷ 1 ∷ 65535 ∷ 0 ∷ 65535 ∷ 0 ∷ 65535 ∷ 0 ∷ 65535 ∷ [])
+pub accepted-1 : Answers program-accepted-1 0 2 0 (1 ∷ 65535 ∷ 0 ∷ 65535 ∷ 1 ∷ 65535 ∷ 0 ∷ 65535 ∷ 0 ∷ 65535 ∷ 0 ∷ 65535 ∷ 1
+    ∷ 65535 ∷ 0 ∷ 65535 ∷ 0 ∷ 65535 ∷ 1 ∷ 65535 ∷ 0 ∷ 65535 ∷ 1 ∷ 8 ∷ 1 ∷ 65535 ∷ 0 ∷ 65535 ∷ 1 ∷ 65535 ∷ 0 ∷ 1 ∷ [])
 unfolding program-accepted-1 computed isFile
 accepted-1 = record { file = is-file widest program-accepted-1 refl; answer = refl }
 
@@ -64,9 +65,9 @@ program-accepted-2 = record {
     fields = ([]);
     structs = ([]);
     builtIns = ([]);
-    nodes = (nd 2 10 13 1 ∷ nd 39 0 0 1 ∷ nd 32 0 0 1 ∷ nd 26 5 0 2 ∷ nd 13 1 0 0 ∷ nd 13 1 0 0 ∷ []);
+    nodes = (nd 2 10 13 1 ∷ nd 39 0 0 1 ∷ nd 32 0 0 1 ∷ nd 26 3 0 2 ∷ nd 13 1 0 0 ∷ nd 13 1 0 0 ∷ []);
   };
-  declarations = (function 10 13 ([]) (block (then (returnValue (binary 5 (literal (integer 1)) (literal (integer 1)))) empty))
+  declarations = (function 10 13 ([]) (block (then (returnValue (binary 3 (literal (integer 1)) (literal (integer 1)))) empty))
       ∷ []);
 }
 
@@ -86,15 +87,13 @@ program-accepted-3 = record {
     fields = ([]);
     structs = ([]);
     builtIns = ([]);
-    nodes = (nd 2 10 12 1 ∷ nd 39 0 0 2 ∷ nd 37 0 0 3 ∷ nd 40 0 0 0 ∷ nd 38 0 0 2 ∷ nd 11 0 0 0 ∷ nd 39 0 0 0 ∷ nd 39 0 0 0
-        ∷ nd 33 0 0 0 ∷ []);
+    nodes = (nd 2 10 13 1 ∷ nd 39 0 0 1 ∷ nd 32 0 0 1 ∷ nd 26 5 0 2 ∷ nd 13 1 0 0 ∷ nd 13 1 0 0 ∷ []);
   };
-  declarations = (function 10 12 ([]) (block (then (for noVar noCondition (step (while (literal truth) (block empty))) (block
-      empty)) (then returnVoid empty))) ∷ []);
+  declarations = (function 10 13 ([]) (block (then (returnValue (binary 5 (literal (integer 1)) (literal (integer 1)))) empty))
+      ∷ []);
 }
 
-pub accepted-3 : Answers program-accepted-3 0 2 0 (1 ∷ 65535 ∷ 1 ∷ 65535 ∷ 0 ∷ 65535 ∷ 0 ∷ 65535 ∷ 0 ∷ 65535 ∷ 1 ∷ 65535 ∷ 0
-    ∷ 65535 ∷ 0 ∷ 65535 ∷ 1 ∷ 65535 ∷ [])
+pub accepted-3 : Answers program-accepted-3 0 2 0 (1 ∷ 65535 ∷ 1 ∷ 65535 ∷ 1 ∷ 65535 ∷ 0 ∷ 65535 ∷ 0 ∷ 65535 ∷ 0 ∷ 65535 ∷ [])
 unfolding program-accepted-3 computed isFile
 accepted-3 = record { file = is-file widest program-accepted-3 refl; answer = refl }
 
@@ -110,41 +109,37 @@ program-accepted-4 = record {
     fields = ([]);
     structs = ([]);
     builtIns = ([]);
-    nodes = (nd 2 10 12 1 ∷ nd 39 0 0 2 ∷ nd 37 0 0 3 ∷ nd 40 0 0 0 ∷ nd 38 0 0 2 ∷ nd 12 0 0 0 ∷ nd 39 0 0 1 ∷ nd 38 0 0 2
-        ∷ nd 11 0 0 0 ∷ nd 39 0 0 0 ∷ nd 39 0 0 0 ∷ nd 33 0 0 0 ∷ []);
+    nodes = (nd 2 10 12 1 ∷ nd 39 0 0 2 ∷ nd 37 0 0 3 ∷ nd 40 0 0 0 ∷ nd 38 0 0 2 ∷ nd 11 0 0 0 ∷ nd 39 0 0 0 ∷ nd 39 0 0 0
+        ∷ nd 33 0 0 0 ∷ []);
   };
-  declarations = (function 10 12 ([]) (block (then (for noVar noCondition (step (while (literal falsity) (block (then (while
-      (literal truth) (block empty)) empty)))) (block empty)) (then returnVoid empty))) ∷ []);
+  declarations = (function 10 12 ([]) (block (then (for noVar noCondition (step (while (literal truth) (block empty))) (block
+      empty)) (then returnVoid empty))) ∷ []);
 }
 
-pub accepted-4 : Answers program-accepted-4 0 2 0 (1 ∷ 65535 ∷ 1 ∷ 65535 ∷ 0 ∷ 65535 ∷ 0 ∷ 65535 ∷ 0 ∷ 65535 ∷ 1 ∷ 65535 ∷ 1
-    ∷ 65535 ∷ 1 ∷ 65535 ∷ 1 ∷ 65535 ∷ 0 ∷ 65535 ∷ 0 ∷ 65535 ∷ 1 ∷ 65535 ∷ [])
+pub accepted-4 : Answers program-accepted-4 0 2 0 (1 ∷ 65535 ∷ 1 ∷ 65535 ∷ 0 ∷ 65535 ∷ 0 ∷ 65535 ∷ 0 ∷ 65535 ∷ 1 ∷ 65535 ∷ 0
+    ∷ 65535 ∷ 0 ∷ 65535 ∷ 1 ∷ 65535 ∷ [])
 unfolding program-accepted-4 computed isFile
 accepted-4 = record { file = is-file widest program-accepted-4 refl; answer = refl }
 
 pub program-accepted-5 : Program
 program-accepted-5 = record {
   tables = record {
-    types = (ty 0 0 0 0 ∷ ty 1 0 0 0 ∷ ty 2 0 0 0 ∷ ty 3 0 0 0 ∷ ty 4 1 0 0 ∷ ty 4 2 0 0 ∷ ty 4 3 0 0 ∷ ty 7 4 0 0 ∷ ty 7 5 0 0
-        ∷ ty 5 4 0 0 ∷ ty 5 5 0 0 ∷ ty 5 0 0 0 ∷ ty 6 3 0 0 ∷ ty 6 0 0 0 ∷ ty 6 0 0 1 ∷ ty 4 9 0 0 ∷ ty 7 15 0 0 ∷ ty 5 15 0 0
-        ∷ ty 6 3 1 1 ∷ ty 7 2 0 0 ∷ ty 5 2 0 0 ∷ ty 5 0 0 0 ∷ ty 4 1 0 0 ∷ ty 5 7 0 0 ∷ ty 7 11 0 0 ∷ ty 6 5 2 1 ∷ ty 6 4 3 1
-        ∷ ty 5 1 0 0 ∷ ty 6 3 4 2 ∷ ty 5 11 0 0 ∷ ty 7 13 0 0 ∷ ty 6 15 6 0 ∷ ty 6 17 6 1 ∷ ty 7 17 0 0 ∷ ty 6 21 7 0
-        ∷ ty 6 21 7 1 ∷ ty 6 11 8 1 ∷ ty 6 3 9 1 ∷ ty 6 3 10 2 ∷ ty 6 3 12 2 ∷ []);
-    list = (0 ∷ 15 ∷ 4 ∷ 5 ∷ 0 ∷ 1 ∷ 17 ∷ 21 ∷ 22 ∷ 7 ∷ 0 ∷ 0 ∷ 4 ∷ 4 ∷ []);
+    types = (ty 0 0 0 0 ∷ ty 1 0 0 0 ∷ ty 2 0 0 0 ∷ ty 3 0 0 0 ∷ ty 6 3 0 0 ∷ ty 6 0 0 0 ∷ ty 6 0 0 1 ∷ ty 6 3 1 2 ∷ ty 7 2 0 0
+        ∷ ty 5 0 0 0 ∷ ty 5 9 0 0 ∷ ty 7 9 0 0 ∷ ty 5 1 0 0 ∷ ty 6 3 3 1 ∷ ty 6 9 4 1 ∷ ty 4 9 0 0 ∷ ty 7 15 0 0 ∷ ty 5 15 0 0
+        ∷ []);
+    list = (0 ∷ 0 ∷ 0 ∷ 8 ∷ 9 ∷ []);
     fields = ([]);
     structs = ([]);
-    builtIns = ([]);
-    nodes = (nd 2 10 12 1 ∷ nd 39 0 0 2 ∷ nd 37 0 0 4 ∷ nd 31 20 0 1 ∷ nd 13 1 0 0 ∷ nd 26 6 0 2 ∷ nd 15 20 0 0 ∷ nd 13 9 0 0
-        ∷ nd 30 0 0 2 ∷ nd 15 20 0 0 ∷ nd 26 1 0 2 ∷ nd 15 20 0 0 ∷ nd 13 1 0 0 ∷ nd 39 0 0 1 ∷ nd 31 21 0 1 ∷ nd 15 20 0 0
+    builtIns = (bi 12 4 ∷ []);
+    nodes = (nd 2 10 4 1 ∷ nd 39 0 0 3 ∷ nd 31 21 0 1 ∷ nd 18 12 9 2 ∷ nd 13 1 0 0 ∷ nd 15 12 0 0 ∷ nd 34 0 0 1 ∷ nd 15 12 0 0
         ∷ nd 33 0 0 0 ∷ []);
   };
-  declarations = (function 10 12 ([]) (block (then (for (nextVar 20 (literal (integer 1)) noVar) (condition (binary 6 (name 20)
-      (literal (integer 9)))) (step (assign (nameTarget 20) (binary 1 (name 20) (literal (integer 1))))) (block (then (var 21
-      (name 20)) empty))) (then returnVoid empty))) ∷ []);
+  declarations = (function 10 4 ([]) (block (then (var 21 (arrayWith 9 12 (literal (integer 1)) (name 12))) (then (callStmt (name
+      12) none) (then returnVoid empty)))) ∷ []);
 }
 
-pub accepted-5 : Answers program-accepted-5 0 2 0 (1 ∷ 65535 ∷ 1 ∷ 65535 ∷ 0 ∷ 65535 ∷ 0 ∷ 65535 ∷ 0 ∷ 65535 ∷ 1 ∷ 65535 ∷ 0 ∷ 3
-    ∷ 0 ∷ 65535 ∷ 0 ∷ 65535 ∷ 0 ∷ 3 ∷ 0 ∷ 65535 ∷ 0 ∷ 3 ∷ 0 ∷ 65535 ∷ 0 ∷ 65535 ∷ 0 ∷ 65535 ∷ 0 ∷ 3 ∷ 1 ∷ 65535 ∷ [])
+pub accepted-5 : Answers program-accepted-5 0 3 0 (1 ∷ 65535 ∷ 1 ∷ 65535 ∷ 0 ∷ 65535 ∷ 9 ∷ 65535 ∷ 0 ∷ 65535 ∷ 0 ∷ 3 ∷ 0 ∷ 65535
+    ∷ 4 ∷ 40000 ∷ 1 ∷ 65535 ∷ [])
 unfolding program-accepted-5 computed isFile
 accepted-5 = record { file = is-file widest program-accepted-5 refl; answer = refl }
 
@@ -157,28 +152,88 @@ program-accepted-6 = record {
     fields = ([]);
     structs = ([]);
     builtIns = (bi 50 4 ∷ []);
-    nodes = (nd 1 40 0 1 ∷ nd 11 0 0 0 ∷ nd 1 41 0 1 ∷ nd 13 1 0 0 ∷ nd 2 10 4 1 ∷ nd 39 0 0 1 ∷ nd 35 0 0 3 ∷ nd 11 0 0 0
-        ∷ nd 39 0 0 1 ∷ nd 38 0 0 2 ∷ nd 11 0 0 0 ∷ nd 39 0 0 3 ∷ nd 34 0 0 1 ∷ nd 15 50 0 0 ∷ nd 38 0 0 2 ∷ nd 11 0 0 0
-        ∷ nd 39 0 0 1 ∷ nd 33 0 0 0 ∷ nd 36 100 2 3 ∷ nd 10 0 8 0 ∷ nd 39 0 0 3 ∷ nd 31 101 0 1 ∷ nd 13 1 0 0 ∷ nd 30 0 0 2
-        ∷ nd 15 41 0 0 ∷ nd 13 2 0 0 ∷ nd 30 0 0 2 ∷ nd 15 41 0 0 ∷ nd 13 2 0 0 ∷ nd 39 0 0 1 ∷ nd 38 0 0 2 ∷ nd 11 0 0 0
-        ∷ nd 39 0 0 0 ∷ nd 39 0 0 1 ∷ nd 33 0 0 0 ∷ []);
+    nodes = (nd 1 40 0 1 ∷ nd 11 0 0 0 ∷ nd 1 41 0 1 ∷ nd 13 1 0 0 ∷ nd 2 10 4 1 ∷ nd 39 0 0 3 ∷ nd 38 0 0 2 ∷ nd 11 0 0 0
+        ∷ nd 39 0 0 2 ∷ nd 36 100 2 3 ∷ nd 10 0 8 0 ∷ nd 39 0 0 3 ∷ nd 38 0 0 2 ∷ nd 25 1 0 1 ∷ nd 12 0 0 0 ∷ nd 39 0 0 3
+        ∷ nd 34 0 0 1 ∷ nd 15 50 0 0 ∷ nd 31 101 0 1 ∷ nd 13 1 0 0 ∷ nd 34 0 0 1 ∷ nd 15 50 0 0 ∷ nd 38 0 0 2 ∷ nd 11 0 0 0
+        ∷ nd 39 0 0 3 ∷ nd 31 102 0 1 ∷ nd 13 1 0 0 ∷ nd 30 0 0 2 ∷ nd 15 41 0 0 ∷ nd 13 2 0 0 ∷ nd 31 103 0 1 ∷ nd 13 1 0 0
+        ∷ nd 31 104 0 1 ∷ nd 13 1 0 0 ∷ nd 39 0 0 2 ∷ nd 34 0 0 1 ∷ nd 15 50 0 0 ∷ nd 38 0 0 2 ∷ nd 11 0 0 0 ∷ nd 39 0 0 0
+        ∷ nd 31 105 0 1 ∷ nd 13 1 0 0 ∷ nd 34 0 0 1 ∷ nd 15 50 0 0 ∷ nd 33 0 0 0 ∷ []);
   };
-  declarations = (global 40 (literal truth) ∷ global 41 (literal (integer 1)) ∷ function 10 4 ([]) (block (then (ifElse (literal
-      truth) (block (then (while (literal truth) (block (then (callStmt (name 50) none) (then (while (literal truth) (block (then
-      returnVoid empty))) (then (ifNull 100 2 (null 8) (block (then (var 101 (literal (integer 1))) (then (assign (nameTarget 41)
-      (literal (integer 2))) (then (assign (nameTarget 41) (literal (integer 2))) empty)))) (block (then (while (literal truth)
-      (block empty)) empty))) empty))))) empty)) (block (then returnVoid empty))) empty)) ∷ []);
+  declarations = (global 40 (literal truth) ∷ global 41 (literal (integer 1)) ∷ function 10 4 ([]) (block (then (while (literal
+      truth) (block (then (ifNull 100 2 (null 8) (block (then (while (unary 1 (literal falsity)) (block (then (callStmt (name 50)
+      none) (then (var 101 (literal (integer 1))) (then (callStmt (name 50) none) empty))))) (then (while (literal truth) (block
+      (then (var 102 (literal (integer 1))) (then (assign (nameTarget 41) (literal (integer 2))) (then (var 103 (literal (integer
+      1))) empty))))) (then (var 104 (literal (integer 1))) empty)))) (block (then (callStmt (name 50) none) (then (while (literal
+      truth) (block empty)) empty)))) (then (var 105 (literal (integer 1))) empty)))) (then (callStmt (name 50) none) (then
+      returnVoid empty)))) ∷ []);
 }
 
-pub accepted-6 : Answers program-accepted-6 0 5 0 (1 ∷ 65535 ∷ 1 ∷ 65535 ∷ 0 ∷ 65535 ∷ 0 ∷ 65535 ∷ 1 ∷ 65535 ∷ 1 ∷ 65535 ∷ 1
-    ∷ 65535 ∷ 1 ∷ 65535 ∷ 1 ∷ 65535 ∷ 1 ∷ 65535 ∷ 1 ∷ 65535 ∷ 0 ∷ 65535 ∷ 0 ∷ 65535 ∷ 4 ∷ 40000 ∷ 0 ∷ 65535 ∷ 1 ∷ 65535 ∷ 1
-    ∷ 65535 ∷ 1 ∷ 65535 ∷ 0 ∷ 65535 ∷ 8 ∷ 65535 ∷ 0 ∷ 65535 ∷ 0 ∷ 65535 ∷ 0 ∷ 65535 ∷ 0 ∷ 65535 ∷ 0 ∷ 2 ∷ 0 ∷ 65535 ∷ 0 ∷ 65535
-    ∷ 0 ∷ 2 ∷ 0 ∷ 65535 ∷ 1 ∷ 65535 ∷ 1 ∷ 65535 ∷ 1 ∷ 65535 ∷ 0 ∷ 65535 ∷ 1 ∷ 65535 ∷ 1 ∷ 65535 ∷ [])
+pub accepted-6 : Answers program-accepted-6 0 5 0 (1 ∷ 65535 ∷ 1 ∷ 65535 ∷ 0 ∷ 65535 ∷ 0 ∷ 65535 ∷ 1 ∷ 65535 ∷ 1 ∷ 65535 ∷ 0
+    ∷ 65535 ∷ 1 ∷ 65535 ∷ 0 ∷ 65535 ∷ 0 ∷ 65535 ∷ 8 ∷ 65535 ∷ 0 ∷ 65535 ∷ 0 ∷ 65535 ∷ 1 ∷ 65535 ∷ 1 ∷ 65535 ∷ 0 ∷ 65535 ∷ 0
+    ∷ 65535 ∷ 4 ∷ 40000 ∷ 0 ∷ 65535 ∷ 0 ∷ 65535 ∷ 0 ∷ 65535 ∷ 4 ∷ 40000 ∷ 0 ∷ 65535 ∷ 1 ∷ 65535 ∷ 0 ∷ 65535 ∷ 0 ∷ 65535 ∷ 0
+    ∷ 65535 ∷ 0 ∷ 65535 ∷ 0 ∷ 2 ∷ 0 ∷ 65535 ∷ 0 ∷ 65535 ∷ 0 ∷ 65535 ∷ 0 ∷ 65535 ∷ 0 ∷ 65535 ∷ 1 ∷ 65535 ∷ 0 ∷ 65535 ∷ 4 ∷ 40000
+    ∷ 1 ∷ 65535 ∷ 1 ∷ 65535 ∷ 0 ∷ 65535 ∷ 0 ∷ 65535 ∷ 0 ∷ 65535 ∷ 0 ∷ 65535 ∷ 4 ∷ 40000 ∷ 1 ∷ 65535 ∷ [])
 unfolding program-accepted-6 computed isFile
 accepted-6 = record { file = is-file widest program-accepted-6 refl; answer = refl }
 
 pub program-accepted-7 : Program
 program-accepted-7 = record {
+  tables = record {
+    types = (ty 0 0 0 0 ∷ ty 1 0 0 0 ∷ ty 2 0 0 0 ∷ ty 3 0 0 0 ∷ ty 6 3 0 0 ∷ ty 6 3 0 1 ∷ ty 6 3 1 1 ∷ ty 6 3 2 1 ∷ ty 7 2 0 0
+        ∷ ty 5 0 0 0 ∷ ty 6 3 3 2 ∷ ty 6 0 5 1 ∷ ty 6 3 6 2 ∷ ty 6 0 8 0 ∷ []);
+    list = (0 ∷ 1 ∷ 2 ∷ 0 ∷ 1 ∷ 8 ∷ 9 ∷ 0 ∷ []);
+    fields = ([]);
+    structs = ([]);
+    builtIns = (bi 50 4 ∷ bi 60 5 ∷ bi 61 6 ∷ bi 62 7 ∷ []);
+    nodes = (nd 1 40 0 1 ∷ nd 13 1 0 0 ∷ nd 2 10 11 2 ∷ nd 3 50 0 0 ∷ nd 39 0 0 3 ∷ nd 31 20 0 1 ∷ nd 10 0 8 0 ∷ nd 30 0 0 2
+        ∷ nd 15 20 0 0 ∷ nd 15 50 0 0 ∷ nd 32 0 0 1 ∷ nd 20 0 0 1 ∷ nd 18 20 9 2 ∷ nd 13 1 0 0 ∷ nd 15 20 0 0 ∷ []);
+  };
+  declarations = (global 40 (literal (integer 1)) ∷ function 10 11 (50 ∷ []) (block (then (var 20 (null 8)) (then (assign
+      (nameTarget 20) (name 50)) (then (returnValue (lengthOf (arrayWith 9 20 (literal (integer 1)) (name 20)))) empty)))) ∷ []);
+}
+
+pub accepted-7 : Answers program-accepted-7 0 7 0 (0 ∷ 65535 ∷ 0 ∷ 65535 ∷ 1 ∷ 65535 ∷ 8 ∷ 65535 ∷ 1 ∷ 65535 ∷ 0 ∷ 65535 ∷ 8
+    ∷ 65535 ∷ 0 ∷ 65535 ∷ 8 ∷ 5 ∷ 8 ∷ 3 ∷ 1 ∷ 65535 ∷ 0 ∷ 65535 ∷ 9 ∷ 65535 ∷ 0 ∷ 65535 ∷ 0 ∷ 12 ∷ [])
+unfolding program-accepted-7 computed isFile
+accepted-7 = record { file = is-file widest program-accepted-7 refl; answer = refl }
+
+pub program-accepted-8 : Program
+program-accepted-8 = record {
+  tables = record {
+    types = (ty 0 0 0 0 ∷ ty 1 0 0 0 ∷ ty 2 0 0 0 ∷ ty 3 0 0 0 ∷ ty 6 3 0 0 ∷ ty 6 3 0 1 ∷ ty 6 3 1 1 ∷ ty 6 3 2 1 ∷ ty 7 2 0 0
+        ∷ ty 5 0 0 0 ∷ ty 6 3 3 2 ∷ ty 6 0 5 1 ∷ ty 6 3 6 2 ∷ ty 6 0 8 0 ∷ []);
+    list = (0 ∷ 1 ∷ 2 ∷ 0 ∷ 1 ∷ 8 ∷ 9 ∷ 0 ∷ []);
+    fields = ([]);
+    structs = ([]);
+    builtIns = (bi 50 4 ∷ bi 60 5 ∷ bi 61 6 ∷ bi 62 7 ∷ []);
+    nodes = (nd 1 40 0 1 ∷ nd 13 1 0 0 ∷ nd 2 10 12 3 ∷ nd 3 50 0 0 ∷ nd 3 21 0 0 ∷ nd 39 0 0 3 ∷ nd 36 50 2 3 ∷ nd 10 0 8 0
+        ∷ nd 39 0 0 2 ∷ nd 31 20 0 1 ∷ nd 15 50 0 0 ∷ nd 36 20 2 3 ∷ nd 10 0 8 0 ∷ nd 39 0 0 2 ∷ nd 36 50 2 3 ∷ nd 10 0 8 0
+        ∷ nd 39 0 0 1 ∷ nd 34 0 0 2 ∷ nd 15 62 0 0 ∷ nd 15 20 0 0 ∷ nd 39 0 0 2 ∷ nd 30 0 0 2 ∷ nd 15 20 0 0 ∷ nd 15 50 0 0
+        ∷ nd 31 20 0 1 ∷ nd 18 21 9 2 ∷ nd 15 21 0 0 ∷ nd 13 1 0 0 ∷ nd 31 20 0 1 ∷ nd 15 50 0 0 ∷ nd 39 0 0 4 ∷ nd 31 20 0 1
+        ∷ nd 15 21 0 0 ∷ nd 31 21 0 1 ∷ nd 15 50 0 0 ∷ nd 31 50 0 1 ∷ nd 18 50 9 2 ∷ nd 15 20 0 0 ∷ nd 15 20 0 0 ∷ nd 34 0 0 2
+        ∷ nd 15 61 0 0 ∷ nd 12 0 0 0 ∷ nd 39 0 0 2 ∷ nd 31 50 0 1 ∷ nd 15 50 0 0 ∷ nd 31 20 0 1 ∷ nd 15 50 0 0 ∷ nd 34 0 0 2
+        ∷ nd 15 61 0 0 ∷ nd 26 6 0 2 ∷ nd 15 21 0 0 ∷ nd 13 1 0 0 ∷ nd 33 0 0 0 ∷ []);
+  };
+  declarations = (global 40 (literal (integer 1)) ∷ function 10 12 (50 ∷ 21 ∷ []) (block (then (ifNull 50 2 (null 8) (block (then
+      (var 20 (name 50)) (then (ifNull 20 2 (null 8) (block (then (ifNull 50 2 (null 8) (block (then (callStmt (name 62) (also
+      (name 20) none)) empty)) (block (then (assign (nameTarget 20) (name 50)) (then (var 20 (arrayWith 9 21 (name 21) (literal
+      (integer 1)))) empty)))) (then (var 20 (name 50)) empty))) (block (then (var 20 (name 21)) (then (var 21 (name 50)) (then
+      (var 50 (arrayWith 9 50 (name 20) (name 20))) (then (callStmt (name 61) (also (literal falsity) none)) empty)))))) empty)))
+      (block (then (var 50 (name 50)) (then (var 20 (name 50)) empty)))) (then (callStmt (name 61) (also (binary 6 (name 21)
+      (literal (integer 1))) none)) (then returnVoid empty)))) ∷ []);
+}
+
+pub accepted-8 : Answers program-accepted-8 0 7 0 (0 ∷ 65535 ∷ 0 ∷ 65535 ∷ 1 ∷ 65535 ∷ 9 ∷ 65535 ∷ 0 ∷ 65535 ∷ 1 ∷ 65535 ∷ 0
+    ∷ 65535 ∷ 8 ∷ 65535 ∷ 0 ∷ 65535 ∷ 0 ∷ 65535 ∷ 2 ∷ 6 ∷ 0 ∷ 65535 ∷ 8 ∷ 65535 ∷ 0 ∷ 65535 ∷ 0 ∷ 65535 ∷ 8 ∷ 65535 ∷ 0 ∷ 65535
+    ∷ 0 ∷ 65535 ∷ 7 ∷ 40003 ∷ 2 ∷ 11 ∷ 0 ∷ 65535 ∷ 0 ∷ 65535 ∷ 2 ∷ 11 ∷ 2 ∷ 6 ∷ 0 ∷ 65535 ∷ 9 ∷ 65535 ∷ 0 ∷ 4 ∷ 0 ∷ 65535 ∷ 0
+    ∷ 65535 ∷ 2 ∷ 6 ∷ 0 ∷ 65535 ∷ 0 ∷ 65535 ∷ 0 ∷ 4 ∷ 0 ∷ 65535 ∷ 2 ∷ 6 ∷ 0 ∷ 65535 ∷ 9 ∷ 65535 ∷ 0 ∷ 31 ∷ 0 ∷ 31 ∷ 0 ∷ 65535 ∷ 6
+    ∷ 40002 ∷ 1 ∷ 65535 ∷ 0 ∷ 65535 ∷ 0 ∷ 65535 ∷ 9 ∷ 3 ∷ 0 ∷ 65535 ∷ 9 ∷ 43 ∷ 0 ∷ 65535 ∷ 6 ∷ 40002 ∷ 1 ∷ 65535 ∷ 0 ∷ 4 ∷ 0
+    ∷ 65535 ∷ 1 ∷ 65535 ∷ [])
+unfolding program-accepted-8 computed isFile
+accepted-8 = record { file = is-file widest program-accepted-8 refl; answer = refl }
+
+pub program-accepted-9 : Program
+program-accepted-9 = record {
   tables = record {
     types = (ty 0 0 0 0 ∷ ty 1 0 0 0 ∷ ty 2 0 0 0 ∷ ty 3 0 0 0 ∷ ty 4 0 0 0 ∷ ty 4 1 0 0 ∷ ty 4 77 0 0 ∷ ty 5 0 0 0 ∷ ty 5 4 0 0
         ∷ ty 5 2 0 0 ∷ ty 7 4 0 0 ∷ ty 7 6 0 0 ∷ ty 5 6 0 0 ∷ ty 6 3 0 0 ∷ ty 6 0 0 1 ∷ ty 6 3 1 1 ∷ ty 6 5 2 0 ∷ ty 7 6 0 0
@@ -209,18 +264,18 @@ program-accepted-7 = record {
       empty)) empty)))) empty)) (block empty)) (then returnVoid empty))))) ∷ global 40 (name 20) ∷ []);
 }
 
-pub accepted-7 : Answers program-accepted-7 0 10 0 (1 ∷ 65535 ∷ 1 ∷ 65535 ∷ 0 ∷ 65535 ∷ 13 ∷ 66 ∷ 13 ∷ 0 ∷ 0 ∷ 65535 ∷ 13 ∷ 66 ∷ 0
+pub accepted-9 : Answers program-accepted-9 0 10 0 (1 ∷ 65535 ∷ 1 ∷ 65535 ∷ 0 ∷ 65535 ∷ 13 ∷ 66 ∷ 13 ∷ 0 ∷ 0 ∷ 65535 ∷ 13 ∷ 66 ∷ 0
     ∷ 65535 ∷ 19 ∷ 65535 ∷ 0 ∷ 65535 ∷ 0 ∷ 65535 ∷ 1 ∷ 65535 ∷ 0 ∷ 65535 ∷ 0 ∷ 65535 ∷ 0 ∷ 65535 ∷ 0 ∷ 65535 ∷ 14 ∷ 40001 ∷ 0
     ∷ 65535 ∷ 0 ∷ 65535 ∷ 0 ∷ 65535 ∷ 0 ∷ 65535 ∷ 1 ∷ 65535 ∷ 1 ∷ 65535 ∷ 0 ∷ 65535 ∷ 0 ∷ 65535 ∷ 16 ∷ 7 ∷ 16 ∷ 7 ∷ 0 ∷ 65535 ∷ 20
     ∷ 65535 ∷ 0 ∷ 65535 ∷ 0 ∷ 65535 ∷ 27 ∷ 65535 ∷ 2 ∷ 65535 ∷ 2 ∷ 65535 ∷ 0 ∷ 65535 ∷ 27 ∷ 30 ∷ 1 ∷ 65535 ∷ 1 ∷ 65535 ∷ 0 ∷ 65535
     ∷ 19 ∷ 65535 ∷ 0 ∷ 65535 ∷ 0 ∷ 65535 ∷ 13 ∷ 66 ∷ 0 ∷ 65535 ∷ 16 ∷ 7 ∷ 16 ∷ 7 ∷ 0 ∷ 65535 ∷ 13 ∷ 66 ∷ 13 ∷ 0 ∷ 0 ∷ 65535 ∷ 0
     ∷ 65535 ∷ 13 ∷ 66 ∷ 13 ∷ 66 ∷ 0 ∷ 65535 ∷ 16 ∷ 7 ∷ 16 ∷ 7 ∷ 0 ∷ 65535 ∷ 1 ∷ 65535 ∷ 1 ∷ 65535 ∷ 9 ∷ 65535 ∷ 9 ∷ 65535 ∷ 1
     ∷ 65535 ∷ 0 ∷ 65535 ∷ 0 ∷ 65535 ∷ 0 ∷ 65535 ∷ 1 ∷ 65535 ∷ 13 ∷ 65535 ∷ 13 ∷ 0 ∷ [])
-unfolding program-accepted-7 computed isFile
-accepted-7 = record { file = is-file widest program-accepted-7 refl; answer = refl }
+unfolding program-accepted-9 computed isFile
+accepted-9 = record { file = is-file widest program-accepted-9 refl; answer = refl }
 
-pub program-accepted-8 : Program
-program-accepted-8 = record {
+pub program-accepted-10 : Program
+program-accepted-10 = record {
   tables = record {
     types = (ty 0 0 0 0 ∷ ty 1 0 0 0 ∷ ty 2 0 0 0 ∷ ty 3 0 0 0 ∷ ty 4 0 0 0 ∷ ty 4 1 0 0 ∷ ty 4 2 0 0 ∷ ty 4 3 0 0 ∷ ty 4 77 0 0
         ∷ ty 5 0 0 0 ∷ ty 5 4 0 0 ∷ ty 5 2 0 0 ∷ ty 7 4 0 0 ∷ ty 7 8 0 0 ∷ ty 5 8 0 0 ∷ ty 6 3 0 0 ∷ ty 6 0 0 1 ∷ ty 6 3 1 1
@@ -249,18 +304,18 @@ program-accepted-8 = record {
       116) (also (literal (integer 17726)) none)) none)))) empty)))) ∷ []);
 }
 
-pub accepted-8 : Answers program-accepted-8 0 12 0 (1 ∷ 65535 ∷ 0 ∷ 65535 ∷ 1 ∷ 65535 ∷ 0 ∷ 65535 ∷ 12 ∷ 65535 ∷ 0 ∷ 65535 ∷ 0
+pub accepted-10 : Answers program-accepted-10 0 12 0 (1 ∷ 65535 ∷ 0 ∷ 65535 ∷ 1 ∷ 65535 ∷ 0 ∷ 65535 ∷ 12 ∷ 65535 ∷ 0 ∷ 65535 ∷ 0
     ∷ 65535 ∷ 0 ∷ 65535 ∷ 15 ∷ 40000 ∷ 0 ∷ 65535 ∷ 15 ∷ 40000 ∷ 0 ∷ 65535 ∷ 12 ∷ 65535 ∷ 0 ∷ 65535 ∷ 0 ∷ 65535 ∷ 12 ∷ 65535 ∷ 1
     ∷ 65535 ∷ 0 ∷ 65535 ∷ 7 ∷ 11 ∷ 1 ∷ 65535 ∷ 0 ∷ 65535 ∷ 0 ∷ 65535 ∷ 0 ∷ 65535 ∷ 0 ∷ 65535 ∷ 0 ∷ 65535 ∷ 0 ∷ 65535 ∷ 0 ∷ 65535
     ∷ 0 ∷ 65535 ∷ 0 ∷ 65535 ∷ 0 ∷ 65535 ∷ 0 ∷ 65535 ∷ 0 ∷ 65535 ∷ 0 ∷ 65535 ∷ 1 ∷ 65535 ∷ 19 ∷ 65535 ∷ 1 ∷ 65535 ∷ 1 ∷ 65535 ∷ 1
     ∷ 65535 ∷ 1 ∷ 65535 ∷ 10 ∷ 65535 ∷ 10 ∷ 65535 ∷ 4 ∷ 65535 ∷ 10 ∷ 65535 ∷ 10 ∷ 65535 ∷ 1 ∷ 65535 ∷ 1 ∷ 65535 ∷ 19 ∷ 65535 ∷ 10
     ∷ 65535 ∷ 10 ∷ 65535 ∷ 1 ∷ 65535 ∷ 1 ∷ 65535 ∷ 0 ∷ 1 ∷ 0 ∷ 65535 ∷ 0 ∷ 65535 ∷ 18 ∷ 65535 ∷ 1 ∷ 65535 ∷ 0 ∷ 65535 ∷ 0 ∷ 65535
     ∷ 16 ∷ 0 ∷ 0 ∷ 65535 ∷ 16 ∷ 40001 ∷ 0 ∷ 65535 ∷ [])
-unfolding program-accepted-8 computed isFile
-accepted-8 = record { file = is-file widest program-accepted-8 refl; answer = refl }
+unfolding program-accepted-10 computed isFile
+accepted-10 = record { file = is-file widest program-accepted-10 refl; answer = refl }
 
-pub program-accepted-9 : Program
-program-accepted-9 = record {
+pub program-accepted-11 : Program
+program-accepted-11 = record {
   tables = record {
     types = (ty 0 0 0 0 ∷ ty 1 0 0 0 ∷ ty 2 0 0 0 ∷ ty 3 0 0 0 ∷ ty 4 1 0 0 ∷ ty 4 2 0 0 ∷ ty 4 3 0 0 ∷ ty 7 4 0 0 ∷ ty 7 5 0 0
         ∷ ty 5 4 0 0 ∷ ty 5 5 0 0 ∷ ty 5 0 0 0 ∷ ty 6 3 0 0 ∷ ty 6 0 0 0 ∷ ty 6 0 0 1 ∷ ty 4 9 0 0 ∷ ty 7 15 0 0 ∷ ty 5 15 0 0
@@ -295,7 +350,7 @@ program-accepted-9 = record {
       ∷ []);
 }
 
-pub accepted-9 : Answers program-accepted-9 0 14 0 (23 ∷ 65535 ∷ 23 ∷ 65535 ∷ 7 ∷ 65535 ∷ 5 ∷ 65535 ∷ 0 ∷ 65535 ∷ 0 ∷ 65535 ∷ 0
+pub accepted-11 : Answers program-accepted-11 0 14 0 (23 ∷ 65535 ∷ 23 ∷ 65535 ∷ 7 ∷ 65535 ∷ 5 ∷ 65535 ∷ 0 ∷ 65535 ∷ 0 ∷ 65535 ∷ 0
     ∷ 65535 ∷ 0 ∷ 65535 ∷ 0 ∷ 65535 ∷ 0 ∷ 65535 ∷ 2 ∷ 65535 ∷ 2 ∷ 65535 ∷ 23 ∷ 65535 ∷ 23 ∷ 0 ∷ 1 ∷ 65535 ∷ 22 ∷ 65535 ∷ 1 ∷ 65535
     ∷ 0 ∷ 65535 ∷ 21 ∷ 65535 ∷ 0 ∷ 65535 ∷ 0 ∷ 65535 ∷ 0 ∷ 65535 ∷ 21 ∷ 17 ∷ 0 ∷ 65535 ∷ 0 ∷ 65535 ∷ 0 ∷ 65535 ∷ 22 ∷ 15 ∷ 0
     ∷ 65535 ∷ 0 ∷ 65535 ∷ 22 ∷ 15 ∷ 0 ∷ 65535 ∷ 21 ∷ 17 ∷ 0 ∷ 65535 ∷ 28 ∷ 40000 ∷ 0 ∷ 65535 ∷ 1 ∷ 65535 ∷ 1 ∷ 65535 ∷ 1 ∷ 65535
@@ -303,11 +358,11 @@ pub accepted-9 : Answers program-accepted-9 0 14 0 (23 ∷ 65535 ∷ 23 ∷ 6553
     ∷ 65535 ∷ 23 ∷ 0 ∷ 0 ∷ 65535 ∷ 0 ∷ 65535 ∷ 0 ∷ 65535 ∷ 22 ∷ 15 ∷ 4 ∷ 48 ∷ 0 ∷ 65535 ∷ 0 ∷ 65535 ∷ 0 ∷ 65535 ∷ 0 ∷ 65535 ∷ 0
     ∷ 65535 ∷ 0 ∷ 65535 ∷ 0 ∷ 65535 ∷ 0 ∷ 65535 ∷ 0 ∷ 58 ∷ 0 ∷ 65535 ∷ 0 ∷ 58 ∷ 0 ∷ 65535 ∷ 0 ∷ 65535 ∷ 1 ∷ 65535 ∷ 0 ∷ 65535 ∷ 1
     ∷ 65535 ∷ 11 ∷ 65535 ∷ 0 ∷ 65535 ∷ 0 ∷ 72 ∷ 1 ∷ 65535 ∷ 1 ∷ 65535 ∷ 1 ∷ 65535 ∷ [])
-unfolding program-accepted-9 computed isFile
-accepted-9 = record { file = is-file widest program-accepted-9 refl; answer = refl }
+unfolding program-accepted-11 computed isFile
+accepted-11 = record { file = is-file widest program-accepted-11 refl; answer = refl }
 
-pub program-accepted-10 : Program
-program-accepted-10 = record {
+pub program-accepted-12 : Program
+program-accepted-12 = record {
   tables = record {
     types = (ty 0 0 0 0 ∷ ty 1 0 0 0 ∷ ty 2 0 0 0 ∷ ty 3 0 0 0 ∷ ty 4 0 0 0 ∷ ty 4 1 0 0 ∷ ty 4 2 0 0 ∷ ty 4 77 0 0 ∷ ty 5 0 0 0
         ∷ ty 5 4 0 0 ∷ ty 5 2 0 0 ∷ ty 7 4 0 0 ∷ ty 7 7 0 0 ∷ ty 5 7 0 0 ∷ ty 6 3 0 0 ∷ ty 6 0 0 1 ∷ ty 6 3 1 1 ∷ ty 6 15 2 2
@@ -343,7 +398,7 @@ program-accepted-10 = record {
       (returnValue (literal (integer 46586))) empty))) ∷ function 21 14 ([]) (block (then returnVoid empty)) ∷ []);
 }
 
-pub accepted-10 : Answers program-accepted-10 0 18 0 (29 ∷ 65535 ∷ 29 ∷ 65535 ∷ 2 ∷ 65535 ∷ 2 ∷ 65535 ∷ 1 ∷ 65535 ∷ 0 ∷ 65535 ∷ 1
+pub accepted-12 : Answers program-accepted-12 0 18 0 (29 ∷ 65535 ∷ 29 ∷ 65535 ∷ 2 ∷ 65535 ∷ 2 ∷ 65535 ∷ 1 ∷ 65535 ∷ 0 ∷ 65535 ∷ 1
     ∷ 65535 ∷ 0 ∷ 65535 ∷ 19 ∷ 65535 ∷ 0 ∷ 65535 ∷ 0 ∷ 65535 ∷ 25 ∷ 65535 ∷ 0 ∷ 65535 ∷ 0 ∷ 65535 ∷ 15 ∷ 4 ∷ 0 ∷ 5 ∷ 0 ∷ 65535
     ∷ 15 ∷ 40001 ∷ 0 ∷ 65535 ∷ 5 ∷ 65535 ∷ 0 ∷ 65535 ∷ 1 ∷ 65535 ∷ 0 ∷ 5 ∷ 0 ∷ 65535 ∷ 0 ∷ 65535 ∷ 0 ∷ 5 ∷ 0 ∷ 65535 ∷ 0 ∷ 65535
     ∷ 1 ∷ 65535 ∷ 1 ∷ 65535 ∷ 1 ∷ 65535 ∷ 1 ∷ 65535 ∷ 0 ∷ 65535 ∷ 0 ∷ 65535 ∷ 0 ∷ 65535 ∷ 0 ∷ 65535 ∷ 1 ∷ 65535 ∷ 4 ∷ 65535 ∷ 6
@@ -352,8 +407,8 @@ pub accepted-10 : Answers program-accepted-10 0 18 0 (29 ∷ 65535 ∷ 29 ∷ 65
     ∷ 65535 ∷ 0 ∷ 65535 ∷ 19 ∷ 65535 ∷ 0 ∷ 65535 ∷ 24 ∷ 40005 ∷ 6 ∷ 65535 ∷ 25 ∷ 10 ∷ 0 ∷ 65535 ∷ 15 ∷ 40001 ∷ 0 ∷ 65535 ∷ 0
     ∷ 65535 ∷ 0 ∷ 5 ∷ 29 ∷ 65535 ∷ 2 ∷ 65535 ∷ 2 ∷ 65535 ∷ 21 ∷ 65535 ∷ 22 ∷ 40004 ∷ 15 ∷ 40001 ∷ 0 ∷ 65535 ∷ 0 ∷ 65535 ∷ 1
     ∷ 65535 ∷ 0 ∷ 65535 ∷ 1 ∷ 65535 ∷ 1 ∷ 65535 ∷ 1 ∷ 65535 ∷ [])
-unfolding program-accepted-10 computed isFile
-accepted-10 = record { file = is-file widest program-accepted-10 refl; answer = refl }
+unfolding program-accepted-12 computed isFile
+accepted-12 = record { file = is-file widest program-accepted-12 refl; answer = refl }
 
 pub program-refused-7-1 : Program
 program-refused-7-1 = record {
@@ -375,21 +430,22 @@ refused-7-1 = record { file = is-file widest program-refused-7-1 refl; answer = 
 pub program-refused-7-2 : Program
 program-refused-7-2 = record {
   tables = record {
-    types = (ty 0 0 0 0 ∷ ty 1 0 0 0 ∷ ty 2 0 0 0 ∷ ty 3 0 0 0 ∷ ty 4 1 0 0 ∷ ty 4 2 0 0 ∷ ty 4 3 0 0 ∷ ty 7 4 0 0 ∷ ty 7 5 0 0
-        ∷ ty 5 4 0 0 ∷ ty 5 5 0 0 ∷ ty 5 0 0 0 ∷ ty 6 3 0 0 ∷ ty 6 0 0 0 ∷ ty 6 0 0 1 ∷ ty 4 9 0 0 ∷ ty 7 15 0 0 ∷ ty 5 15 0 0
-        ∷ ty 6 3 1 1 ∷ ty 7 2 0 0 ∷ ty 5 2 0 0 ∷ ty 5 0 0 0 ∷ ty 4 1 0 0 ∷ ty 5 7 0 0 ∷ ty 7 11 0 0 ∷ ty 6 5 2 1 ∷ ty 6 4 3 1
-        ∷ ty 5 1 0 0 ∷ ty 6 3 4 2 ∷ ty 5 11 0 0 ∷ ty 7 13 0 0 ∷ ty 6 15 6 0 ∷ ty 6 17 6 1 ∷ ty 7 17 0 0 ∷ ty 6 21 7 0
-        ∷ ty 6 21 7 1 ∷ ty 6 11 8 1 ∷ ty 6 3 9 1 ∷ ty 6 3 10 2 ∷ ty 6 3 12 2 ∷ []);
-    list = (0 ∷ 15 ∷ 4 ∷ 5 ∷ 0 ∷ 1 ∷ 17 ∷ 21 ∷ 22 ∷ 7 ∷ 0 ∷ 0 ∷ 4 ∷ 4 ∷ []);
+    types = (ty 0 0 0 0 ∷ ty 1 0 0 0 ∷ ty 2 0 0 0 ∷ ty 3 0 0 0 ∷ ty 6 3 0 0 ∷ ty 6 0 0 0 ∷ ty 6 0 0 1 ∷ ty 6 3 1 2 ∷ ty 7 2 0 0
+        ∷ ty 5 0 0 0 ∷ ty 5 9 0 0 ∷ ty 7 9 0 0 ∷ ty 5 1 0 0 ∷ ty 6 3 3 1 ∷ ty 6 9 4 1 ∷ ty 4 9 0 0 ∷ ty 7 15 0 0 ∷ ty 5 15 0 0
+        ∷ []);
+    list = (0 ∷ 0 ∷ 0 ∷ 8 ∷ 9 ∷ []);
     fields = ([]);
     structs = ([]);
     builtIns = ([]);
-    nodes = (nd 2 10 38 3 ∷ nd 3 20 0 0 ∷ nd 3 20 0 0 ∷ nd 39 0 0 0 ∷ []);
+    nodes = (nd 2 10 7 3 ∷ nd 3 20 0 0 ∷ nd 3 20 0 0 ∷ nd 39 0 0 2 ∷ nd 38 0 0 2 ∷ nd 12 0 0 0 ∷ nd 39 0 0 1 ∷ nd 31 20 0 1
+        ∷ nd 13 1 0 0 ∷ nd 33 0 0 0 ∷ []);
   };
-  declarations = (function 10 38 (20 ∷ 20 ∷ []) (block empty) ∷ []);
+  declarations = (function 10 7 (20 ∷ 20 ∷ []) (block (then (while (literal falsity) (block (then (var 20 (literal (integer 1)))
+      empty))) (then returnVoid empty))) ∷ []);
 }
 
-pub refused-7-2 : Answers program-refused-7-2 7 1 0 (65535 ∷ 65535 ∷ 65535 ∷ 65535 ∷ 65535 ∷ 65535 ∷ 65535 ∷ 65535 ∷ [])
+pub refused-7-2 : Answers program-refused-7-2 7 1 0 (65535 ∷ 65535 ∷ 65535 ∷ 65535 ∷ 65535 ∷ 65535 ∷ 65535 ∷ 65535 ∷ 65535 ∷ 65535
+    ∷ 65535 ∷ 65535 ∷ 65535 ∷ 65535 ∷ 65535 ∷ 65535 ∷ 65535 ∷ 65535 ∷ 65535 ∷ 65535 ∷ [])
 unfolding program-refused-7-2 computed isFile
 refused-7-2 = record { file = is-file widest program-refused-7-2 refl; answer = refl }
 
@@ -434,19 +490,16 @@ refused-7-4 = record { file = is-file widest program-refused-7-4 refl; answer = 
 pub program-refused-7-5 : Program
 program-refused-7-5 = record {
   tables = record {
-    types = (ty 0 0 0 0 ∷ ty 1 0 0 0 ∷ ty 2 0 0 0 ∷ ty 3 0 0 0 ∷ ty 4 1 0 0 ∷ ty 4 2 0 0 ∷ ty 4 3 0 0 ∷ ty 7 4 0 0 ∷ ty 7 5 0 0
-        ∷ ty 5 4 0 0 ∷ ty 5 5 0 0 ∷ ty 5 0 0 0 ∷ ty 6 3 0 0 ∷ ty 6 0 0 0 ∷ ty 6 0 0 1 ∷ ty 4 9 0 0 ∷ ty 7 15 0 0 ∷ ty 5 15 0 0
-        ∷ ty 6 3 1 1 ∷ ty 7 2 0 0 ∷ ty 5 2 0 0 ∷ ty 5 0 0 0 ∷ ty 4 1 0 0 ∷ ty 5 7 0 0 ∷ ty 7 11 0 0 ∷ ty 6 5 2 1 ∷ ty 6 4 3 1
-        ∷ ty 5 1 0 0 ∷ ty 6 3 4 2 ∷ ty 5 11 0 0 ∷ ty 7 13 0 0 ∷ ty 6 15 6 0 ∷ ty 6 17 6 1 ∷ ty 7 17 0 0 ∷ ty 6 21 7 0
-        ∷ ty 6 21 7 1 ∷ ty 6 11 8 1 ∷ ty 6 3 9 1 ∷ ty 6 3 10 2 ∷ ty 6 3 12 2 ∷ []);
-    list = (0 ∷ 15 ∷ 4 ∷ 5 ∷ 0 ∷ 1 ∷ 17 ∷ 21 ∷ 22 ∷ 7 ∷ 0 ∷ 0 ∷ 4 ∷ 4 ∷ []);
+    types = (ty 0 0 0 0 ∷ ty 1 0 0 0 ∷ ty 2 0 0 0 ∷ ty 3 0 0 0 ∷ ty 6 3 0 0 ∷ ty 6 0 0 0 ∷ ty 6 0 0 1 ∷ ty 6 3 1 2 ∷ ty 7 2 0 0
+        ∷ ty 5 0 0 0 ∷ ty 5 9 0 0 ∷ ty 7 9 0 0 ∷ ty 5 1 0 0 ∷ ty 6 3 3 1 ∷ ty 6 9 4 1 ∷ ty 4 9 0 0 ∷ ty 7 15 0 0 ∷ ty 5 15 0 0
+        ∷ []);
+    list = (0 ∷ 0 ∷ 0 ∷ 8 ∷ 9 ∷ []);
     fields = ([]);
     structs = ([]);
     builtIns = ([]);
-    nodes = (nd 2 10 12 1 ∷ nd 39 0 0 3 ∷ nd 31 20 0 1 ∷ nd 13 1 0 0 ∷ nd 31 20 0 1 ∷ nd 13 2 0 0 ∷ nd 33 0 0 0 ∷ []);
+    nodes = (nd 2 10 7 3 ∷ nd 3 20 0 0 ∷ nd 3 21 0 0 ∷ nd 39 0 0 2 ∷ nd 31 21 0 1 ∷ nd 13 1 0 0 ∷ nd 33 0 0 0 ∷ []);
   };
-  declarations = (function 10 12 ([]) (block (then (var 20 (literal (integer 1))) (then (var 20 (literal (integer 2))) (then
-      returnVoid empty)))) ∷ []);
+  declarations = (function 10 7 (20 ∷ 21 ∷ []) (block (then (var 21 (literal (integer 1))) (then returnVoid empty))) ∷ []);
 }
 
 pub refused-7-5 : Answers program-refused-7-5 7 1 4 (65535 ∷ 65535 ∷ 65535 ∷ 65535 ∷ 65535 ∷ 65535 ∷ 65535 ∷ 65535 ∷ 65535 ∷ 65535
@@ -454,8 +507,52 @@ pub refused-7-5 : Answers program-refused-7-5 7 1 4 (65535 ∷ 65535 ∷ 65535 �
 unfolding program-refused-7-5 computed isFile
 refused-7-5 = record { file = is-file widest program-refused-7-5 refl; answer = refl }
 
+pub program-refused-7-6 : Program
+program-refused-7-6 = record {
+  tables = record {
+    types = (ty 0 0 0 0 ∷ ty 1 0 0 0 ∷ ty 2 0 0 0 ∷ ty 3 0 0 0 ∷ ty 6 3 0 0 ∷ ty 6 0 0 0 ∷ ty 6 0 0 1 ∷ ty 6 3 1 2 ∷ ty 7 2 0 0
+        ∷ ty 5 0 0 0 ∷ ty 5 9 0 0 ∷ ty 7 9 0 0 ∷ ty 5 1 0 0 ∷ ty 6 3 3 1 ∷ ty 6 9 4 1 ∷ ty 4 9 0 0 ∷ ty 7 15 0 0 ∷ ty 5 15 0 0
+        ∷ []);
+    list = (0 ∷ 0 ∷ 0 ∷ 8 ∷ 9 ∷ []);
+    fields = ([]);
+    structs = ([]);
+    builtIns = ([]);
+    nodes = (nd 2 10 4 1 ∷ nd 39 0 0 2 ∷ nd 37 0 0 5 ∷ nd 31 20 0 1 ∷ nd 13 1 0 0 ∷ nd 31 20 0 1 ∷ nd 11 0 0 0 ∷ nd 40 0 0 0
+        ∷ nd 40 0 0 0 ∷ nd 39 0 0 0 ∷ nd 33 0 0 0 ∷ []);
+  };
+  declarations = (function 10 4 ([]) (block (then (for (nextVar 20 (literal (integer 1)) (nextVar 20 (literal truth) noVar))
+      noCondition noStep (block empty)) (then returnVoid empty))) ∷ []);
+}
+
+pub refused-7-6 : Answers program-refused-7-6 7 1 5 (65535 ∷ 65535 ∷ 65535 ∷ 65535 ∷ 65535 ∷ 65535 ∷ 65535 ∷ 65535 ∷ 65535 ∷ 65535
+    ∷ 65535 ∷ 65535 ∷ 65535 ∷ 65535 ∷ 65535 ∷ 65535 ∷ 65535 ∷ 65535 ∷ 65535 ∷ 65535 ∷ 65535 ∷ 65535 ∷ [])
+unfolding program-refused-7-6 computed isFile
+refused-7-6 = record { file = is-file widest program-refused-7-6 refl; answer = refl }
+
 pub program-refused-7-7 : Program
 program-refused-7-7 = record {
+  tables = record {
+    types = (ty 0 0 0 0 ∷ ty 1 0 0 0 ∷ ty 2 0 0 0 ∷ ty 3 0 0 0 ∷ ty 6 3 0 0 ∷ ty 6 0 0 0 ∷ ty 6 0 0 1 ∷ ty 6 3 1 2 ∷ ty 7 2 0 0
+        ∷ ty 5 0 0 0 ∷ ty 5 9 0 0 ∷ ty 7 9 0 0 ∷ ty 5 1 0 0 ∷ ty 6 3 3 1 ∷ ty 6 9 4 1 ∷ ty 4 9 0 0 ∷ ty 7 15 0 0 ∷ ty 5 15 0 0
+        ∷ []);
+    list = (0 ∷ 0 ∷ 0 ∷ 8 ∷ 9 ∷ []);
+    fields = ([]);
+    structs = ([]);
+    builtIns = ([]);
+    nodes = (nd 2 10 4 1 ∷ nd 39 0 0 2 ∷ nd 37 0 0 4 ∷ nd 31 20 0 1 ∷ nd 13 1 0 0 ∷ nd 40 0 0 0 ∷ nd 31 20 0 1 ∷ nd 13 1 0 0
+        ∷ nd 39 0 0 0 ∷ nd 33 0 0 0 ∷ []);
+  };
+  declarations = (function 10 4 ([]) (block (then (for (nextVar 20 (literal (integer 1)) noVar) noCondition (step (var 20 (literal
+      (integer 1)))) (block empty)) (then returnVoid empty))) ∷ []);
+}
+
+pub refused-7-7 : Answers program-refused-7-7 7 1 6 (65535 ∷ 65535 ∷ 65535 ∷ 65535 ∷ 65535 ∷ 65535 ∷ 65535 ∷ 65535 ∷ 65535 ∷ 65535
+    ∷ 65535 ∷ 65535 ∷ 65535 ∷ 65535 ∷ 65535 ∷ 65535 ∷ 65535 ∷ 65535 ∷ 65535 ∷ 65535 ∷ [])
+unfolding program-refused-7-7 computed isFile
+refused-7-7 = record { file = is-file widest program-refused-7-7 refl; answer = refl }
+
+pub program-refused-7-8 : Program
+program-refused-7-8 = record {
   tables = record {
     types = (ty 0 0 0 0 ∷ ty 1 0 0 0 ∷ ty 2 0 0 0 ∷ ty 3 0 0 0 ∷ ty 4 65535 0 0 ∷ []);
     list = ([]);
@@ -469,13 +566,13 @@ program-refused-7-7 = record {
       (literal truth) ∷ []);
 }
 
-pub refused-7-7 : Answers program-refused-7-7 7 2 6 (65535 ∷ 65535 ∷ 65535 ∷ 65535 ∷ 65535 ∷ 65535 ∷ 65535 ∷ 65535 ∷ 65535 ∷ 65535
+pub refused-7-8 : Answers program-refused-7-8 7 2 6 (65535 ∷ 65535 ∷ 65535 ∷ 65535 ∷ 65535 ∷ 65535 ∷ 65535 ∷ 65535 ∷ 65535 ∷ 65535
     ∷ 65535 ∷ 65535 ∷ 65535 ∷ 65535 ∷ 65535 ∷ 65535 ∷ [])
-unfolding program-refused-7-7 computed isFile
-refused-7-7 = record { file = is-file widest program-refused-7-7 refl; answer = refl }
+unfolding program-refused-7-8 computed isFile
+refused-7-8 = record { file = is-file widest program-refused-7-8 refl; answer = refl }
 
-pub program-refused-7-8 : Program
-program-refused-7-8 = record {
+pub program-refused-7-9 : Program
+program-refused-7-9 = record {
   tables = record {
     types = (ty 0 0 0 0 ∷ ty 1 0 0 0 ∷ ty 2 0 0 0 ∷ ty 3 0 0 0 ∷ ty 4 0 0 0 ∷ ty 4 1 0 0 ∷ ty 4 2 0 0 ∷ ty 4 3 0 0 ∷ ty 4 77 0 0
         ∷ ty 5 0 0 0 ∷ ty 5 4 0 0 ∷ ty 5 2 0 0 ∷ ty 7 4 0 0 ∷ ty 7 8 0 0 ∷ ty 5 8 0 0 ∷ ty 6 3 0 0 ∷ ty 6 0 0 1 ∷ ty 6 3 1 1
@@ -491,10 +588,10 @@ program-refused-7-8 = record {
       ∷ []);
 }
 
-pub refused-7-8 : Answers program-refused-7-8 7 7 0 (65535 ∷ 65535 ∷ 65535 ∷ 65535 ∷ 65535 ∷ 65535 ∷ 65535 ∷ 65535 ∷ 65535 ∷ 65535
+pub refused-7-9 : Answers program-refused-7-9 7 7 0 (65535 ∷ 65535 ∷ 65535 ∷ 65535 ∷ 65535 ∷ 65535 ∷ 65535 ∷ 65535 ∷ 65535 ∷ 65535
     ∷ 65535 ∷ 65535 ∷ [])
-unfolding program-refused-7-8 computed isFile
-refused-7-8 = record { file = is-file widest program-refused-7-8 refl; answer = refl }
+unfolding program-refused-7-9 computed isFile
+refused-7-9 = record { file = is-file widest program-refused-7-9 refl; answer = refl }
 
 pub program-refused-8-1 : Program
 program-refused-8-1 = record {
@@ -520,21 +617,20 @@ refused-8-1 = record { file = is-file widest program-refused-8-1 refl; answer = 
 pub program-refused-8-2 : Program
 program-refused-8-2 = record {
   tables = record {
-    types = (ty 0 0 0 0 ∷ ty 1 0 0 0 ∷ ty 2 0 0 0 ∷ ty 3 0 0 0 ∷ ty 4 1 0 0 ∷ ty 4 2 0 0 ∷ ty 4 3 0 0 ∷ ty 7 4 0 0 ∷ ty 7 5 0 0
-        ∷ ty 5 4 0 0 ∷ ty 5 5 0 0 ∷ ty 5 0 0 0 ∷ ty 6 3 0 0 ∷ ty 6 0 0 0 ∷ ty 6 0 0 1 ∷ ty 4 9 0 0 ∷ ty 7 15 0 0 ∷ ty 5 15 0 0
-        ∷ ty 6 3 1 1 ∷ ty 7 2 0 0 ∷ ty 5 2 0 0 ∷ ty 5 0 0 0 ∷ ty 4 1 0 0 ∷ ty 5 7 0 0 ∷ ty 7 11 0 0 ∷ ty 6 5 2 1 ∷ ty 6 4 3 1
-        ∷ ty 5 1 0 0 ∷ ty 6 3 4 2 ∷ ty 5 11 0 0 ∷ ty 7 13 0 0 ∷ ty 6 15 6 0 ∷ ty 6 17 6 1 ∷ ty 7 17 0 0 ∷ ty 6 21 7 0
-        ∷ ty 6 21 7 1 ∷ ty 6 11 8 1 ∷ ty 6 3 9 1 ∷ ty 6 3 10 2 ∷ ty 6 3 12 2 ∷ []);
-    list = (0 ∷ 15 ∷ 4 ∷ 5 ∷ 0 ∷ 1 ∷ 17 ∷ 21 ∷ 22 ∷ 7 ∷ 0 ∷ 0 ∷ 4 ∷ 4 ∷ []);
+    types = (ty 0 0 0 0 ∷ ty 1 0 0 0 ∷ ty 2 0 0 0 ∷ ty 3 0 0 0 ∷ ty 6 3 0 0 ∷ ty 6 0 0 0 ∷ ty 6 0 0 1 ∷ ty 6 3 1 2 ∷ ty 7 2 0 0
+        ∷ ty 5 0 0 0 ∷ ty 5 9 0 0 ∷ ty 7 9 0 0 ∷ ty 5 1 0 0 ∷ ty 6 3 3 1 ∷ ty 6 9 4 1 ∷ ty 4 9 0 0 ∷ ty 7 15 0 0 ∷ ty 5 15 0 0
+        ∷ []);
+    list = (0 ∷ 0 ∷ 0 ∷ 8 ∷ 9 ∷ []);
     fields = ([]);
     structs = ([]);
     builtIns = ([]);
-    nodes = (nd 2 10 13 1 ∷ nd 39 0 0 1 ∷ nd 32 0 0 1 ∷ nd 15 99 0 0 ∷ []);
+    nodes = (nd 2 10 7 3 ∷ nd 3 20 0 0 ∷ nd 3 21 0 0 ∷ nd 39 0 0 2 ∷ nd 31 20 0 1 ∷ nd 15 99 0 0 ∷ nd 33 0 0 0 ∷ []);
   };
-  declarations = (function 10 13 ([]) (block (then (returnValue (name 99)) empty)) ∷ []);
+  declarations = (function 10 7 (20 ∷ 21 ∷ []) (block (then (var 20 (name 99)) (then returnVoid empty))) ∷ []);
 }
 
-pub refused-8-2 : Answers program-refused-8-2 8 1 3 (65535 ∷ 65535 ∷ 65535 ∷ 65535 ∷ 65535 ∷ 65535 ∷ 65535 ∷ 65535 ∷ [])
+pub refused-8-2 : Answers program-refused-8-2 8 1 5 (65535 ∷ 65535 ∷ 65535 ∷ 65535 ∷ 65535 ∷ 65535 ∷ 65535 ∷ 65535 ∷ 65535 ∷ 65535
+    ∷ 65535 ∷ 65535 ∷ 65535 ∷ 65535 ∷ [])
 unfolding program-refused-8-2 computed isFile
 refused-8-2 = record { file = is-file widest program-refused-8-2 refl; answer = refl }
 
@@ -650,9 +746,9 @@ program-refused-9-5 = record {
     fields = ([]);
     structs = ([]);
     builtIns = ([]);
-    nodes = (nd 2 10 13 1 ∷ nd 39 0 0 1 ∷ nd 32 0 0 1 ∷ nd 10 0 7 0 ∷ []);
+    nodes = (nd 2 10 13 1 ∷ nd 39 0 0 1 ∷ nd 32 0 0 1 ∷ nd 21 0 4 0 ∷ []);
   };
-  declarations = (function 10 13 ([]) (block (then (returnValue (null 7)) empty)) ∷ []);
+  declarations = (function 10 13 ([]) (block (then (returnValue (structLiteral 4 noInit)) empty)) ∷ []);
 }
 
 pub refused-9-5 : Answers program-refused-9-5 9 1 3 (65535 ∷ 65535 ∷ 65535 ∷ 65535 ∷ 65535 ∷ 65535 ∷ 65535 ∷ 65535 ∷ [])
@@ -671,57 +767,56 @@ program-refused-9-6 = record {
     fields = ([]);
     structs = ([]);
     builtIns = ([]);
-    nodes = (nd 2 10 13 1 ∷ nd 39 0 0 1 ∷ nd 32 0 0 1 ∷ nd 21 0 4 0 ∷ []);
+    nodes = (nd 2 10 13 1 ∷ nd 39 0 0 1 ∷ nd 32 0 0 1 ∷ nd 17 0 9 1 ∷ nd 13 1 0 0 ∷ []);
   };
-  declarations = (function 10 13 ([]) (block (then (returnValue (structLiteral 4 noInit)) empty)) ∷ []);
+  declarations = (function 10 13 ([]) (block (then (returnValue (defaultArray 9 (literal (integer 1)))) empty)) ∷ []);
 }
 
-pub refused-9-6 : Answers program-refused-9-6 9 1 3 (65535 ∷ 65535 ∷ 65535 ∷ 65535 ∷ 65535 ∷ 65535 ∷ 65535 ∷ 65535 ∷ [])
+pub refused-9-6 : Answers program-refused-9-6 9 1 3 (65535 ∷ 65535 ∷ 65535 ∷ 65535 ∷ 65535 ∷ 65535 ∷ 65535 ∷ 65535 ∷ 65535 ∷ 65535
+    ∷ [])
 unfolding program-refused-9-6 computed isFile
 refused-9-6 = record { file = is-file widest program-refused-9-6 refl; answer = refl }
 
 pub program-refused-9-7 : Program
 program-refused-9-7 = record {
   tables = record {
-    types = (ty 0 0 0 0 ∷ ty 1 0 0 0 ∷ ty 2 0 0 0 ∷ ty 3 0 0 0 ∷ ty 4 1 0 0 ∷ ty 4 2 0 0 ∷ ty 4 3 0 0 ∷ ty 7 4 0 0 ∷ ty 7 5 0 0
-        ∷ ty 5 4 0 0 ∷ ty 5 5 0 0 ∷ ty 5 0 0 0 ∷ ty 6 3 0 0 ∷ ty 6 0 0 0 ∷ ty 6 0 0 1 ∷ ty 4 9 0 0 ∷ ty 7 15 0 0 ∷ ty 5 15 0 0
-        ∷ ty 6 3 1 1 ∷ ty 7 2 0 0 ∷ ty 5 2 0 0 ∷ ty 5 0 0 0 ∷ ty 4 1 0 0 ∷ ty 5 7 0 0 ∷ ty 7 11 0 0 ∷ ty 6 5 2 1 ∷ ty 6 4 3 1
-        ∷ ty 5 1 0 0 ∷ ty 6 3 4 2 ∷ ty 5 11 0 0 ∷ ty 7 13 0 0 ∷ ty 6 15 6 0 ∷ ty 6 17 6 1 ∷ ty 7 17 0 0 ∷ ty 6 21 7 0
-        ∷ ty 6 21 7 1 ∷ ty 6 11 8 1 ∷ ty 6 3 9 1 ∷ ty 6 3 10 2 ∷ ty 6 3 12 2 ∷ []);
-    list = (0 ∷ 15 ∷ 4 ∷ 5 ∷ 0 ∷ 1 ∷ 17 ∷ 21 ∷ 22 ∷ 7 ∷ 0 ∷ 0 ∷ 4 ∷ 4 ∷ []);
+    types = (ty 0 0 0 0 ∷ ty 1 0 0 0 ∷ ty 2 0 0 0 ∷ ty 3 0 0 0 ∷ ty 6 3 0 0 ∷ ty 6 0 0 0 ∷ ty 6 0 0 1 ∷ ty 6 3 1 2 ∷ ty 7 2 0 0
+        ∷ ty 5 0 0 0 ∷ ty 5 9 0 0 ∷ ty 7 9 0 0 ∷ ty 5 1 0 0 ∷ ty 6 3 3 1 ∷ ty 6 9 4 1 ∷ ty 4 9 0 0 ∷ ty 7 15 0 0 ∷ ty 5 15 0 0
+        ∷ []);
+    list = (0 ∷ 0 ∷ 0 ∷ 8 ∷ 9 ∷ []);
     fields = ([]);
     structs = ([]);
     builtIns = ([]);
-    nodes = (nd 2 10 13 1 ∷ nd 39 0 0 1 ∷ nd 32 0 0 1 ∷ nd 17 0 9 1 ∷ nd 13 1 0 0 ∷ []);
+    nodes = (nd 2 10 4 1 ∷ nd 39 0 0 3 ∷ nd 31 20 0 1 ∷ nd 13 1 0 0 ∷ nd 31 20 0 1 ∷ nd 10 0 16 0 ∷ nd 33 0 0 0 ∷ []);
   };
-  declarations = (function 10 13 ([]) (block (then (returnValue (defaultArray 9 (literal (integer 1)))) empty)) ∷ []);
+  declarations = (function 10 4 ([]) (block (then (var 20 (literal (integer 1))) (then (var 20 (null 16)) (then returnVoid
+      empty)))) ∷ []);
 }
 
-pub refused-9-7 : Answers program-refused-9-7 9 1 3 (65535 ∷ 65535 ∷ 65535 ∷ 65535 ∷ 65535 ∷ 65535 ∷ 65535 ∷ 65535 ∷ 65535 ∷ 65535
-    ∷ [])
+pub refused-9-7 : Answers program-refused-9-7 9 1 5 (65535 ∷ 65535 ∷ 65535 ∷ 65535 ∷ 65535 ∷ 65535 ∷ 65535 ∷ 65535 ∷ 65535 ∷ 65535
+    ∷ 65535 ∷ 65535 ∷ 65535 ∷ 65535 ∷ [])
 unfolding program-refused-9-7 computed isFile
 refused-9-7 = record { file = is-file widest program-refused-9-7 refl; answer = refl }
 
 pub program-refused-9-8 : Program
 program-refused-9-8 = record {
   tables = record {
-    types = (ty 0 0 0 0 ∷ ty 1 0 0 0 ∷ ty 2 0 0 0 ∷ ty 3 0 0 0 ∷ ty 4 1 0 0 ∷ ty 4 2 0 0 ∷ ty 4 3 0 0 ∷ ty 7 4 0 0 ∷ ty 7 5 0 0
-        ∷ ty 5 4 0 0 ∷ ty 5 5 0 0 ∷ ty 5 0 0 0 ∷ ty 6 3 0 0 ∷ ty 6 0 0 0 ∷ ty 6 0 0 1 ∷ ty 4 9 0 0 ∷ ty 7 15 0 0 ∷ ty 5 15 0 0
-        ∷ ty 6 3 1 1 ∷ ty 7 2 0 0 ∷ ty 5 2 0 0 ∷ ty 5 0 0 0 ∷ ty 4 1 0 0 ∷ ty 5 7 0 0 ∷ ty 7 11 0 0 ∷ ty 6 5 2 1 ∷ ty 6 4 3 1
-        ∷ ty 5 1 0 0 ∷ ty 6 3 4 2 ∷ ty 5 11 0 0 ∷ ty 7 13 0 0 ∷ ty 6 15 6 0 ∷ ty 6 17 6 1 ∷ ty 7 17 0 0 ∷ ty 6 21 7 0
-        ∷ ty 6 21 7 1 ∷ ty 6 11 8 1 ∷ ty 6 3 9 1 ∷ ty 6 3 10 2 ∷ ty 6 3 12 2 ∷ []);
-    list = (0 ∷ 15 ∷ 4 ∷ 5 ∷ 0 ∷ 1 ∷ 17 ∷ 21 ∷ 22 ∷ 7 ∷ 0 ∷ 0 ∷ 4 ∷ 4 ∷ []);
+    types = (ty 0 0 0 0 ∷ ty 1 0 0 0 ∷ ty 2 0 0 0 ∷ ty 3 0 0 0 ∷ ty 6 3 0 0 ∷ ty 6 0 0 0 ∷ ty 6 0 0 1 ∷ ty 6 3 1 2 ∷ ty 7 2 0 0
+        ∷ ty 5 0 0 0 ∷ ty 5 9 0 0 ∷ ty 7 9 0 0 ∷ ty 5 1 0 0 ∷ ty 6 3 3 1 ∷ ty 6 9 4 1 ∷ ty 4 9 0 0 ∷ ty 7 15 0 0 ∷ ty 5 15 0 0
+        ∷ []);
+    list = (0 ∷ 0 ∷ 0 ∷ 8 ∷ 9 ∷ []);
     fields = ([]);
     structs = ([]);
     builtIns = ([]);
-    nodes = (nd 2 10 13 1 ∷ nd 39 0 0 1 ∷ nd 32 0 0 1 ∷ nd 18 22 9 2 ∷ nd 13 1 0 0 ∷ nd 13 1 0 0 ∷ []);
+    nodes = (nd 2 10 4 1 ∷ nd 39 0 0 3 ∷ nd 31 20 0 1 ∷ nd 11 0 0 0 ∷ nd 31 21 0 1 ∷ nd 18 20 17 2 ∷ nd 15 99 0 0 ∷ nd 15 99 0 0
+        ∷ nd 33 0 0 0 ∷ []);
   };
-  declarations = (function 10 13 ([]) (block (then (returnValue (arrayWith 9 22 (literal (integer 1)) (literal (integer 1))))
-      empty)) ∷ []);
+  declarations = (function 10 4 ([]) (block (then (var 20 (literal truth)) (then (var 21 (arrayWith 17 20 (name 99) (name 99)))
+      (then returnVoid empty)))) ∷ []);
 }
 
-pub refused-9-8 : Answers program-refused-9-8 9 1 3 (65535 ∷ 65535 ∷ 65535 ∷ 65535 ∷ 65535 ∷ 65535 ∷ 65535 ∷ 65535 ∷ 65535 ∷ 65535
-    ∷ 65535 ∷ 65535 ∷ [])
+pub refused-9-8 : Answers program-refused-9-8 9 1 5 (65535 ∷ 65535 ∷ 65535 ∷ 65535 ∷ 65535 ∷ 65535 ∷ 65535 ∷ 65535 ∷ 65535 ∷ 65535
+    ∷ 65535 ∷ 65535 ∷ 65535 ∷ 65535 ∷ 65535 ∷ 65535 ∷ 65535 ∷ 65535 ∷ [])
 unfolding program-refused-9-8 computed isFile
 refused-9-8 = record { file = is-file widest program-refused-9-8 refl; answer = refl }
 
@@ -771,23 +866,22 @@ refused-9-10 = record { file = is-file widest program-refused-9-10 refl; answer 
 pub program-refused-10-1 : Program
 program-refused-10-1 = record {
   tables = record {
-    types = (ty 0 0 0 0 ∷ ty 1 0 0 0 ∷ ty 2 0 0 0 ∷ ty 3 0 0 0 ∷ ty 4 1 0 0 ∷ ty 4 2 0 0 ∷ ty 4 3 0 0 ∷ ty 7 4 0 0 ∷ ty 7 5 0 0
-        ∷ ty 5 4 0 0 ∷ ty 5 5 0 0 ∷ ty 5 0 0 0 ∷ ty 6 3 0 0 ∷ ty 6 0 0 0 ∷ ty 6 0 0 1 ∷ ty 4 9 0 0 ∷ ty 7 15 0 0 ∷ ty 5 15 0 0
-        ∷ ty 6 3 1 1 ∷ ty 7 2 0 0 ∷ ty 5 2 0 0 ∷ ty 5 0 0 0 ∷ ty 4 1 0 0 ∷ ty 5 7 0 0 ∷ ty 7 11 0 0 ∷ ty 6 5 2 1 ∷ ty 6 4 3 1
-        ∷ ty 5 1 0 0 ∷ ty 6 3 4 2 ∷ ty 5 11 0 0 ∷ ty 7 13 0 0 ∷ ty 6 15 6 0 ∷ ty 6 17 6 1 ∷ ty 7 17 0 0 ∷ ty 6 21 7 0
-        ∷ ty 6 21 7 1 ∷ ty 6 11 8 1 ∷ ty 6 3 9 1 ∷ ty 6 3 10 2 ∷ ty 6 3 12 2 ∷ []);
-    list = (0 ∷ 15 ∷ 4 ∷ 5 ∷ 0 ∷ 1 ∷ 17 ∷ 21 ∷ 22 ∷ 7 ∷ 0 ∷ 0 ∷ 4 ∷ 4 ∷ []);
+    types = (ty 0 0 0 0 ∷ ty 1 0 0 0 ∷ ty 2 0 0 0 ∷ ty 3 0 0 0 ∷ ty 6 3 0 0 ∷ ty 6 0 0 0 ∷ ty 6 0 0 1 ∷ ty 6 3 1 2 ∷ ty 7 2 0 0
+        ∷ ty 5 0 0 0 ∷ ty 5 9 0 0 ∷ ty 7 9 0 0 ∷ ty 5 1 0 0 ∷ ty 6 3 3 1 ∷ ty 6 9 4 1 ∷ ty 4 9 0 0 ∷ ty 7 15 0 0 ∷ ty 5 15 0 0
+        ∷ []);
+    list = (0 ∷ 0 ∷ 0 ∷ 8 ∷ 9 ∷ []);
     fields = ([]);
     structs = ([]);
     builtIns = ([]);
-    nodes = (nd 2 10 12 1 ∷ nd 39 0 0 2 ∷ nd 35 0 0 3 ∷ nd 13 1 0 0 ∷ nd 39 0 0 0 ∷ nd 39 0 0 0 ∷ nd 33 0 0 0 ∷ []);
+    nodes = (nd 2 10 4 1 ∷ nd 39 0 0 2 ∷ nd 37 0 0 4 ∷ nd 31 20 0 1 ∷ nd 13 1 0 0 ∷ nd 15 20 0 0 ∷ nd 31 20 0 1 ∷ nd 13 1 0 0
+        ∷ nd 39 0 0 0 ∷ nd 33 0 0 0 ∷ []);
   };
-  declarations = (function 10 12 ([]) (block (then (ifElse (literal (integer 1)) (block empty) (block empty)) (then returnVoid
-      empty))) ∷ []);
+  declarations = (function 10 4 ([]) (block (then (for (nextVar 20 (literal (integer 1)) noVar) (condition (name 20)) (step (var
+      20 (literal (integer 1)))) (block empty)) (then returnVoid empty))) ∷ []);
 }
 
 pub refused-10-1 : Answers program-refused-10-1 10 1 2 (65535 ∷ 65535 ∷ 65535 ∷ 65535 ∷ 65535 ∷ 65535 ∷ 65535 ∷ 65535 ∷ 65535
-    ∷ 65535 ∷ 65535 ∷ 65535 ∷ 65535 ∷ 65535 ∷ [])
+    ∷ 65535 ∷ 65535 ∷ 65535 ∷ 65535 ∷ 65535 ∷ 65535 ∷ 65535 ∷ 65535 ∷ 65535 ∷ 65535 ∷ 65535 ∷ [])
 unfolding program-refused-10-1 computed isFile
 refused-10-1 = record { file = is-file widest program-refused-10-1 refl; answer = refl }
 
@@ -803,10 +897,10 @@ program-refused-10-2 = record {
     fields = ([]);
     structs = ([]);
     builtIns = ([]);
-    nodes = (nd 2 10 12 1 ∷ nd 39 0 0 2 ∷ nd 36 20 4 3 ∷ nd 13 1 0 0 ∷ nd 39 0 0 0 ∷ nd 39 0 0 0 ∷ nd 33 0 0 0 ∷ []);
+    nodes = (nd 2 10 12 1 ∷ nd 39 0 0 1 ∷ nd 38 0 0 2 ∷ nd 13 1 0 0 ∷ nd 39 0 0 2 ∷ nd 33 0 0 0 ∷ nd 33 0 0 0 ∷ []);
   };
-  declarations = (function 10 12 ([]) (block (then (ifNull 20 4 (literal (integer 1)) (block empty) (block empty)) (then
-      returnVoid empty))) ∷ []);
+  declarations = (function 10 12 ([]) (block (then (while (literal (integer 1)) (block (then returnVoid (then returnVoid empty))))
+      empty)) ∷ []);
 }
 
 pub refused-10-2 : Answers program-refused-10-2 10 1 2 (65535 ∷ 65535 ∷ 65535 ∷ 65535 ∷ 65535 ∷ 65535 ∷ 65535 ∷ 65535 ∷ 65535
@@ -826,14 +920,13 @@ program-refused-10-3 = record {
     fields = ([]);
     structs = ([]);
     builtIns = ([]);
-    nodes = (nd 2 10 13 1 ∷ nd 39 0 0 2 ∷ nd 34 0 0 2 ∷ nd 13 1 0 0 ∷ nd 15 99 0 0 ∷ nd 32 0 0 1 ∷ nd 13 1 0 0 ∷ []);
+    nodes = (nd 2 10 12 1 ∷ nd 39 0 0 2 ∷ nd 31 20 0 1 ∷ nd 20 0 0 1 ∷ nd 13 1 0 0 ∷ nd 33 0 0 0 ∷ []);
   };
-  declarations = (function 10 13 ([]) (block (then (callStmt (literal (integer 1)) (also (name 99) none)) (then (returnValue
-      (literal (integer 1))) empty))) ∷ []);
+  declarations = (function 10 12 ([]) (block (then (var 20 (lengthOf (literal (integer 1)))) (then returnVoid empty))) ∷ []);
 }
 
-pub refused-10-3 : Answers program-refused-10-3 10 1 2 (65535 ∷ 65535 ∷ 65535 ∷ 65535 ∷ 65535 ∷ 65535 ∷ 65535 ∷ 65535 ∷ 65535
-    ∷ 65535 ∷ 65535 ∷ 65535 ∷ 65535 ∷ 65535 ∷ [])
+pub refused-10-3 : Answers program-refused-10-3 10 1 3 (65535 ∷ 65535 ∷ 65535 ∷ 65535 ∷ 65535 ∷ 65535 ∷ 65535 ∷ 65535 ∷ 65535
+    ∷ 65535 ∷ 65535 ∷ 65535 ∷ [])
 unfolding program-refused-10-3 computed isFile
 refused-10-3 = record { file = is-file widest program-refused-10-3 refl; answer = refl }
 
@@ -849,14 +942,13 @@ program-refused-10-4 = record {
     fields = ([]);
     structs = ([]);
     builtIns = ([]);
-    nodes = (nd 2 10 12 1 ∷ nd 39 0 0 1 ∷ nd 38 0 0 2 ∷ nd 13 1 0 0 ∷ nd 39 0 0 2 ∷ nd 33 0 0 0 ∷ nd 33 0 0 0 ∷ []);
+    nodes = (nd 2 10 12 1 ∷ nd 39 0 0 2 ∷ nd 31 20 0 1 ∷ nd 23 1 0 1 ∷ nd 13 1 0 0 ∷ nd 33 0 0 0 ∷ []);
   };
-  declarations = (function 10 12 ([]) (block (then (while (literal (integer 1)) (block (then returnVoid (then returnVoid empty))))
-      empty)) ∷ []);
+  declarations = (function 10 12 ([]) (block (then (var 20 (field 1 (literal (integer 1)))) (then returnVoid empty))) ∷ []);
 }
 
-pub refused-10-4 : Answers program-refused-10-4 10 1 2 (65535 ∷ 65535 ∷ 65535 ∷ 65535 ∷ 65535 ∷ 65535 ∷ 65535 ∷ 65535 ∷ 65535
-    ∷ 65535 ∷ 65535 ∷ 65535 ∷ 65535 ∷ 65535 ∷ [])
+pub refused-10-4 : Answers program-refused-10-4 10 1 3 (65535 ∷ 65535 ∷ 65535 ∷ 65535 ∷ 65535 ∷ 65535 ∷ 65535 ∷ 65535 ∷ 65535
+    ∷ 65535 ∷ 65535 ∷ 65535 ∷ [])
 unfolding program-refused-10-4 computed isFile
 refused-10-4 = record { file = is-file widest program-refused-10-4 refl; answer = refl }
 
@@ -872,15 +964,13 @@ program-refused-10-5 = record {
     fields = ([]);
     structs = ([]);
     builtIns = ([]);
-    nodes = (nd 2 10 12 1 ∷ nd 39 0 0 2 ∷ nd 37 0 0 3 ∷ nd 13 1 0 0 ∷ nd 30 0 0 2 ∷ nd 15 99 0 0 ∷ nd 13 1 0 0 ∷ nd 39 0 0 0
-        ∷ nd 33 0 0 0 ∷ []);
+    nodes = (nd 2 10 12 1 ∷ nd 39 0 0 2 ∷ nd 31 20 0 1 ∷ nd 17 0 20 1 ∷ nd 11 0 0 0 ∷ nd 33 0 0 0 ∷ []);
   };
-  declarations = (function 10 12 ([]) (block (then (for noVar (condition (literal (integer 1))) (step (assign (nameTarget 99)
-      (literal (integer 1)))) (block empty)) (then returnVoid empty))) ∷ []);
+  declarations = (function 10 12 ([]) (block (then (var 20 (defaultArray 20 (literal truth))) (then returnVoid empty))) ∷ []);
 }
 
-pub refused-10-5 : Answers program-refused-10-5 10 1 2 (65535 ∷ 65535 ∷ 65535 ∷ 65535 ∷ 65535 ∷ 65535 ∷ 65535 ∷ 65535 ∷ 65535
-    ∷ 65535 ∷ 65535 ∷ 65535 ∷ 65535 ∷ 65535 ∷ 65535 ∷ 65535 ∷ 65535 ∷ 65535 ∷ [])
+pub refused-10-5 : Answers program-refused-10-5 10 1 3 (65535 ∷ 65535 ∷ 65535 ∷ 65535 ∷ 65535 ∷ 65535 ∷ 65535 ∷ 65535 ∷ 65535
+    ∷ 65535 ∷ 65535 ∷ 65535 ∷ [])
 unfolding program-refused-10-5 computed isFile
 refused-10-5 = record { file = is-file widest program-refused-10-5 refl; answer = refl }
 
@@ -896,9 +986,10 @@ program-refused-10-6 = record {
     fields = ([]);
     structs = ([]);
     builtIns = ([]);
-    nodes = (nd 2 10 12 1 ∷ nd 39 0 0 2 ∷ nd 31 20 0 1 ∷ nd 25 0 0 1 ∷ nd 11 0 0 0 ∷ nd 33 0 0 0 ∷ []);
+    nodes = (nd 2 10 13 1 ∷ nd 39 0 0 1 ∷ nd 32 0 0 1 ∷ nd 26 12 0 2 ∷ nd 13 1 0 0 ∷ nd 13 2 0 0 ∷ []);
   };
-  declarations = (function 10 12 ([]) (block (then (var 20 (unary 0 (literal truth))) (then returnVoid empty))) ∷ []);
+  declarations = (function 10 13 ([]) (block (then (returnValue (binary 12 (literal (integer 1)) (literal (integer 2)))) empty))
+      ∷ []);
 }
 
 pub refused-10-6 : Answers program-refused-10-6 10 1 3 (65535 ∷ 65535 ∷ 65535 ∷ 65535 ∷ 65535 ∷ 65535 ∷ 65535 ∷ 65535 ∷ 65535
@@ -918,108 +1009,19 @@ program-refused-10-7 = record {
     fields = ([]);
     structs = ([]);
     builtIns = ([]);
-    nodes = (nd 2 10 12 1 ∷ nd 39 0 0 2 ∷ nd 31 20 0 1 ∷ nd 20 0 0 1 ∷ nd 13 1 0 0 ∷ nd 33 0 0 0 ∷ []);
-  };
-  declarations = (function 10 12 ([]) (block (then (var 20 (lengthOf (literal (integer 1)))) (then returnVoid empty))) ∷ []);
-}
-
-pub refused-10-7 : Answers program-refused-10-7 10 1 3 (65535 ∷ 65535 ∷ 65535 ∷ 65535 ∷ 65535 ∷ 65535 ∷ 65535 ∷ 65535 ∷ 65535
-    ∷ 65535 ∷ 65535 ∷ 65535 ∷ [])
-unfolding program-refused-10-7 computed isFile
-refused-10-7 = record { file = is-file widest program-refused-10-7 refl; answer = refl }
-
-pub program-refused-10-8 : Program
-program-refused-10-8 = record {
-  tables = record {
-    types = (ty 0 0 0 0 ∷ ty 1 0 0 0 ∷ ty 2 0 0 0 ∷ ty 3 0 0 0 ∷ ty 4 1 0 0 ∷ ty 4 2 0 0 ∷ ty 4 3 0 0 ∷ ty 7 4 0 0 ∷ ty 7 5 0 0
-        ∷ ty 5 4 0 0 ∷ ty 5 5 0 0 ∷ ty 5 0 0 0 ∷ ty 6 3 0 0 ∷ ty 6 0 0 0 ∷ ty 6 0 0 1 ∷ ty 4 9 0 0 ∷ ty 7 15 0 0 ∷ ty 5 15 0 0
-        ∷ ty 6 3 1 1 ∷ ty 7 2 0 0 ∷ ty 5 2 0 0 ∷ ty 5 0 0 0 ∷ ty 4 1 0 0 ∷ ty 5 7 0 0 ∷ ty 7 11 0 0 ∷ ty 6 5 2 1 ∷ ty 6 4 3 1
-        ∷ ty 5 1 0 0 ∷ ty 6 3 4 2 ∷ ty 5 11 0 0 ∷ ty 7 13 0 0 ∷ ty 6 15 6 0 ∷ ty 6 17 6 1 ∷ ty 7 17 0 0 ∷ ty 6 21 7 0
-        ∷ ty 6 21 7 1 ∷ ty 6 11 8 1 ∷ ty 6 3 9 1 ∷ ty 6 3 10 2 ∷ ty 6 3 12 2 ∷ []);
-    list = (0 ∷ 15 ∷ 4 ∷ 5 ∷ 0 ∷ 1 ∷ 17 ∷ 21 ∷ 22 ∷ 7 ∷ 0 ∷ 0 ∷ 4 ∷ 4 ∷ []);
-    fields = ([]);
-    structs = ([]);
-    builtIns = ([]);
-    nodes = (nd 2 10 12 1 ∷ nd 39 0 0 2 ∷ nd 31 20 0 1 ∷ nd 23 1 0 1 ∷ nd 13 1 0 0 ∷ nd 33 0 0 0 ∷ []);
-  };
-  declarations = (function 10 12 ([]) (block (then (var 20 (field 1 (literal (integer 1)))) (then returnVoid empty))) ∷ []);
-}
-
-pub refused-10-8 : Answers program-refused-10-8 10 1 3 (65535 ∷ 65535 ∷ 65535 ∷ 65535 ∷ 65535 ∷ 65535 ∷ 65535 ∷ 65535 ∷ 65535
-    ∷ 65535 ∷ 65535 ∷ 65535 ∷ [])
-unfolding program-refused-10-8 computed isFile
-refused-10-8 = record { file = is-file widest program-refused-10-8 refl; answer = refl }
-
-pub program-refused-10-9 : Program
-program-refused-10-9 = record {
-  tables = record {
-    types = (ty 0 0 0 0 ∷ ty 1 0 0 0 ∷ ty 2 0 0 0 ∷ ty 3 0 0 0 ∷ ty 4 1 0 0 ∷ ty 4 2 0 0 ∷ ty 4 3 0 0 ∷ ty 7 4 0 0 ∷ ty 7 5 0 0
-        ∷ ty 5 4 0 0 ∷ ty 5 5 0 0 ∷ ty 5 0 0 0 ∷ ty 6 3 0 0 ∷ ty 6 0 0 0 ∷ ty 6 0 0 1 ∷ ty 4 9 0 0 ∷ ty 7 15 0 0 ∷ ty 5 15 0 0
-        ∷ ty 6 3 1 1 ∷ ty 7 2 0 0 ∷ ty 5 2 0 0 ∷ ty 5 0 0 0 ∷ ty 4 1 0 0 ∷ ty 5 7 0 0 ∷ ty 7 11 0 0 ∷ ty 6 5 2 1 ∷ ty 6 4 3 1
-        ∷ ty 5 1 0 0 ∷ ty 6 3 4 2 ∷ ty 5 11 0 0 ∷ ty 7 13 0 0 ∷ ty 6 15 6 0 ∷ ty 6 17 6 1 ∷ ty 7 17 0 0 ∷ ty 6 21 7 0
-        ∷ ty 6 21 7 1 ∷ ty 6 11 8 1 ∷ ty 6 3 9 1 ∷ ty 6 3 10 2 ∷ ty 6 3 12 2 ∷ []);
-    list = (0 ∷ 15 ∷ 4 ∷ 5 ∷ 0 ∷ 1 ∷ 17 ∷ 21 ∷ 22 ∷ 7 ∷ 0 ∷ 0 ∷ 4 ∷ 4 ∷ []);
-    fields = ([]);
-    structs = ([]);
-    builtIns = ([]);
-    nodes = (nd 2 10 12 1 ∷ nd 39 0 0 2 ∷ nd 31 20 0 1 ∷ nd 17 0 20 1 ∷ nd 11 0 0 0 ∷ nd 33 0 0 0 ∷ []);
-  };
-  declarations = (function 10 12 ([]) (block (then (var 20 (defaultArray 20 (literal truth))) (then returnVoid empty))) ∷ []);
-}
-
-pub refused-10-9 : Answers program-refused-10-9 10 1 3 (65535 ∷ 65535 ∷ 65535 ∷ 65535 ∷ 65535 ∷ 65535 ∷ 65535 ∷ 65535 ∷ 65535
-    ∷ 65535 ∷ 65535 ∷ 65535 ∷ [])
-unfolding program-refused-10-9 computed isFile
-refused-10-9 = record { file = is-file widest program-refused-10-9 refl; answer = refl }
-
-pub program-refused-10-10 : Program
-program-refused-10-10 = record {
-  tables = record {
-    types = (ty 0 0 0 0 ∷ ty 1 0 0 0 ∷ ty 2 0 0 0 ∷ ty 3 0 0 0 ∷ ty 4 1 0 0 ∷ ty 4 2 0 0 ∷ ty 4 3 0 0 ∷ ty 7 4 0 0 ∷ ty 7 5 0 0
-        ∷ ty 5 4 0 0 ∷ ty 5 5 0 0 ∷ ty 5 0 0 0 ∷ ty 6 3 0 0 ∷ ty 6 0 0 0 ∷ ty 6 0 0 1 ∷ ty 4 9 0 0 ∷ ty 7 15 0 0 ∷ ty 5 15 0 0
-        ∷ ty 6 3 1 1 ∷ ty 7 2 0 0 ∷ ty 5 2 0 0 ∷ ty 5 0 0 0 ∷ ty 4 1 0 0 ∷ ty 5 7 0 0 ∷ ty 7 11 0 0 ∷ ty 6 5 2 1 ∷ ty 6 4 3 1
-        ∷ ty 5 1 0 0 ∷ ty 6 3 4 2 ∷ ty 5 11 0 0 ∷ ty 7 13 0 0 ∷ ty 6 15 6 0 ∷ ty 6 17 6 1 ∷ ty 7 17 0 0 ∷ ty 6 21 7 0
-        ∷ ty 6 21 7 1 ∷ ty 6 11 8 1 ∷ ty 6 3 9 1 ∷ ty 6 3 10 2 ∷ ty 6 3 12 2 ∷ []);
-    list = (0 ∷ 15 ∷ 4 ∷ 5 ∷ 0 ∷ 1 ∷ 17 ∷ 21 ∷ 22 ∷ 7 ∷ 0 ∷ 0 ∷ 4 ∷ 4 ∷ []);
-    fields = ([]);
-    structs = ([]);
-    builtIns = ([]);
-    nodes = (nd 2 10 13 1 ∷ nd 39 0 0 1 ∷ nd 32 0 0 1 ∷ nd 26 12 0 2 ∷ nd 13 1 0 0 ∷ nd 13 2 0 0 ∷ []);
-  };
-  declarations = (function 10 13 ([]) (block (then (returnValue (binary 12 (literal (integer 1)) (literal (integer 2)))) empty))
-      ∷ []);
-}
-
-pub refused-10-10 : Answers program-refused-10-10 10 1 3 (65535 ∷ 65535 ∷ 65535 ∷ 65535 ∷ 65535 ∷ 65535 ∷ 65535 ∷ 65535 ∷ 65535
-    ∷ 65535 ∷ 65535 ∷ 65535 ∷ [])
-unfolding program-refused-10-10 computed isFile
-refused-10-10 = record { file = is-file widest program-refused-10-10 refl; answer = refl }
-
-pub program-refused-10-11 : Program
-program-refused-10-11 = record {
-  tables = record {
-    types = (ty 0 0 0 0 ∷ ty 1 0 0 0 ∷ ty 2 0 0 0 ∷ ty 3 0 0 0 ∷ ty 4 1 0 0 ∷ ty 4 2 0 0 ∷ ty 4 3 0 0 ∷ ty 7 4 0 0 ∷ ty 7 5 0 0
-        ∷ ty 5 4 0 0 ∷ ty 5 5 0 0 ∷ ty 5 0 0 0 ∷ ty 6 3 0 0 ∷ ty 6 0 0 0 ∷ ty 6 0 0 1 ∷ ty 4 9 0 0 ∷ ty 7 15 0 0 ∷ ty 5 15 0 0
-        ∷ ty 6 3 1 1 ∷ ty 7 2 0 0 ∷ ty 5 2 0 0 ∷ ty 5 0 0 0 ∷ ty 4 1 0 0 ∷ ty 5 7 0 0 ∷ ty 7 11 0 0 ∷ ty 6 5 2 1 ∷ ty 6 4 3 1
-        ∷ ty 5 1 0 0 ∷ ty 6 3 4 2 ∷ ty 5 11 0 0 ∷ ty 7 13 0 0 ∷ ty 6 15 6 0 ∷ ty 6 17 6 1 ∷ ty 7 17 0 0 ∷ ty 6 21 7 0
-        ∷ ty 6 21 7 1 ∷ ty 6 11 8 1 ∷ ty 6 3 9 1 ∷ ty 6 3 10 2 ∷ ty 6 3 12 2 ∷ []);
-    list = (0 ∷ 15 ∷ 4 ∷ 5 ∷ 0 ∷ 1 ∷ 17 ∷ 21 ∷ 22 ∷ 7 ∷ 0 ∷ 0 ∷ 4 ∷ 4 ∷ []);
-    fields = ([]);
-    structs = ([]);
-    builtIns = ([]);
     nodes = (nd 2 10 12 1 ∷ nd 39 0 0 2 ∷ nd 31 20 0 1 ∷ nd 19 0 0 2 ∷ nd 13 1 0 0 ∷ nd 15 99 0 0 ∷ nd 33 0 0 0 ∷ []);
   };
   declarations = (function 10 12 ([]) (block (then (var 20 (index (literal (integer 1)) (name 99))) (then returnVoid empty)))
       ∷ []);
 }
 
-pub refused-10-11 : Answers program-refused-10-11 10 1 3 (65535 ∷ 65535 ∷ 65535 ∷ 65535 ∷ 65535 ∷ 65535 ∷ 65535 ∷ 65535 ∷ 65535
+pub refused-10-7 : Answers program-refused-10-7 10 1 3 (65535 ∷ 65535 ∷ 65535 ∷ 65535 ∷ 65535 ∷ 65535 ∷ 65535 ∷ 65535 ∷ 65535
     ∷ 65535 ∷ 65535 ∷ 65535 ∷ 65535 ∷ 65535 ∷ [])
-unfolding program-refused-10-11 computed isFile
-refused-10-11 = record { file = is-file widest program-refused-10-11 refl; answer = refl }
+unfolding program-refused-10-7 computed isFile
+refused-10-7 = record { file = is-file widest program-refused-10-7 refl; answer = refl }
 
-pub program-refused-10-12 : Program
-program-refused-10-12 = record {
+pub program-refused-10-8 : Program
+program-refused-10-8 = record {
   tables = record {
     types = (ty 0 0 0 0 ∷ ty 1 0 0 0 ∷ ty 2 0 0 0 ∷ ty 3 0 0 0 ∷ ty 4 1 0 0 ∷ ty 4 2 0 0 ∷ ty 4 3 0 0 ∷ ty 7 4 0 0 ∷ ty 7 5 0 0
         ∷ ty 5 4 0 0 ∷ ty 5 5 0 0 ∷ ty 5 0 0 0 ∷ ty 6 3 0 0 ∷ ty 6 0 0 0 ∷ ty 6 0 0 1 ∷ ty 4 9 0 0 ∷ ty 7 15 0 0 ∷ ty 5 15 0 0
@@ -1036,31 +1038,121 @@ program-refused-10-12 = record {
       empty))) ∷ []);
 }
 
-pub refused-10-12 : Answers program-refused-10-12 10 1 3 (65535 ∷ 65535 ∷ 65535 ∷ 65535 ∷ 65535 ∷ 65535 ∷ 65535 ∷ 65535 ∷ 65535
+pub refused-10-8 : Answers program-refused-10-8 10 1 3 (65535 ∷ 65535 ∷ 65535 ∷ 65535 ∷ 65535 ∷ 65535 ∷ 65535 ∷ 65535 ∷ 65535
     ∷ 65535 ∷ 65535 ∷ 65535 ∷ 65535 ∷ 65535 ∷ [])
+unfolding program-refused-10-8 computed isFile
+refused-10-8 = record { file = is-file widest program-refused-10-8 refl; answer = refl }
+
+pub program-refused-10-9 : Program
+program-refused-10-9 = record {
+  tables = record {
+    types = (ty 0 0 0 0 ∷ ty 1 0 0 0 ∷ ty 2 0 0 0 ∷ ty 3 0 0 0 ∷ ty 6 3 0 0 ∷ ty 6 0 0 0 ∷ ty 6 0 0 1 ∷ ty 6 3 1 2 ∷ ty 7 2 0 0
+        ∷ ty 5 0 0 0 ∷ ty 5 9 0 0 ∷ ty 7 9 0 0 ∷ ty 5 1 0 0 ∷ ty 6 3 3 1 ∷ ty 6 9 4 1 ∷ ty 4 9 0 0 ∷ ty 7 15 0 0 ∷ ty 5 15 0 0
+        ∷ []);
+    list = (0 ∷ 0 ∷ 0 ∷ 8 ∷ 9 ∷ []);
+    fields = ([]);
+    structs = ([]);
+    builtIns = ([]);
+    nodes = (nd 2 10 4 1 ∷ nd 39 0 0 3 ∷ nd 31 20 0 1 ∷ nd 13 1 0 0 ∷ nd 31 20 0 1 ∷ nd 25 1 0 1 ∷ nd 15 20 0 0 ∷ nd 33 0 0 0
+        ∷ []);
+  };
+  declarations = (function 10 4 ([]) (block (then (var 20 (literal (integer 1))) (then (var 20 (unary 1 (name 20))) (then
+      returnVoid empty)))) ∷ []);
+}
+
+pub refused-10-9 : Answers program-refused-10-9 10 1 5 (65535 ∷ 65535 ∷ 65535 ∷ 65535 ∷ 65535 ∷ 65535 ∷ 65535 ∷ 65535 ∷ 65535
+    ∷ 65535 ∷ 65535 ∷ 65535 ∷ 65535 ∷ 65535 ∷ 65535 ∷ 65535 ∷ [])
+unfolding program-refused-10-9 computed isFile
+refused-10-9 = record { file = is-file widest program-refused-10-9 refl; answer = refl }
+
+pub program-refused-10-10 : Program
+program-refused-10-10 = record {
+  tables = record {
+    types = (ty 0 0 0 0 ∷ ty 1 0 0 0 ∷ ty 2 0 0 0 ∷ ty 3 0 0 0 ∷ ty 6 3 0 0 ∷ ty 6 0 0 0 ∷ ty 6 0 0 1 ∷ ty 6 3 1 2 ∷ ty 7 2 0 0
+        ∷ ty 5 0 0 0 ∷ ty 5 9 0 0 ∷ ty 7 9 0 0 ∷ ty 5 1 0 0 ∷ ty 6 3 3 1 ∷ ty 6 9 4 1 ∷ ty 4 9 0 0 ∷ ty 7 15 0 0 ∷ ty 5 15 0 0
+        ∷ []);
+    list = (0 ∷ 0 ∷ 0 ∷ 8 ∷ 9 ∷ []);
+    fields = ([]);
+    structs = ([]);
+    builtIns = ([]);
+    nodes = (nd 2 10 4 1 ∷ nd 39 0 0 3 ∷ nd 31 20 0 1 ∷ nd 11 0 0 0 ∷ nd 31 21 0 1 ∷ nd 18 20 9 2 ∷ nd 15 20 0 0 ∷ nd 15 20 0 0
+        ∷ nd 33 0 0 0 ∷ []);
+  };
+  declarations = (function 10 4 ([]) (block (then (var 20 (literal truth)) (then (var 21 (arrayWith 9 20 (name 20) (name 20)))
+      (then returnVoid empty)))) ∷ []);
+}
+
+pub refused-10-10 : Answers program-refused-10-10 10 1 5 (65535 ∷ 65535 ∷ 65535 ∷ 65535 ∷ 65535 ∷ 65535 ∷ 65535 ∷ 65535 ∷ 65535
+    ∷ 65535 ∷ 65535 ∷ 65535 ∷ 65535 ∷ 65535 ∷ 65535 ∷ 65535 ∷ 65535 ∷ 65535 ∷ [])
+unfolding program-refused-10-10 computed isFile
+refused-10-10 = record { file = is-file widest program-refused-10-10 refl; answer = refl }
+
+pub program-refused-10-11 : Program
+program-refused-10-11 = record {
+  tables = record {
+    types = (ty 0 0 0 0 ∷ ty 1 0 0 0 ∷ ty 2 0 0 0 ∷ ty 3 0 0 0 ∷ ty 6 3 0 0 ∷ ty 6 0 0 0 ∷ ty 6 0 0 1 ∷ ty 6 3 1 2 ∷ ty 7 2 0 0
+        ∷ ty 5 0 0 0 ∷ ty 5 9 0 0 ∷ ty 7 9 0 0 ∷ ty 5 1 0 0 ∷ ty 6 3 3 1 ∷ ty 6 9 4 1 ∷ ty 4 9 0 0 ∷ ty 7 15 0 0 ∷ ty 5 15 0 0
+        ∷ []);
+    list = (0 ∷ 0 ∷ 0 ∷ 8 ∷ 9 ∷ []);
+    fields = ([]);
+    structs = ([]);
+    builtIns = ([]);
+    nodes = (nd 2 10 4 1 ∷ nd 39 0 0 2 ∷ nd 38 0 0 2 ∷ nd 12 0 0 0 ∷ nd 39 0 0 2 ∷ nd 31 10 0 1 ∷ nd 13 1 0 0 ∷ nd 34 0 0 1
+        ∷ nd 15 10 0 0 ∷ nd 33 0 0 0 ∷ []);
+  };
+  declarations = (function 10 4 ([]) (block (then (while (literal falsity) (block (then (var 10 (literal (integer 1))) (then
+      (callStmt (name 10) none) empty)))) (then returnVoid empty))) ∷ []);
+}
+
+pub refused-10-11 : Answers program-refused-10-11 10 1 7 (65535 ∷ 65535 ∷ 65535 ∷ 65535 ∷ 65535 ∷ 65535 ∷ 65535 ∷ 65535 ∷ 65535
+    ∷ 65535 ∷ 65535 ∷ 65535 ∷ 65535 ∷ 65535 ∷ 65535 ∷ 65535 ∷ 65535 ∷ 65535 ∷ 65535 ∷ 65535 ∷ [])
+unfolding program-refused-10-11 computed isFile
+refused-10-11 = record { file = is-file widest program-refused-10-11 refl; answer = refl }
+
+pub program-refused-10-12 : Program
+program-refused-10-12 = record {
+  tables = record {
+    types = (ty 0 0 0 0 ∷ ty 1 0 0 0 ∷ ty 2 0 0 0 ∷ ty 3 0 0 0 ∷ ty 6 3 0 0 ∷ ty 6 0 0 0 ∷ ty 6 0 0 1 ∷ ty 6 3 1 2 ∷ ty 7 2 0 0
+        ∷ ty 5 0 0 0 ∷ ty 5 9 0 0 ∷ ty 7 9 0 0 ∷ ty 5 1 0 0 ∷ ty 6 3 3 1 ∷ ty 6 9 4 1 ∷ ty 4 9 0 0 ∷ ty 7 15 0 0 ∷ ty 5 15 0 0
+        ∷ []);
+    list = (0 ∷ 0 ∷ 0 ∷ 8 ∷ 9 ∷ []);
+    fields = ([]);
+    structs = ([]);
+    builtIns = ([]);
+    nodes = (nd 2 10 4 1 ∷ nd 39 0 0 3 ∷ nd 31 20 0 1 ∷ nd 10 0 8 0 ∷ nd 36 20 2 3 ∷ nd 15 20 0 0 ∷ nd 39 0 0 1 ∷ nd 36 20 2 3
+        ∷ nd 15 20 0 0 ∷ nd 39 0 0 0 ∷ nd 39 0 0 0 ∷ nd 39 0 0 0 ∷ nd 33 0 0 0 ∷ []);
+  };
+  declarations = (function 10 4 ([]) (block (then (var 20 (null 8)) (then (ifNull 20 2 (name 20) (block (then (ifNull 20 2 (name
+      20) (block empty) (block empty)) empty)) (block empty)) (then returnVoid empty)))) ∷ []);
+}
+
+pub refused-10-12 : Answers program-refused-10-12 10 1 7 (65535 ∷ 65535 ∷ 65535 ∷ 65535 ∷ 65535 ∷ 65535 ∷ 65535 ∷ 65535 ∷ 65535
+    ∷ 65535 ∷ 65535 ∷ 65535 ∷ 65535 ∷ 65535 ∷ 65535 ∷ 65535 ∷ 65535 ∷ 65535 ∷ 65535 ∷ 65535 ∷ 65535 ∷ 65535 ∷ 65535 ∷ 65535
+    ∷ 65535 ∷ 65535 ∷ [])
 unfolding program-refused-10-12 computed isFile
 refused-10-12 = record { file = is-file widest program-refused-10-12 refl; answer = refl }
 
 pub program-refused-10-13 : Program
 program-refused-10-13 = record {
   tables = record {
-    types = (ty 0 0 0 0 ∷ ty 1 0 0 0 ∷ ty 2 0 0 0 ∷ ty 3 0 0 0 ∷ ty 4 1 0 0 ∷ ty 4 2 0 0 ∷ ty 4 3 0 0 ∷ ty 7 4 0 0 ∷ ty 7 5 0 0
-        ∷ ty 5 4 0 0 ∷ ty 5 5 0 0 ∷ ty 5 0 0 0 ∷ ty 6 3 0 0 ∷ ty 6 0 0 0 ∷ ty 6 0 0 1 ∷ ty 4 9 0 0 ∷ ty 7 15 0 0 ∷ ty 5 15 0 0
-        ∷ ty 6 3 1 1 ∷ ty 7 2 0 0 ∷ ty 5 2 0 0 ∷ ty 5 0 0 0 ∷ ty 4 1 0 0 ∷ ty 5 7 0 0 ∷ ty 7 11 0 0 ∷ ty 6 5 2 1 ∷ ty 6 4 3 1
-        ∷ ty 5 1 0 0 ∷ ty 6 3 4 2 ∷ ty 5 11 0 0 ∷ ty 7 13 0 0 ∷ ty 6 15 6 0 ∷ ty 6 17 6 1 ∷ ty 7 17 0 0 ∷ ty 6 21 7 0
-        ∷ ty 6 21 7 1 ∷ ty 6 11 8 1 ∷ ty 6 3 9 1 ∷ ty 6 3 10 2 ∷ ty 6 3 12 2 ∷ []);
-    list = (0 ∷ 15 ∷ 4 ∷ 5 ∷ 0 ∷ 1 ∷ 17 ∷ 21 ∷ 22 ∷ 7 ∷ 0 ∷ 0 ∷ 4 ∷ 4 ∷ []);
+    types = (ty 0 0 0 0 ∷ ty 1 0 0 0 ∷ ty 2 0 0 0 ∷ ty 3 0 0 0 ∷ ty 6 3 0 0 ∷ ty 6 0 0 0 ∷ ty 6 0 0 1 ∷ ty 6 3 1 2 ∷ ty 7 2 0 0
+        ∷ ty 5 0 0 0 ∷ ty 5 9 0 0 ∷ ty 7 9 0 0 ∷ ty 5 1 0 0 ∷ ty 6 3 3 1 ∷ ty 6 9 4 1 ∷ ty 4 9 0 0 ∷ ty 7 15 0 0 ∷ ty 5 15 0 0
+        ∷ []);
+    list = (0 ∷ 0 ∷ 0 ∷ 8 ∷ 9 ∷ []);
     fields = ([]);
     structs = ([]);
     builtIns = ([]);
-    nodes = (nd 2 10 12 1 ∷ nd 39 0 0 2 ∷ nd 31 20 0 1 ∷ nd 18 20 11 2 ∷ nd 11 0 0 0 ∷ nd 15 99 0 0 ∷ nd 33 0 0 0 ∷ []);
+    nodes = (nd 2 10 4 1 ∷ nd 39 0 0 3 ∷ nd 31 20 0 1 ∷ nd 11 0 0 0 ∷ nd 35 0 0 3 ∷ nd 11 0 0 0 ∷ nd 39 0 0 0 ∷ nd 39 0 0 2
+        ∷ nd 31 20 0 1 ∷ nd 13 1 0 0 ∷ nd 35 0 0 3 ∷ nd 15 20 0 0 ∷ nd 39 0 0 0 ∷ nd 39 0 0 0 ∷ nd 33 0 0 0 ∷ []);
   };
-  declarations = (function 10 12 ([]) (block (then (var 20 (arrayWith 11 20 (literal truth) (name 99))) (then returnVoid empty)))
-      ∷ []);
+  declarations = (function 10 4 ([]) (block (then (var 20 (literal truth)) (then (ifElse (literal truth) (block empty) (block
+      (then (var 20 (literal (integer 1))) (then (ifElse (name 20) (block empty) (block empty)) empty)))) (then returnVoid
+      empty)))) ∷ []);
 }
 
-pub refused-10-13 : Answers program-refused-10-13 10 1 3 (65535 ∷ 65535 ∷ 65535 ∷ 65535 ∷ 65535 ∷ 65535 ∷ 65535 ∷ 65535 ∷ 65535
-    ∷ 65535 ∷ 65535 ∷ 65535 ∷ 65535 ∷ 65535 ∷ [])
+pub refused-10-13 : Answers program-refused-10-13 10 1 10 (65535 ∷ 65535 ∷ 65535 ∷ 65535 ∷ 65535 ∷ 65535 ∷ 65535 ∷ 65535 ∷ 65535
+    ∷ 65535 ∷ 65535 ∷ 65535 ∷ 65535 ∷ 65535 ∷ 65535 ∷ 65535 ∷ 65535 ∷ 65535 ∷ 65535 ∷ 65535 ∷ 65535 ∷ 65535 ∷ 65535 ∷ 65535
+    ∷ 65535 ∷ 65535 ∷ 65535 ∷ 65535 ∷ 65535 ∷ 65535 ∷ [])
 unfolding program-refused-10-13 computed isFile
 refused-10-13 = record { file = is-file widest program-refused-10-13 refl; answer = refl }
 
@@ -1119,27 +1211,6 @@ program-refused-11-3 = record {
     fields = ([]);
     structs = ([]);
     builtIns = ([]);
-    nodes = (nd 2 10 13 1 ∷ nd 39 0 0 1 ∷ nd 32 0 0 1 ∷ nd 11 0 0 0 ∷ []);
-  };
-  declarations = (function 10 13 ([]) (block (then (returnValue (literal truth)) empty)) ∷ []);
-}
-
-pub refused-11-3 : Answers program-refused-11-3 11 1 2 (65535 ∷ 65535 ∷ 65535 ∷ 65535 ∷ 65535 ∷ 65535 ∷ 65535 ∷ 65535 ∷ [])
-unfolding program-refused-11-3 computed isFile
-refused-11-3 = record { file = is-file widest program-refused-11-3 refl; answer = refl }
-
-pub program-refused-11-4 : Program
-program-refused-11-4 = record {
-  tables = record {
-    types = (ty 0 0 0 0 ∷ ty 1 0 0 0 ∷ ty 2 0 0 0 ∷ ty 3 0 0 0 ∷ ty 4 1 0 0 ∷ ty 4 2 0 0 ∷ ty 4 3 0 0 ∷ ty 7 4 0 0 ∷ ty 7 5 0 0
-        ∷ ty 5 4 0 0 ∷ ty 5 5 0 0 ∷ ty 5 0 0 0 ∷ ty 6 3 0 0 ∷ ty 6 0 0 0 ∷ ty 6 0 0 1 ∷ ty 4 9 0 0 ∷ ty 7 15 0 0 ∷ ty 5 15 0 0
-        ∷ ty 6 3 1 1 ∷ ty 7 2 0 0 ∷ ty 5 2 0 0 ∷ ty 5 0 0 0 ∷ ty 4 1 0 0 ∷ ty 5 7 0 0 ∷ ty 7 11 0 0 ∷ ty 6 5 2 1 ∷ ty 6 4 3 1
-        ∷ ty 5 1 0 0 ∷ ty 6 3 4 2 ∷ ty 5 11 0 0 ∷ ty 7 13 0 0 ∷ ty 6 15 6 0 ∷ ty 6 17 6 1 ∷ ty 7 17 0 0 ∷ ty 6 21 7 0
-        ∷ ty 6 21 7 1 ∷ ty 6 11 8 1 ∷ ty 6 3 9 1 ∷ ty 6 3 10 2 ∷ ty 6 3 12 2 ∷ []);
-    list = (0 ∷ 15 ∷ 4 ∷ 5 ∷ 0 ∷ 1 ∷ 17 ∷ 21 ∷ 22 ∷ 7 ∷ 0 ∷ 0 ∷ 4 ∷ 4 ∷ []);
-    fields = ([]);
-    structs = ([]);
-    builtIns = ([]);
     nodes = (nd 2 10 12 1 ∷ nd 39 0 0 2 ∷ nd 36 20 4 3 ∷ nd 10 0 19 0 ∷ nd 39 0 0 1 ∷ nd 31 21 0 1 ∷ nd 15 99 0 0 ∷ nd 39 0 0 0
         ∷ nd 33 0 0 0 ∷ []);
   };
@@ -1147,36 +1218,13 @@ program-refused-11-4 = record {
       (then returnVoid empty))) ∷ []);
 }
 
-pub refused-11-4 : Answers program-refused-11-4 11 1 2 (65535 ∷ 65535 ∷ 65535 ∷ 65535 ∷ 65535 ∷ 65535 ∷ 65535 ∷ 65535 ∷ 65535
+pub refused-11-3 : Answers program-refused-11-3 11 1 2 (65535 ∷ 65535 ∷ 65535 ∷ 65535 ∷ 65535 ∷ 65535 ∷ 65535 ∷ 65535 ∷ 65535
     ∷ 65535 ∷ 65535 ∷ 65535 ∷ 65535 ∷ 65535 ∷ 65535 ∷ 65535 ∷ 65535 ∷ 65535 ∷ [])
-unfolding program-refused-11-4 computed isFile
-refused-11-4 = record { file = is-file widest program-refused-11-4 refl; answer = refl }
+unfolding program-refused-11-3 computed isFile
+refused-11-3 = record { file = is-file widest program-refused-11-3 refl; answer = refl }
 
-pub program-refused-11-5 : Program
-program-refused-11-5 = record {
-  tables = record {
-    types = (ty 0 0 0 0 ∷ ty 1 0 0 0 ∷ ty 2 0 0 0 ∷ ty 3 0 0 0 ∷ ty 4 1 0 0 ∷ ty 4 2 0 0 ∷ ty 4 3 0 0 ∷ ty 7 4 0 0 ∷ ty 7 5 0 0
-        ∷ ty 5 4 0 0 ∷ ty 5 5 0 0 ∷ ty 5 0 0 0 ∷ ty 6 3 0 0 ∷ ty 6 0 0 0 ∷ ty 6 0 0 1 ∷ ty 4 9 0 0 ∷ ty 7 15 0 0 ∷ ty 5 15 0 0
-        ∷ ty 6 3 1 1 ∷ ty 7 2 0 0 ∷ ty 5 2 0 0 ∷ ty 5 0 0 0 ∷ ty 4 1 0 0 ∷ ty 5 7 0 0 ∷ ty 7 11 0 0 ∷ ty 6 5 2 1 ∷ ty 6 4 3 1
-        ∷ ty 5 1 0 0 ∷ ty 6 3 4 2 ∷ ty 5 11 0 0 ∷ ty 7 13 0 0 ∷ ty 6 15 6 0 ∷ ty 6 17 6 1 ∷ ty 7 17 0 0 ∷ ty 6 21 7 0
-        ∷ ty 6 21 7 1 ∷ ty 6 11 8 1 ∷ ty 6 3 9 1 ∷ ty 6 3 10 2 ∷ ty 6 3 12 2 ∷ []);
-    list = (0 ∷ 15 ∷ 4 ∷ 5 ∷ 0 ∷ 1 ∷ 17 ∷ 21 ∷ 22 ∷ 7 ∷ 0 ∷ 0 ∷ 4 ∷ 4 ∷ []);
-    fields = ([]);
-    structs = ([]);
-    builtIns = ([]);
-    nodes = (nd 2 10 13 1 ∷ nd 39 0 0 1 ∷ nd 32 0 0 1 ∷ nd 16 0 11 2 ∷ nd 13 1 0 0 ∷ nd 11 0 0 0 ∷ []);
-  };
-  declarations = (function 10 13 ([]) (block (then (returnValue (arrayLiteral 11 (also (literal (integer 1)) (also (literal truth)
-      none)))) empty)) ∷ []);
-}
-
-pub refused-11-5 : Answers program-refused-11-5 11 1 3 (65535 ∷ 65535 ∷ 65535 ∷ 65535 ∷ 65535 ∷ 65535 ∷ 65535 ∷ 65535 ∷ 65535
-    ∷ 65535 ∷ 65535 ∷ 65535 ∷ [])
-unfolding program-refused-11-5 computed isFile
-refused-11-5 = record { file = is-file widest program-refused-11-5 refl; answer = refl }
-
-pub program-refused-11-6 : Program
-program-refused-11-6 = record {
+pub program-refused-11-4 : Program
+program-refused-11-4 = record {
   tables = record {
     types = (ty 0 0 0 0 ∷ ty 1 0 0 0 ∷ ty 2 0 0 0 ∷ ty 3 0 0 0 ∷ ty 4 1 0 0 ∷ ty 4 2 0 0 ∷ ty 4 3 0 0 ∷ ty 7 4 0 0 ∷ ty 7 5 0 0
         ∷ ty 5 4 0 0 ∷ ty 5 5 0 0 ∷ ty 5 0 0 0 ∷ ty 6 3 0 0 ∷ ty 6 0 0 0 ∷ ty 6 0 0 1 ∷ ty 4 9 0 0 ∷ ty 7 15 0 0 ∷ ty 5 15 0 0
@@ -1193,60 +1241,13 @@ program-refused-11-6 = record {
       empty))) ∷ []);
 }
 
-pub refused-11-6 : Answers program-refused-11-6 11 1 3 (65535 ∷ 65535 ∷ 65535 ∷ 65535 ∷ 65535 ∷ 65535 ∷ 65535 ∷ 65535 ∷ 65535
+pub refused-11-4 : Answers program-refused-11-4 11 1 3 (65535 ∷ 65535 ∷ 65535 ∷ 65535 ∷ 65535 ∷ 65535 ∷ 65535 ∷ 65535 ∷ 65535
     ∷ 65535 ∷ 65535 ∷ 65535 ∷ 65535 ∷ 65535 ∷ [])
-unfolding program-refused-11-6 computed isFile
-refused-11-6 = record { file = is-file widest program-refused-11-6 refl; answer = refl }
+unfolding program-refused-11-4 computed isFile
+refused-11-4 = record { file = is-file widest program-refused-11-4 refl; answer = refl }
 
-pub program-refused-11-7 : Program
-program-refused-11-7 = record {
-  tables = record {
-    types = (ty 0 0 0 0 ∷ ty 1 0 0 0 ∷ ty 2 0 0 0 ∷ ty 3 0 0 0 ∷ ty 4 1 0 0 ∷ ty 4 2 0 0 ∷ ty 4 3 0 0 ∷ ty 7 4 0 0 ∷ ty 7 5 0 0
-        ∷ ty 5 4 0 0 ∷ ty 5 5 0 0 ∷ ty 5 0 0 0 ∷ ty 6 3 0 0 ∷ ty 6 0 0 0 ∷ ty 6 0 0 1 ∷ ty 4 9 0 0 ∷ ty 7 15 0 0 ∷ ty 5 15 0 0
-        ∷ ty 6 3 1 1 ∷ ty 7 2 0 0 ∷ ty 5 2 0 0 ∷ ty 5 0 0 0 ∷ ty 4 1 0 0 ∷ ty 5 7 0 0 ∷ ty 7 11 0 0 ∷ ty 6 5 2 1 ∷ ty 6 4 3 1
-        ∷ ty 5 1 0 0 ∷ ty 6 3 4 2 ∷ ty 5 11 0 0 ∷ ty 7 13 0 0 ∷ ty 6 15 6 0 ∷ ty 6 17 6 1 ∷ ty 7 17 0 0 ∷ ty 6 21 7 0
-        ∷ ty 6 21 7 1 ∷ ty 6 11 8 1 ∷ ty 6 3 9 1 ∷ ty 6 3 10 2 ∷ ty 6 3 12 2 ∷ []);
-    list = (0 ∷ 15 ∷ 4 ∷ 5 ∷ 0 ∷ 1 ∷ 17 ∷ 21 ∷ 22 ∷ 7 ∷ 0 ∷ 0 ∷ 4 ∷ 4 ∷ []);
-    fields = ([]);
-    structs = ([]);
-    builtIns = ([]);
-    nodes = (nd 2 10 12 1 ∷ nd 39 0 0 2 ∷ nd 31 20 0 1 ∷ nd 18 22 11 2 ∷ nd 13 1 0 0 ∷ nd 11 0 0 0 ∷ nd 33 0 0 0 ∷ []);
-  };
-  declarations = (function 10 12 ([]) (block (then (var 20 (arrayWith 11 22 (literal (integer 1)) (literal truth))) (then
-      returnVoid empty))) ∷ []);
-}
-
-pub refused-11-7 : Answers program-refused-11-7 11 1 3 (65535 ∷ 65535 ∷ 65535 ∷ 65535 ∷ 65535 ∷ 65535 ∷ 65535 ∷ 65535 ∷ 65535
-    ∷ 65535 ∷ 65535 ∷ 65535 ∷ 65535 ∷ 65535 ∷ [])
-unfolding program-refused-11-7 computed isFile
-refused-11-7 = record { file = is-file widest program-refused-11-7 refl; answer = refl }
-
-pub program-refused-11-8 : Program
-program-refused-11-8 = record {
-  tables = record {
-    types = (ty 0 0 0 0 ∷ ty 1 0 0 0 ∷ ty 2 0 0 0 ∷ ty 3 0 0 0 ∷ ty 4 1 0 0 ∷ ty 4 2 0 0 ∷ ty 4 3 0 0 ∷ ty 7 4 0 0 ∷ ty 7 5 0 0
-        ∷ ty 5 4 0 0 ∷ ty 5 5 0 0 ∷ ty 5 0 0 0 ∷ ty 6 3 0 0 ∷ ty 6 0 0 0 ∷ ty 6 0 0 1 ∷ ty 4 9 0 0 ∷ ty 7 15 0 0 ∷ ty 5 15 0 0
-        ∷ ty 6 3 1 1 ∷ ty 7 2 0 0 ∷ ty 5 2 0 0 ∷ ty 5 0 0 0 ∷ ty 4 1 0 0 ∷ ty 5 7 0 0 ∷ ty 7 11 0 0 ∷ ty 6 5 2 1 ∷ ty 6 4 3 1
-        ∷ ty 5 1 0 0 ∷ ty 6 3 4 2 ∷ ty 5 11 0 0 ∷ ty 7 13 0 0 ∷ ty 6 15 6 0 ∷ ty 6 17 6 1 ∷ ty 7 17 0 0 ∷ ty 6 21 7 0
-        ∷ ty 6 21 7 1 ∷ ty 6 11 8 1 ∷ ty 6 3 9 1 ∷ ty 6 3 10 2 ∷ ty 6 3 12 2 ∷ []);
-    list = (0 ∷ 15 ∷ 4 ∷ 5 ∷ 0 ∷ 1 ∷ 17 ∷ 21 ∷ 22 ∷ 7 ∷ 0 ∷ 0 ∷ 4 ∷ 4 ∷ []);
-    fields = ([]);
-    structs = ([]);
-    builtIns = ([]);
-    nodes = (nd 2 10 12 1 ∷ nd 39 0 0 3 ∷ nd 31 20 0 1 ∷ nd 13 1 0 0 ∷ nd 30 0 0 2 ∷ nd 15 20 0 0 ∷ nd 11 0 0 0 ∷ nd 33 0 0 0
-        ∷ []);
-  };
-  declarations = (function 10 12 ([]) (block (then (var 20 (literal (integer 1))) (then (assign (nameTarget 20) (literal truth))
-      (then returnVoid empty)))) ∷ []);
-}
-
-pub refused-11-8 : Answers program-refused-11-8 11 1 4 (65535 ∷ 65535 ∷ 65535 ∷ 65535 ∷ 65535 ∷ 65535 ∷ 65535 ∷ 65535 ∷ 65535
-    ∷ 65535 ∷ 65535 ∷ 65535 ∷ 65535 ∷ 65535 ∷ 65535 ∷ 65535 ∷ [])
-unfolding program-refused-11-8 computed isFile
-refused-11-8 = record { file = is-file widest program-refused-11-8 refl; answer = refl }
-
-pub program-refused-11-9 : Program
-program-refused-11-9 = record {
+pub program-refused-11-5 : Program
+program-refused-11-5 = record {
   tables = record {
     types = (ty 0 0 0 0 ∷ ty 1 0 0 0 ∷ ty 2 0 0 0 ∷ ty 3 0 0 0 ∷ ty 4 1 0 0 ∷ ty 4 2 0 0 ∷ ty 4 3 0 0 ∷ ty 7 4 0 0 ∷ ty 7 5 0 0
         ∷ ty 5 4 0 0 ∷ ty 5 5 0 0 ∷ ty 5 0 0 0 ∷ ty 6 3 0 0 ∷ ty 6 0 0 0 ∷ ty 6 0 0 1 ∷ ty 4 9 0 0 ∷ ty 7 15 0 0 ∷ ty 5 15 0 0
@@ -1264,8 +1265,97 @@ program-refused-11-9 = record {
       none))) (then returnVoid empty))) ∷ []);
 }
 
-pub refused-11-9 : Answers program-refused-11-9 11 1 4 (65535 ∷ 65535 ∷ 65535 ∷ 65535 ∷ 65535 ∷ 65535 ∷ 65535 ∷ 65535 ∷ 65535
+pub refused-11-5 : Answers program-refused-11-5 11 1 4 (65535 ∷ 65535 ∷ 65535 ∷ 65535 ∷ 65535 ∷ 65535 ∷ 65535 ∷ 65535 ∷ 65535
     ∷ 65535 ∷ 65535 ∷ 65535 ∷ 65535 ∷ 65535 ∷ 65535 ∷ 65535 ∷ 65535 ∷ 65535 ∷ [])
+unfolding program-refused-11-5 computed isFile
+refused-11-5 = record { file = is-file widest program-refused-11-5 refl; answer = refl }
+
+pub program-refused-11-6 : Program
+program-refused-11-6 = record {
+  tables = record {
+    types = (ty 0 0 0 0 ∷ ty 1 0 0 0 ∷ ty 2 0 0 0 ∷ ty 3 0 0 0 ∷ ty 6 3 0 0 ∷ ty 6 0 0 0 ∷ ty 6 0 0 1 ∷ ty 6 3 1 2 ∷ ty 7 2 0 0
+        ∷ ty 5 0 0 0 ∷ ty 5 9 0 0 ∷ ty 7 9 0 0 ∷ ty 5 1 0 0 ∷ ty 6 3 3 1 ∷ ty 6 9 4 1 ∷ ty 4 9 0 0 ∷ ty 7 15 0 0 ∷ ty 5 15 0 0
+        ∷ []);
+    list = (0 ∷ 0 ∷ 0 ∷ 8 ∷ 9 ∷ []);
+    fields = ([]);
+    structs = ([]);
+    builtIns = ([]);
+    nodes = (nd 2 10 4 1 ∷ nd 39 0 0 3 ∷ nd 31 20 0 1 ∷ nd 13 1 0 0 ∷ nd 31 20 0 1 ∷ nd 16 0 9 1 ∷ nd 11 0 0 0 ∷ nd 33 0 0 0
+        ∷ []);
+  };
+  declarations = (function 10 4 ([]) (block (then (var 20 (literal (integer 1))) (then (var 20 (arrayLiteral 9 (also (literal
+      truth) none))) (then returnVoid empty)))) ∷ []);
+}
+
+pub refused-11-6 : Answers program-refused-11-6 11 1 5 (65535 ∷ 65535 ∷ 65535 ∷ 65535 ∷ 65535 ∷ 65535 ∷ 65535 ∷ 65535 ∷ 65535
+    ∷ 65535 ∷ 65535 ∷ 65535 ∷ 65535 ∷ 65535 ∷ 65535 ∷ 65535 ∷ [])
+unfolding program-refused-11-6 computed isFile
+refused-11-6 = record { file = is-file widest program-refused-11-6 refl; answer = refl }
+
+pub program-refused-11-7 : Program
+program-refused-11-7 = record {
+  tables = record {
+    types = (ty 0 0 0 0 ∷ ty 1 0 0 0 ∷ ty 2 0 0 0 ∷ ty 3 0 0 0 ∷ ty 6 3 0 0 ∷ ty 6 0 0 0 ∷ ty 6 0 0 1 ∷ ty 6 3 1 2 ∷ ty 7 2 0 0
+        ∷ ty 5 0 0 0 ∷ ty 5 9 0 0 ∷ ty 7 9 0 0 ∷ ty 5 1 0 0 ∷ ty 6 3 3 1 ∷ ty 6 9 4 1 ∷ ty 4 9 0 0 ∷ ty 7 15 0 0 ∷ ty 5 15 0 0
+        ∷ []);
+    list = (0 ∷ 0 ∷ 0 ∷ 8 ∷ 9 ∷ []);
+    fields = ([]);
+    structs = ([]);
+    builtIns = ([]);
+    nodes = (nd 2 10 4 1 ∷ nd 39 0 0 3 ∷ nd 31 20 0 1 ∷ nd 11 0 0 0 ∷ nd 31 21 0 1 ∷ nd 18 20 12 2 ∷ nd 13 1 0 0 ∷ nd 15 20 0 0
+        ∷ nd 33 0 0 0 ∷ []);
+  };
+  declarations = (function 10 4 ([]) (block (then (var 20 (literal truth)) (then (var 21 (arrayWith 12 20 (literal (integer 1))
+      (name 20))) (then returnVoid empty)))) ∷ []);
+}
+
+pub refused-11-7 : Answers program-refused-11-7 11 1 5 (65535 ∷ 65535 ∷ 65535 ∷ 65535 ∷ 65535 ∷ 65535 ∷ 65535 ∷ 65535 ∷ 65535
+    ∷ 65535 ∷ 65535 ∷ 65535 ∷ 65535 ∷ 65535 ∷ 65535 ∷ 65535 ∷ 65535 ∷ 65535 ∷ [])
+unfolding program-refused-11-7 computed isFile
+refused-11-7 = record { file = is-file widest program-refused-11-7 refl; answer = refl }
+
+pub program-refused-11-8 : Program
+program-refused-11-8 = record {
+  tables = record {
+    types = (ty 0 0 0 0 ∷ ty 1 0 0 0 ∷ ty 2 0 0 0 ∷ ty 3 0 0 0 ∷ ty 6 3 0 0 ∷ ty 6 0 0 0 ∷ ty 6 0 0 1 ∷ ty 6 3 1 2 ∷ ty 7 2 0 0
+        ∷ ty 5 0 0 0 ∷ ty 5 9 0 0 ∷ ty 7 9 0 0 ∷ ty 5 1 0 0 ∷ ty 6 3 3 1 ∷ ty 6 9 4 1 ∷ ty 4 9 0 0 ∷ ty 7 15 0 0 ∷ ty 5 15 0 0
+        ∷ []);
+    list = (0 ∷ 0 ∷ 0 ∷ 8 ∷ 9 ∷ []);
+    fields = ([]);
+    structs = ([]);
+    builtIns = ([]);
+    nodes = (nd 2 10 4 1 ∷ nd 39 0 0 3 ∷ nd 31 10 0 1 ∷ nd 13 1 0 0 ∷ nd 38 0 0 2 ∷ nd 12 0 0 0 ∷ nd 39 0 0 1 ∷ nd 30 0 0 2
+        ∷ nd 15 10 0 0 ∷ nd 11 0 0 0 ∷ nd 33 0 0 0 ∷ []);
+  };
+  declarations = (function 10 4 ([]) (block (then (var 10 (literal (integer 1))) (then (while (literal falsity) (block (then
+      (assign (nameTarget 10) (literal truth)) empty))) (then returnVoid empty)))) ∷ []);
+}
+
+pub refused-11-8 : Answers program-refused-11-8 11 1 7 (65535 ∷ 65535 ∷ 65535 ∷ 65535 ∷ 65535 ∷ 65535 ∷ 65535 ∷ 65535 ∷ 65535
+    ∷ 65535 ∷ 65535 ∷ 65535 ∷ 65535 ∷ 65535 ∷ 65535 ∷ 65535 ∷ 65535 ∷ 65535 ∷ 65535 ∷ 65535 ∷ 65535 ∷ 65535 ∷ [])
+unfolding program-refused-11-8 computed isFile
+refused-11-8 = record { file = is-file widest program-refused-11-8 refl; answer = refl }
+
+pub program-refused-11-9 : Program
+program-refused-11-9 = record {
+  tables = record {
+    types = (ty 0 0 0 0 ∷ ty 1 0 0 0 ∷ ty 2 0 0 0 ∷ ty 3 0 0 0 ∷ ty 6 3 0 0 ∷ ty 6 0 0 0 ∷ ty 6 0 0 1 ∷ ty 6 3 1 2 ∷ ty 7 2 0 0
+        ∷ ty 5 0 0 0 ∷ ty 5 9 0 0 ∷ ty 7 9 0 0 ∷ ty 5 1 0 0 ∷ ty 6 3 3 1 ∷ ty 6 9 4 1 ∷ ty 4 9 0 0 ∷ ty 7 15 0 0 ∷ ty 5 15 0 0
+        ∷ []);
+    list = (0 ∷ 0 ∷ 0 ∷ 8 ∷ 9 ∷ []);
+    fields = ([]);
+    structs = ([]);
+    builtIns = ([]);
+    nodes = (nd 2 10 5 1 ∷ nd 39 0 0 3 ∷ nd 31 20 0 1 ∷ nd 11 0 0 0 ∷ nd 38 0 0 2 ∷ nd 12 0 0 0 ∷ nd 39 0 0 2 ∷ nd 31 20 0 1
+        ∷ nd 13 1 0 0 ∷ nd 32 0 0 1 ∷ nd 15 20 0 0 ∷ nd 32 0 0 1 ∷ nd 15 20 0 0 ∷ []);
+  };
+  declarations = (function 10 5 ([]) (block (then (var 20 (literal truth)) (then (while (literal falsity) (block (then (var 20
+      (literal (integer 1))) (then (returnValue (name 20)) empty)))) (then (returnValue (name 20)) empty)))) ∷ []);
+}
+
+pub refused-11-9 : Answers program-refused-11-9 11 1 11 (65535 ∷ 65535 ∷ 65535 ∷ 65535 ∷ 65535 ∷ 65535 ∷ 65535 ∷ 65535 ∷ 65535
+    ∷ 65535 ∷ 65535 ∷ 65535 ∷ 65535 ∷ 65535 ∷ 65535 ∷ 65535 ∷ 65535 ∷ 65535 ∷ 65535 ∷ 65535 ∷ 65535 ∷ 65535 ∷ 65535 ∷ 65535
+    ∷ 65535 ∷ 65535 ∷ [])
 unfolding program-refused-11-9 computed isFile
 refused-11-9 = record { file = is-file widest program-refused-11-9 refl; answer = refl }
 
@@ -1413,117 +1503,71 @@ refused-13-1 = record { file = is-file widest program-refused-13-1 refl; answer 
 pub program-refused-13-2 : Program
 program-refused-13-2 = record {
   tables = record {
-    types = (ty 0 0 0 0 ∷ ty 1 0 0 0 ∷ ty 2 0 0 0 ∷ ty 3 0 0 0 ∷ ty 4 1 0 0 ∷ ty 4 2 0 0 ∷ ty 4 3 0 0 ∷ ty 7 4 0 0 ∷ ty 7 5 0 0
-        ∷ ty 5 4 0 0 ∷ ty 5 5 0 0 ∷ ty 5 0 0 0 ∷ ty 6 3 0 0 ∷ ty 6 0 0 0 ∷ ty 6 0 0 1 ∷ ty 4 9 0 0 ∷ ty 7 15 0 0 ∷ ty 5 15 0 0
-        ∷ ty 6 3 1 1 ∷ ty 7 2 0 0 ∷ ty 5 2 0 0 ∷ ty 5 0 0 0 ∷ ty 4 1 0 0 ∷ ty 5 7 0 0 ∷ ty 7 11 0 0 ∷ ty 6 5 2 1 ∷ ty 6 4 3 1
-        ∷ ty 5 1 0 0 ∷ ty 6 3 4 2 ∷ ty 5 11 0 0 ∷ ty 7 13 0 0 ∷ ty 6 15 6 0 ∷ ty 6 17 6 1 ∷ ty 7 17 0 0 ∷ ty 6 21 7 0
-        ∷ ty 6 21 7 1 ∷ ty 6 11 8 1 ∷ ty 6 3 9 1 ∷ ty 6 3 10 2 ∷ ty 6 3 12 2 ∷ []);
-    list = (0 ∷ 15 ∷ 4 ∷ 5 ∷ 0 ∷ 1 ∷ 17 ∷ 21 ∷ 22 ∷ 7 ∷ 0 ∷ 0 ∷ 4 ∷ 4 ∷ []);
+    types = (ty 0 0 0 0 ∷ ty 1 0 0 0 ∷ ty 2 0 0 0 ∷ ty 3 0 0 0 ∷ ty 6 3 0 0 ∷ ty 6 0 0 0 ∷ ty 6 0 0 1 ∷ ty 6 3 1 2 ∷ ty 7 2 0 0
+        ∷ ty 5 0 0 0 ∷ ty 5 9 0 0 ∷ ty 7 9 0 0 ∷ ty 5 1 0 0 ∷ ty 6 3 3 1 ∷ ty 6 9 4 1 ∷ ty 4 9 0 0 ∷ ty 7 15 0 0 ∷ ty 5 15 0 0
+        ∷ []);
+    list = (0 ∷ 0 ∷ 0 ∷ 8 ∷ 9 ∷ []);
     fields = ([]);
     structs = ([]);
     builtIns = ([]);
-    nodes = (nd 2 10 12 1 ∷ nd 39 0 0 1 ∷ nd 32 0 0 1 ∷ nd 13 1 0 0 ∷ []);
+    nodes = (nd 2 10 4 1 ∷ nd 39 0 0 2 ∷ nd 38 0 0 2 ∷ nd 12 0 0 0 ∷ nd 39 0 0 2 ∷ nd 31 20 0 1 ∷ nd 13 1 0 0 ∷ nd 32 0 0 1
+        ∷ nd 15 20 0 0 ∷ nd 33 0 0 0 ∷ []);
   };
-  declarations = (function 10 12 ([]) (block (then (returnValue (literal (integer 1))) empty)) ∷ []);
+  declarations = (function 10 4 ([]) (block (then (while (literal falsity) (block (then (var 20 (literal (integer 1))) (then
+      (returnValue (name 20)) empty)))) (then returnVoid empty))) ∷ []);
 }
 
-pub refused-13-2 : Answers program-refused-13-2 13 1 2 (65535 ∷ 65535 ∷ 65535 ∷ 65535 ∷ 65535 ∷ 65535 ∷ 65535 ∷ 65535 ∷ [])
+pub refused-13-2 : Answers program-refused-13-2 13 1 7 (65535 ∷ 65535 ∷ 65535 ∷ 65535 ∷ 65535 ∷ 65535 ∷ 65535 ∷ 65535 ∷ 65535
+    ∷ 65535 ∷ 65535 ∷ 65535 ∷ 65535 ∷ 65535 ∷ 65535 ∷ 65535 ∷ 65535 ∷ 65535 ∷ 65535 ∷ 65535 ∷ [])
 unfolding program-refused-13-2 computed isFile
 refused-13-2 = record { file = is-file widest program-refused-13-2 refl; answer = refl }
 
 pub program-refused-13-3 : Program
 program-refused-13-3 = record {
   tables = record {
-    types = (ty 0 0 0 0 ∷ ty 1 0 0 0 ∷ ty 2 0 0 0 ∷ ty 3 0 0 0 ∷ ty 4 1 0 0 ∷ ty 4 2 0 0 ∷ ty 4 3 0 0 ∷ ty 7 4 0 0 ∷ ty 7 5 0 0
-        ∷ ty 5 4 0 0 ∷ ty 5 5 0 0 ∷ ty 5 0 0 0 ∷ ty 6 3 0 0 ∷ ty 6 0 0 0 ∷ ty 6 0 0 1 ∷ ty 4 9 0 0 ∷ ty 7 15 0 0 ∷ ty 5 15 0 0
-        ∷ ty 6 3 1 1 ∷ ty 7 2 0 0 ∷ ty 5 2 0 0 ∷ ty 5 0 0 0 ∷ ty 4 1 0 0 ∷ ty 5 7 0 0 ∷ ty 7 11 0 0 ∷ ty 6 5 2 1 ∷ ty 6 4 3 1
-        ∷ ty 5 1 0 0 ∷ ty 6 3 4 2 ∷ ty 5 11 0 0 ∷ ty 7 13 0 0 ∷ ty 6 15 6 0 ∷ ty 6 17 6 1 ∷ ty 7 17 0 0 ∷ ty 6 21 7 0
-        ∷ ty 6 21 7 1 ∷ ty 6 11 8 1 ∷ ty 6 3 9 1 ∷ ty 6 3 10 2 ∷ ty 6 3 12 2 ∷ []);
-    list = (0 ∷ 15 ∷ 4 ∷ 5 ∷ 0 ∷ 1 ∷ 17 ∷ 21 ∷ 22 ∷ 7 ∷ 0 ∷ 0 ∷ 4 ∷ 4 ∷ []);
+    types = (ty 0 0 0 0 ∷ ty 1 0 0 0 ∷ ty 2 0 0 0 ∷ ty 3 0 0 0 ∷ ty 6 3 0 0 ∷ ty 6 0 0 0 ∷ ty 6 0 0 1 ∷ ty 6 3 1 2 ∷ ty 7 2 0 0
+        ∷ ty 5 0 0 0 ∷ ty 5 9 0 0 ∷ ty 7 9 0 0 ∷ ty 5 1 0 0 ∷ ty 6 3 3 1 ∷ ty 6 9 4 1 ∷ ty 4 9 0 0 ∷ ty 7 15 0 0 ∷ ty 5 15 0 0
+        ∷ []);
+    list = (0 ∷ 0 ∷ 0 ∷ 8 ∷ 9 ∷ []);
     fields = ([]);
     structs = ([]);
-    builtIns = ([]);
-    nodes = (nd 2 10 13 1 ∷ nd 39 0 0 2 ∷ nd 34 0 0 1 ∷ nd 15 10 0 0 ∷ nd 32 0 0 1 ∷ nd 13 1 0 0 ∷ []);
+    builtIns = (bi 12 4 ∷ []);
+    nodes = (nd 2 10 5 1 ∷ nd 39 0 0 2 ∷ nd 38 0 0 2 ∷ nd 12 0 0 0 ∷ nd 39 0 0 2 ∷ nd 31 12 0 1 ∷ nd 15 10 0 0 ∷ nd 34 0 0 1
+        ∷ nd 15 12 0 0 ∷ nd 32 0 0 1 ∷ nd 13 1 0 0 ∷ []);
   };
-  declarations = (function 10 13 ([]) (block (then (callStmt (name 10) none) (then (returnValue (literal (integer 1))) empty)))
-      ∷ []);
+  declarations = (function 10 5 ([]) (block (then (while (literal falsity) (block (then (var 12 (name 10)) (then (callStmt (name
+      12) none) empty)))) (then (returnValue (literal (integer 1))) empty))) ∷ []);
 }
 
-pub refused-13-3 : Answers program-refused-13-3 13 1 2 (65535 ∷ 65535 ∷ 65535 ∷ 65535 ∷ 65535 ∷ 65535 ∷ 65535 ∷ 65535 ∷ 65535
-    ∷ 65535 ∷ 65535 ∷ 65535 ∷ [])
+pub refused-13-3 : Answers program-refused-13-3 13 2 7 (65535 ∷ 65535 ∷ 65535 ∷ 65535 ∷ 65535 ∷ 65535 ∷ 65535 ∷ 65535 ∷ 65535
+    ∷ 65535 ∷ 65535 ∷ 65535 ∷ 65535 ∷ 65535 ∷ 65535 ∷ 65535 ∷ 65535 ∷ 65535 ∷ 65535 ∷ 65535 ∷ 65535 ∷ 65535 ∷ [])
 unfolding program-refused-13-3 computed isFile
 refused-13-3 = record { file = is-file widest program-refused-13-3 refl; answer = refl }
 
 pub program-refused-13-4 : Program
 program-refused-13-4 = record {
   tables = record {
-    types = (ty 0 0 0 0 ∷ ty 1 0 0 0 ∷ ty 2 0 0 0 ∷ ty 3 0 0 0 ∷ ty 4 1 0 0 ∷ ty 4 2 0 0 ∷ ty 4 3 0 0 ∷ ty 7 4 0 0 ∷ ty 7 5 0 0
-        ∷ ty 5 4 0 0 ∷ ty 5 5 0 0 ∷ ty 5 0 0 0 ∷ ty 6 3 0 0 ∷ ty 6 0 0 0 ∷ ty 6 0 0 1 ∷ ty 4 9 0 0 ∷ ty 7 15 0 0 ∷ ty 5 15 0 0
-        ∷ ty 6 3 1 1 ∷ ty 7 2 0 0 ∷ ty 5 2 0 0 ∷ ty 5 0 0 0 ∷ ty 4 1 0 0 ∷ ty 5 7 0 0 ∷ ty 7 11 0 0 ∷ ty 6 5 2 1 ∷ ty 6 4 3 1
-        ∷ ty 5 1 0 0 ∷ ty 6 3 4 2 ∷ ty 5 11 0 0 ∷ ty 7 13 0 0 ∷ ty 6 15 6 0 ∷ ty 6 17 6 1 ∷ ty 7 17 0 0 ∷ ty 6 21 7 0
-        ∷ ty 6 21 7 1 ∷ ty 6 11 8 1 ∷ ty 6 3 9 1 ∷ ty 6 3 10 2 ∷ ty 6 3 12 2 ∷ []);
-    list = (0 ∷ 15 ∷ 4 ∷ 5 ∷ 0 ∷ 1 ∷ 17 ∷ 21 ∷ 22 ∷ 7 ∷ 0 ∷ 0 ∷ 4 ∷ 4 ∷ []);
+    types = (ty 0 0 0 0 ∷ ty 1 0 0 0 ∷ ty 2 0 0 0 ∷ ty 3 0 0 0 ∷ ty 6 3 0 0 ∷ ty 6 0 0 0 ∷ ty 6 0 0 1 ∷ ty 6 3 1 2 ∷ ty 7 2 0 0
+        ∷ ty 5 0 0 0 ∷ ty 5 9 0 0 ∷ ty 7 9 0 0 ∷ ty 5 1 0 0 ∷ ty 6 3 3 1 ∷ ty 6 9 4 1 ∷ ty 4 9 0 0 ∷ ty 7 15 0 0 ∷ ty 5 15 0 0
+        ∷ []);
+    list = (0 ∷ 0 ∷ 0 ∷ 8 ∷ 9 ∷ []);
     fields = ([]);
     structs = ([]);
-    builtIns = ([]);
-    nodes = (nd 2 10 12 1 ∷ nd 39 0 0 2 ∷ nd 31 20 0 1 ∷ nd 24 0 0 2 ∷ nd 15 10 0 0 ∷ nd 13 1 0 0 ∷ nd 33 0 0 0 ∷ []);
+    builtIns = (bi 12 4 ∷ []);
+    nodes = (nd 2 10 5 1 ∷ nd 39 0 0 3 ∷ nd 38 0 0 2 ∷ nd 12 0 0 0 ∷ nd 39 0 0 1 ∷ nd 31 12 0 1 ∷ nd 15 10 0 0 ∷ nd 31 21 0 1
+        ∷ nd 24 0 0 1 ∷ nd 15 12 0 0 ∷ nd 32 0 0 1 ∷ nd 13 1 0 0 ∷ []);
   };
-  declarations = (function 10 12 ([]) (block (then (var 20 (call (name 10) (also (literal (integer 1)) none))) (then returnVoid
-      empty))) ∷ []);
+  declarations = (function 10 5 ([]) (block (then (while (literal falsity) (block (then (var 12 (name 10)) empty))) (then (var 21
+      (call (name 12) none)) (then (returnValue (literal (integer 1))) empty)))) ∷ []);
 }
 
-pub refused-13-4 : Answers program-refused-13-4 13 1 3 (65535 ∷ 65535 ∷ 65535 ∷ 65535 ∷ 65535 ∷ 65535 ∷ 65535 ∷ 65535 ∷ 65535
-    ∷ 65535 ∷ 65535 ∷ 65535 ∷ 65535 ∷ 65535 ∷ [])
+pub refused-13-4 : Answers program-refused-13-4 13 2 8 (65535 ∷ 65535 ∷ 65535 ∷ 65535 ∷ 65535 ∷ 65535 ∷ 65535 ∷ 65535 ∷ 65535
+    ∷ 65535 ∷ 65535 ∷ 65535 ∷ 65535 ∷ 65535 ∷ 65535 ∷ 65535 ∷ 65535 ∷ 65535 ∷ 65535 ∷ 65535 ∷ 65535 ∷ 65535 ∷ 65535 ∷ 65535 ∷ [])
 unfolding program-refused-13-4 computed isFile
 refused-13-4 = record { file = is-file widest program-refused-13-4 refl; answer = refl }
 
 pub program-refused-14-1 : Program
 program-refused-14-1 = record {
-  tables = record {
-    types = (ty 0 0 0 0 ∷ ty 1 0 0 0 ∷ ty 2 0 0 0 ∷ ty 3 0 0 0 ∷ ty 4 1 0 0 ∷ ty 4 2 0 0 ∷ ty 4 3 0 0 ∷ ty 7 4 0 0 ∷ ty 7 5 0 0
-        ∷ ty 5 4 0 0 ∷ ty 5 5 0 0 ∷ ty 5 0 0 0 ∷ ty 6 3 0 0 ∷ ty 6 0 0 0 ∷ ty 6 0 0 1 ∷ ty 4 9 0 0 ∷ ty 7 15 0 0 ∷ ty 5 15 0 0
-        ∷ ty 6 3 1 1 ∷ ty 7 2 0 0 ∷ ty 5 2 0 0 ∷ ty 5 0 0 0 ∷ ty 4 1 0 0 ∷ ty 5 7 0 0 ∷ ty 7 11 0 0 ∷ ty 6 5 2 1 ∷ ty 6 4 3 1
-        ∷ ty 5 1 0 0 ∷ ty 6 3 4 2 ∷ ty 5 11 0 0 ∷ ty 7 13 0 0 ∷ ty 6 15 6 0 ∷ ty 6 17 6 1 ∷ ty 7 17 0 0 ∷ ty 6 21 7 0
-        ∷ ty 6 21 7 1 ∷ ty 6 11 8 1 ∷ ty 6 3 9 1 ∷ ty 6 3 10 2 ∷ ty 6 3 12 2 ∷ []);
-    list = (0 ∷ 15 ∷ 4 ∷ 5 ∷ 0 ∷ 1 ∷ 17 ∷ 21 ∷ 22 ∷ 7 ∷ 0 ∷ 0 ∷ 4 ∷ 4 ∷ []);
-    fields = ([]);
-    structs = ([]);
-    builtIns = ([]);
-    nodes = (nd 2 10 12 1 ∷ nd 39 0 0 2 ∷ nd 33 0 0 0 ∷ nd 33 0 0 0 ∷ []);
-  };
-  declarations = (function 10 12 ([]) (block (then returnVoid (then returnVoid empty))) ∷ []);
-}
-
-pub refused-14-1 : Answers program-refused-14-1 14 1 2 (65535 ∷ 65535 ∷ 65535 ∷ 65535 ∷ 65535 ∷ 65535 ∷ 65535 ∷ 65535 ∷ [])
-unfolding program-refused-14-1 computed isFile
-refused-14-1 = record { file = is-file widest program-refused-14-1 refl; answer = refl }
-
-pub program-refused-14-2 : Program
-program-refused-14-2 = record {
-  tables = record {
-    types = (ty 0 0 0 0 ∷ ty 1 0 0 0 ∷ ty 2 0 0 0 ∷ ty 3 0 0 0 ∷ ty 4 1 0 0 ∷ ty 4 2 0 0 ∷ ty 4 3 0 0 ∷ ty 7 4 0 0 ∷ ty 7 5 0 0
-        ∷ ty 5 4 0 0 ∷ ty 5 5 0 0 ∷ ty 5 0 0 0 ∷ ty 6 3 0 0 ∷ ty 6 0 0 0 ∷ ty 6 0 0 1 ∷ ty 4 9 0 0 ∷ ty 7 15 0 0 ∷ ty 5 15 0 0
-        ∷ ty 6 3 1 1 ∷ ty 7 2 0 0 ∷ ty 5 2 0 0 ∷ ty 5 0 0 0 ∷ ty 4 1 0 0 ∷ ty 5 7 0 0 ∷ ty 7 11 0 0 ∷ ty 6 5 2 1 ∷ ty 6 4 3 1
-        ∷ ty 5 1 0 0 ∷ ty 6 3 4 2 ∷ ty 5 11 0 0 ∷ ty 7 13 0 0 ∷ ty 6 15 6 0 ∷ ty 6 17 6 1 ∷ ty 7 17 0 0 ∷ ty 6 21 7 0
-        ∷ ty 6 21 7 1 ∷ ty 6 11 8 1 ∷ ty 6 3 9 1 ∷ ty 6 3 10 2 ∷ ty 6 3 12 2 ∷ []);
-    list = (0 ∷ 15 ∷ 4 ∷ 5 ∷ 0 ∷ 1 ∷ 17 ∷ 21 ∷ 22 ∷ 7 ∷ 0 ∷ 0 ∷ 4 ∷ 4 ∷ []);
-    fields = ([]);
-    structs = ([]);
-    builtIns = ([]);
-    nodes = (nd 2 10 12 1 ∷ nd 39 0 0 2 ∷ nd 35 0 0 3 ∷ nd 11 0 0 0 ∷ nd 39 0 0 1 ∷ nd 33 0 0 0 ∷ nd 39 0 0 1 ∷ nd 33 0 0 0
-        ∷ nd 33 0 0 0 ∷ []);
-  };
-  declarations = (function 10 12 ([]) (block (then (ifElse (literal truth) (block (then returnVoid empty)) (block (then returnVoid
-      empty))) (then returnVoid empty))) ∷ []);
-}
-
-pub refused-14-2 : Answers program-refused-14-2 14 1 2 (65535 ∷ 65535 ∷ 65535 ∷ 65535 ∷ 65535 ∷ 65535 ∷ 65535 ∷ 65535 ∷ 65535
-    ∷ 65535 ∷ 65535 ∷ 65535 ∷ 65535 ∷ 65535 ∷ 65535 ∷ 65535 ∷ 65535 ∷ 65535 ∷ [])
-unfolding program-refused-14-2 computed isFile
-refused-14-2 = record { file = is-file widest program-refused-14-2 refl; answer = refl }
-
-pub program-refused-14-3 : Program
-program-refused-14-3 = record {
   tables = record {
     types = (ty 0 0 0 0 ∷ ty 1 0 0 0 ∷ ty 2 0 0 0 ∷ ty 3 0 0 0 ∷ ty 4 1 0 0 ∷ ty 4 2 0 0 ∷ ty 4 3 0 0 ∷ ty 7 4 0 0 ∷ ty 7 5 0 0
         ∷ ty 5 4 0 0 ∷ ty 5 5 0 0 ∷ ty 5 0 0 0 ∷ ty 6 3 0 0 ∷ ty 6 0 0 0 ∷ ty 6 0 0 1 ∷ ty 4 9 0 0 ∷ ty 7 15 0 0 ∷ ty 5 15 0 0
@@ -1541,8 +1585,55 @@ program-refused-14-3 = record {
       empty))) (then returnVoid empty))) ∷ []);
 }
 
-pub refused-14-3 : Answers program-refused-14-3 14 1 2 (65535 ∷ 65535 ∷ 65535 ∷ 65535 ∷ 65535 ∷ 65535 ∷ 65535 ∷ 65535 ∷ 65535
+pub refused-14-1 : Answers program-refused-14-1 14 1 2 (65535 ∷ 65535 ∷ 65535 ∷ 65535 ∷ 65535 ∷ 65535 ∷ 65535 ∷ 65535 ∷ 65535
     ∷ 65535 ∷ 65535 ∷ 65535 ∷ 65535 ∷ 65535 ∷ 65535 ∷ 65535 ∷ 65535 ∷ 65535 ∷ [])
+unfolding program-refused-14-1 computed isFile
+refused-14-1 = record { file = is-file widest program-refused-14-1 refl; answer = refl }
+
+pub program-refused-14-2 : Program
+program-refused-14-2 = record {
+  tables = record {
+    types = (ty 0 0 0 0 ∷ ty 1 0 0 0 ∷ ty 2 0 0 0 ∷ ty 3 0 0 0 ∷ ty 6 3 0 0 ∷ ty 6 0 0 0 ∷ ty 6 0 0 1 ∷ ty 6 3 1 2 ∷ ty 7 2 0 0
+        ∷ ty 5 0 0 0 ∷ ty 5 9 0 0 ∷ ty 7 9 0 0 ∷ ty 5 1 0 0 ∷ ty 6 3 3 1 ∷ ty 6 9 4 1 ∷ ty 4 9 0 0 ∷ ty 7 15 0 0 ∷ ty 5 15 0 0
+        ∷ []);
+    list = (0 ∷ 0 ∷ 0 ∷ 8 ∷ 9 ∷ []);
+    fields = ([]);
+    structs = ([]);
+    builtIns = ([]);
+    nodes = (nd 2 10 4 1 ∷ nd 39 0 0 4 ∷ nd 31 20 0 1 ∷ nd 13 1 0 0 ∷ nd 35 0 0 3 ∷ nd 11 0 0 0 ∷ nd 39 0 0 2 ∷ nd 31 20 0 1
+        ∷ nd 11 0 0 0 ∷ nd 33 0 0 0 ∷ nd 39 0 0 2 ∷ nd 31 20 0 1 ∷ nd 14 1 0 0 ∷ nd 33 0 0 0 ∷ nd 31 20 0 1 ∷ nd 13 1 0 0
+        ∷ nd 33 0 0 0 ∷ []);
+  };
+  declarations = (function 10 4 ([]) (block (then (var 20 (literal (integer 1))) (then (ifElse (literal truth) (block (then (var
+      20 (literal truth)) (then returnVoid empty))) (block (then (var 20 (literal (text 1))) (then returnVoid empty)))) (then (var
+      20 (literal (integer 1))) (then returnVoid empty))))) ∷ []);
+}
+
+pub refused-14-2 : Answers program-refused-14-2 14 1 4 (65535 ∷ 65535 ∷ 65535 ∷ 65535 ∷ 65535 ∷ 65535 ∷ 65535 ∷ 65535 ∷ 65535
+    ∷ 65535 ∷ 65535 ∷ 65535 ∷ 65535 ∷ 65535 ∷ 65535 ∷ 65535 ∷ 65535 ∷ 65535 ∷ 65535 ∷ 65535 ∷ 65535 ∷ 65535 ∷ 65535 ∷ 65535
+    ∷ 65535 ∷ 65535 ∷ 65535 ∷ 65535 ∷ 65535 ∷ 65535 ∷ 65535 ∷ 65535 ∷ 65535 ∷ 65535 ∷ [])
+unfolding program-refused-14-2 computed isFile
+refused-14-2 = record { file = is-file widest program-refused-14-2 refl; answer = refl }
+
+pub program-refused-14-3 : Program
+program-refused-14-3 = record {
+  tables = record {
+    types = (ty 0 0 0 0 ∷ ty 1 0 0 0 ∷ ty 2 0 0 0 ∷ ty 3 0 0 0 ∷ ty 6 3 0 0 ∷ ty 6 0 0 0 ∷ ty 6 0 0 1 ∷ ty 6 3 1 2 ∷ ty 7 2 0 0
+        ∷ ty 5 0 0 0 ∷ ty 5 9 0 0 ∷ ty 7 9 0 0 ∷ ty 5 1 0 0 ∷ ty 6 3 3 1 ∷ ty 6 9 4 1 ∷ ty 4 9 0 0 ∷ ty 7 15 0 0 ∷ ty 5 15 0 0
+        ∷ []);
+    list = (0 ∷ 0 ∷ 0 ∷ 8 ∷ 9 ∷ []);
+    fields = ([]);
+    structs = ([]);
+    builtIns = ([]);
+    nodes = (nd 2 10 4 1 ∷ nd 39 0 0 2 ∷ nd 38 0 0 2 ∷ nd 12 0 0 0 ∷ nd 39 0 0 3 ∷ nd 31 20 0 1 ∷ nd 13 1 0 0 ∷ nd 33 0 0 0
+        ∷ nd 31 20 0 1 ∷ nd 13 1 0 0 ∷ nd 33 0 0 0 ∷ []);
+  };
+  declarations = (function 10 4 ([]) (block (then (while (literal falsity) (block (then (var 20 (literal (integer 1))) (then
+      returnVoid (then (var 20 (literal (integer 1))) empty))))) (then returnVoid empty))) ∷ []);
+}
+
+pub refused-14-3 : Answers program-refused-14-3 14 1 7 (65535 ∷ 65535 ∷ 65535 ∷ 65535 ∷ 65535 ∷ 65535 ∷ 65535 ∷ 65535 ∷ 65535
+    ∷ 65535 ∷ 65535 ∷ 65535 ∷ 65535 ∷ 65535 ∷ 65535 ∷ 65535 ∷ 65535 ∷ 65535 ∷ 65535 ∷ 65535 ∷ 65535 ∷ 65535 ∷ [])
 unfolding program-refused-14-3 computed isFile
 refused-14-3 = record { file = is-file widest program-refused-14-3 refl; answer = refl }
 
@@ -1745,22 +1836,22 @@ refused-14-10 = record { file = is-file widest program-refused-14-10 refl; answe
 pub program-refused-15-1 : Program
 program-refused-15-1 = record {
   tables = record {
-    types = (ty 0 0 0 0 ∷ ty 1 0 0 0 ∷ ty 2 0 0 0 ∷ ty 3 0 0 0 ∷ ty 4 0 0 0 ∷ ty 4 1 0 0 ∷ ty 4 2 0 0 ∷ ty 4 3 0 0 ∷ ty 4 77 0 0
-        ∷ ty 5 0 0 0 ∷ ty 5 4 0 0 ∷ ty 5 2 0 0 ∷ ty 7 4 0 0 ∷ ty 7 8 0 0 ∷ ty 5 8 0 0 ∷ ty 6 3 0 0 ∷ ty 6 0 0 1 ∷ ty 6 3 1 1
-        ∷ ty 6 3 2 0 ∷ ty 4 77 0 0 ∷ ty 5 13 0 0 ∷ ty 7 8 0 0 ∷ ty 6 3 2 2 ∷ ty 7 16 0 0 ∷ ty 6 1 4 1 ∷ []);
-    list = (0 ∷ 8 ∷ 5 ∷ 10 ∷ 15 ∷ []);
-    fields = (fd 0 16 ∷ []);
-    structs = (st 0 0 0 ∷ st 1 0 0 ∷ st 2 0 1 ∷ st 3 1 0 ∷ []);
-    builtIns = (bi 115 15 ∷ bi 116 16 ∷ bi 118 18 ∷ bi 122 22 ∷ bi 124 24 ∷ []);
-    nodes = (nd 2 20 18 1 ∷ nd 39 0 0 3 ∷ nd 34 0 0 1 ∷ nd 15 20 0 0 ∷ nd 30 0 0 2 ∷ nd 15 115 0 0 ∷ nd 15 999 0 0 ∷ nd 33 0 0 0
+    types = (ty 0 0 0 0 ∷ ty 1 0 0 0 ∷ ty 2 0 0 0 ∷ ty 3 0 0 0 ∷ ty 6 3 0 0 ∷ ty 6 0 0 0 ∷ ty 6 0 0 1 ∷ ty 6 3 1 2 ∷ ty 7 2 0 0
+        ∷ ty 5 0 0 0 ∷ ty 5 9 0 0 ∷ ty 7 9 0 0 ∷ ty 5 1 0 0 ∷ ty 6 3 3 1 ∷ ty 6 9 4 1 ∷ ty 4 9 0 0 ∷ ty 7 15 0 0 ∷ ty 5 15 0 0
         ∷ []);
+    list = (0 ∷ 0 ∷ 0 ∷ 8 ∷ 9 ∷ []);
+    fields = ([]);
+    structs = ([]);
+    builtIns = ([]);
+    nodes = (nd 2 10 4 1 ∷ nd 39 0 0 2 ∷ nd 37 0 0 3 ∷ nd 40 0 0 0 ∷ nd 30 0 0 2 ∷ nd 15 10 0 0 ∷ nd 13 1 0 0 ∷ nd 39 0 0 0
+        ∷ nd 33 0 0 0 ∷ []);
   };
-  declarations = (function 20 18 ([]) (block (then (callStmt (name 20) none) (then (assign (nameTarget 115) (name 999)) (then
-      returnVoid empty)))) ∷ []);
+  declarations = (function 10 4 ([]) (block (then (for noVar noCondition (step (assign (nameTarget 10) (literal (integer 1))))
+      (block empty)) (then returnVoid empty))) ∷ []);
 }
 
-pub refused-15-1 : Answers program-refused-15-1 15 14 4 (65535 ∷ 65535 ∷ 65535 ∷ 65535 ∷ 65535 ∷ 65535 ∷ 65535 ∷ 65535 ∷ 65535
-    ∷ 65535 ∷ 65535 ∷ 65535 ∷ 65535 ∷ 65535 ∷ 65535 ∷ 65535 ∷ [])
+pub refused-15-1 : Answers program-refused-15-1 15 1 4 (65535 ∷ 65535 ∷ 65535 ∷ 65535 ∷ 65535 ∷ 65535 ∷ 65535 ∷ 65535 ∷ 65535
+    ∷ 65535 ∷ 65535 ∷ 65535 ∷ 65535 ∷ 65535 ∷ 65535 ∷ 65535 ∷ 65535 ∷ 65535 ∷ [])
 unfolding program-refused-15-1 computed isFile
 refused-15-1 = record { file = is-file widest program-refused-15-1 refl; answer = refl }
 

@@ -68,6 +68,7 @@ agree-index Γ x t n = record { means = λ y. refl }
 module _ (T : Tables) (C : Context ℕ) where
   mutual
     unfolding judge
+
     pub expr-alike : (e : Expr) (n : ℕ) (Γ Δ : Scope ℕ) → Agree Γ Δ → Alike (judge T C e n Γ) (judge T C e n Δ)
     expr-alike (null t) n Γ Δ a = needs-alike (formed T C t) 9 n (plain-alike t Γ Δ alike-none)
     expr-alike (literal l) n Γ Δ a = plain-alike (literalType l) Γ Δ alike-none

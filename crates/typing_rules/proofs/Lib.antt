@@ -1,3 +1,4 @@
+pub mod Blocks
 pub mod Cases
 pub mod Claims
 pub mod Complete
@@ -13,6 +14,7 @@ pub mod LawsFitStmts
 pub mod LawsGather
 pub mod LawsHolds
 pub mod LawsJudge
+pub mod LawsLevels
 pub mod LawsNumbers
 pub mod LawsOutcome
 pub mod LawsPlaced

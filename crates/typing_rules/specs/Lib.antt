@@ -5,6 +5,7 @@ pub mod Rules
 pub mod Derivations
 pub mod Judge
 pub mod Steps
+pub mod Blocks
 pub mod Check
 pub mod PanCases
 pub mod Rows

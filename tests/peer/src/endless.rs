@@ -69,7 +69,7 @@ impl<R: Rules> Checker<'_, R> {
         at == top
     }
 
-    fn kind(&self, at: usize) -> u16 {
+    pub(crate) fn kind(&self, at: usize) -> u16 {
         self.file.node(at).kind()
     }
 
@@ -79,7 +79,7 @@ impl<R: Rules> Checker<'_, R> {
     }
 
     /// The node whose child a node is; `after` counts the subtrees between them.
-    fn parent(&self, at: usize) -> usize {
+    pub(crate) fn parent(&self, at: usize) -> usize {
         let mut after = 0;
         for i in (0..at).rev() {
             let children = self.file.node(i).children();

@@ -56,13 +56,14 @@ impl<R: Rules> Checker<'_, R> {
     }
 
     fn name(&mut self, at: usize, x: u16) -> Judged<u16> {
-        let binder = self.find(x);
+        let binder = self.other_meaning(x).unwrap_or_else(|| self.find(x));
         if binder == NONE {
             return fault(8, at);
         }
-        let t = self.type_of(binder);
+        let t = self.type_of(self.hidden_by(binder, x, HiddenTypeMeant));
         let wrong = self.breaks(BuiltinBinderPlain) && binder >= BUILTIN;
-        self.rows[at] = [t, if wrong { binder - BUILTIN } else { binder }];
+        let told = self.hidden_by(binder, x, HiddenBinderTold);
+        self.rows[at] = [t, if wrong { binder - BUILTIN } else { told }];
         if self.breaks(NameBinderNone) && self.is_local(binder) {
             self.rows[at][1] = NONE;
         }
@@ -118,19 +119,19 @@ impl<R: Rules> Checker<'_, R> {
         if default { Ok(t) } else { fault(16, at) }
     }
 
-    /// Element type, length, fresh index name, value under it, subtype.
+    /// Element type, length, value under the index name, subtype. The index name
+    /// is a block of its own, so that nothing is asked of it: document 02, (vi).
     fn filled_array(&mut self, at: usize, n: Four) -> Judged<u16> {
         let element = self.file.ty(n.t()).a();
         self.formed(at, element, FilledTypeFree)?;
-        if self.breaks(FreshBeforeLength) {
-            self.fresh(at, n.x())?;
+        let scope = self.scope;
+        self.index_asks(at, n.x(), &[IndexNameFreshFirst])?;
+        if self.breaks(IndexNameInLength) {
+            self.bind(n.x(), at);
         }
         self.expression_of(INT, at)?;
-        if !self.breaks(IndexNameMayHide) {
-            self.fresh(at, n.x())?;
-        }
-        let scope = self.scope;
-        if !self.breaks(IndexNameUnbound) {
+        self.index_asks(at, n.x(), &[FreshAtAllLevels, IndexNameFresh, IndexNameFreshInBlock, IndexNamesDiffer])?;
+        if !self.breaks(IndexNameUnbound) && !self.breaks(IndexNameInLength) {
             self.bind(n.x(), at);
         }
         let value = self.expression()?;
@@ -141,13 +142,6 @@ impl<R: Rules> Checker<'_, R> {
             return fault(11, at);
         }
         Ok(n.t())
-    }
-
-    /// The name is not in the scope.
-    pub(crate) fn fresh(&self, at: usize, name: u16) -> Judged<()> {
-        let binder = self.find(name);
-        let local = self.is_local(binder) || binder != NONE && self.breaks(FreshAgainstGlobals);
-        if local { fault(7, at) } else { Ok(()) }
     }
 
     fn index(&mut self, at: usize) -> Judged<u16> {
@@ -266,7 +260,7 @@ impl<R: Rules> Checker<'_, R> {
     }
 
     /// The first node after a tree.
-    fn past_tree(&self, root: usize) -> usize {
+    pub(crate) fn past_tree(&self, root: usize) -> usize {
         let (mut at, mut open) = (root, 1usize);
         while open > 0 {
             open += self.file.node(at).children() as usize;

@@ -1,7 +1,7 @@
 //! An independent checker for Oat v.2 program files, after document 01 ("The
 //! Oat v.2 checker for pan programs"), document 001 (the specification) and
-//! document 02's requests (i), loops that never end, (v), zero bytes, and (xi),
-//! limits as parameters.
+//! document 02's requests (i), loops that never end, (v), zero bytes, (vi), the
+//! same name in an inner block, and (xi), limits as parameters.
 
 pub mod cases;
 mod empty;
@@ -9,6 +9,7 @@ mod endless;
 mod expressions;
 mod file;
 pub mod generator;
+mod levels;
 mod limits;
 pub mod mutants;
 pub mod print;

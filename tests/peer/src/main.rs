@@ -11,7 +11,7 @@ use std::time::Instant;
 const USAGE: &str = "oat_peer check [PARTS DEPTH] | sub A B [PARTS DEPTH] | read [PARTS DEPTH] < FILE
 oat_peer batch | readbatch | subbatch | bench N | tally < MANY
 oat_peer limitbatch < CASES
-oat_peer gen SEED COUNT | gentypes SEED COUNT | gennames SEED COUNT | genendless SEED COUNT > MANY
+oat_peer gen | gentypes | gennames | genendless | genlevels SEED COUNT > MANY
 oat_peer genlimits SEED COUNT > CASES
 oat_peer vectors DIRECTORY | mutants DIRECTORY
 PARTS and DEPTH are 200 and 100 where they are left out.
@@ -50,6 +50,7 @@ fn run(words: &[&str]) -> Option<Vec<u8>> {
         ["genlimits", seed, count] => return Some(generator::limited(seed.parse().ok()?, count.parse().ok()?)),
         ["gentypes", seed, count] => return Some(generator::type_tables(seed.parse().ok()?, count.parse().ok()?)),
         ["genendless", seed, count] => return Some(generator::endless(seed.parse().ok()?, count.parse().ok()?)),
+        ["genlevels", seed, count] => return Some(generator::levels(seed.parse().ok()?, count.parse().ok()?)),
         ["gennames", seed, count] => return Some(generator::field_names(seed.parse().ok()?, count.parse().ok()?)),
         _ => return None,
     };

@@ -29,8 +29,24 @@ impl Rules for Mutant {
     }
 }
 
+/// Document 01's typing, before document 02's (i) and (vi): a while may always
+/// go on, and fresh means against every local. It breaks two rules at once.
+#[derive(Clone, Copy)]
+pub struct Document01;
+
+impl Rules for Document01 {
+    fn mutant(self) -> Option<Mutant> {
+        Some(Mutant::WhileGoesOn)
+    }
+
+    fn breaks(self, mutant: Mutant) -> bool {
+        matches!(mutant, Mutant::WhileGoesOn | Mutant::FreshAtAllLevels)
+    }
+}
+
 /// The part of document 01 that a mutant breaks, or document 02's limits, its
-/// empty file, zero bytes, its comparing of field names, or its endless loops.
+/// empty file, zero bytes, its comparing of field names, its endless loops, or
+/// its block levels.
 #[derive(Clone, Copy, PartialEq, Eq, Debug)]
 pub enum Part {
     Reading,
@@ -42,6 +58,7 @@ pub enum Part {
     Empty,
     Names,
     Endless,
+    Levels,
 }
 
 macro_rules! mutants {
@@ -178,12 +195,9 @@ mutants! {
         DefaultArray: "an array has a default",
         DefaultBeforeLength: "16 comes before the length",
         FilledTypeFree: "an array with initializer need not be of a well-formed type",
-        FreshBeforeLength: "the index name is tested before the length",
-        IndexNameMayHide: "the index name may hide a local",
         IndexNameUnbound: "the index name is not bound in the value",
         IndexNameStays: "the index name is left bound",
         FilledValueFree: "an array initializer's value is not compared",
-        FreshAgainstGlobals: "fresh means against globals too",
         IndexSortLate: "the array's sort is tested after the index",
         IndexFree: "an index may be of any type",
         ElementLowest: "an element gives the lowest equal type",
@@ -238,7 +252,8 @@ mutants! {
         HidingForgotten: "a hidden function's name cannot be assigned",
         AssignmentTurned: "the left side must be below the right",
         VarFreshFirst: "a var's name is tested before its expression",
-        VarMayHide: "a var may hide a local",
+        VarMayRepeat: "a var may have a name that its own block has bound",
+        FreshAgainstGlobals: "fresh means against globals too",
         VarReturns: "a var returns",
         CallStatementReturns: "a call statement returns",
         ReturnVoidLast: "return's expression comes before void",
@@ -251,7 +266,7 @@ mutants! {
         EitherArmReturns: "an if returns if one arm does",
         IfNullFormed: "an if?'s t must be well-formed",
         IfNullTurned: "an if?'s t must be below the expression's",
-        IfNullFresh: "an if?'s name must be fresh",
+        IfNullFresh: "an if?'s name must be fresh against every local",
         IfNullNameInElse: "an if?'s name is bound in the second block",
         IfNullNameStays: "an if?'s name is left bound",
         IfNullEitherArm: "an if? returns if one arm does",
@@ -379,5 +394,56 @@ mutants! {
         EndlessIfNotLast: "an if that returns by while(true) goes on where it isn't last",
         EndlessIfStep: "an if that returns by while(true) may be a for's step",
         EndlessRowNone: "the row of while(true) is 0",
+    }
+    Levels {
+        FreshAtAllLevels: "vars and index names must be fresh against every local, as before the request",
+        VarFreshAtAllLevels: "a var must be fresh against every local",
+        VarFreshOneOut: "a var must be fresh in the block around its own too",
+        HiddenOnceOnly: "a name that is hidden once may not be hidden again",
+        ParameterNotHidden: "a var may hide no parameter",
+        VarNotHidden: "a var may hide no var of a block",
+        ForVarNotHidden: "a var may hide no variable of a for",
+        IfNullNameNotHidden: "a var may hide no if? name",
+        InnerStillClashes: "a var may not have a name that an inner block had bound",
+        BodyApart: "the body's block stands inside the parameters'",
+        IfShared: "the first block of an if is one with the block around it",
+        ElseShared: "the second block of an if is one with the block around it",
+        WhileShared: "a while's block is one with the block around it",
+        ForBlockShared: "a for's block is one with its variables'",
+        ForVarsOutside: "a for's variables are of the block around it",
+        ForVarsApart: "two variables of a for may have one name",
+        ForStepApart: "a for's step is a block of its own",
+        ForStepInBlock: "a for's step is one block with the for's block",
+        ForStepClashPlace: "a step's 7 stands at the for",
+        ForConditionOutside: "a for's condition stands outside its variables' block",
+        ForInitializersOutside: "a for's variable does not see those before it",
+        IfNullNameOutside: "an if?'s name is of the block around it",
+        IfNullNameInArm: "an if?'s name is of its first block",
+        IfNullElseShared: "the second block of an if? is one with the block around it",
+        IfNullNameInExpression: "an if?'s name is bound in its expression",
+        IndexNameFresh: "an index name must be fresh against every local",
+        IndexNameFreshFirst: "an index name must be fresh, which is tested before the length",
+        IndexNameFreshInBlock: "an index name must be fresh in the block around it",
+        IndexNamesDiffer: "an index name may not hide another",
+        IndexNameInLength: "an index name is bound in the length",
+        OutermostMeant: "a name means its outermost local binding",
+        NextMeant: "a name means the binding that its nearest one hides",
+        HiddenTwiceForgotten: "of three bindings or more the second is meant",
+        ParameterMeant: "a name means a parameter, where there is one, hidden or not",
+        IfNullNameHidesNothing: "an if?'s name hides no local",
+        IndexNameHidesNothing: "an index name hides no local",
+        HiddenTypeMeant: "a name has the type of its outermost local binding",
+        HiddenBinderTold: "a name's row has its outermost local binder",
+        HiddenLost: "a local that was hidden is unknown after the block",
+        RestoredTooFar: "what a block has bound is gone after an inner block",
+        BlockAnew: "a block counts as a new one after an inner block",
+        BlockAllLevels: "after an inner block a var must be fresh against every local",
+        HidingOwnOnly: "15 looks for hiding locals in the own block alone",
+        HidingNearOnly: "15 looks for hiding locals in the own block and the one around it",
+        HidingParameterForgotten: "15 is asked where a parameter hides the function",
+        HidingVarForgotten: "15 is asked where a block's var hides the function",
+        HidingForVarForgotten: "15 is asked where a for's variable hides the function",
+        HidingIfNullForgotten: "15 is asked where an if? name hides the function",
+        HidingStays: "15 is not asked where a local had the function's name before",
     }
 }

@@ -1,17 +1,44 @@
 //! Statements and blocks: document 01, "Typing, and where the print is
-//! damaged", document 02's request (i), and document 001, section 4, from
-//! variable declarations on.
+//! damaged", document 02's requests (i) and (vi), and document 001, section 4,
+//! from variable declarations on.
 //! A mark is true for a statement that definitely returns.
 
 use crate::expressions::BOOL;
 use crate::file::{Four, NULLABLE, VOID};
-use crate::mutants::{Mutant::*, Rules};
+use crate::mutants::{Mutant, Mutant::*, Rules};
 use crate::types::NONE;
 use crate::typing::{Checker, Judged, fault};
 
 impl<R: Rules> Checker<'_, R> {
-    /// Types the block at `next`; what it binds is gone after it.
-    pub(crate) fn block(&mut self) -> Judged<bool> {
+    /// Opens a block at a node and gives the one around it. A mutant has the
+    /// two be one.
+    fn open(&mut self, node: usize, one: Mutant) -> usize {
+        let outer = self.own;
+        if !self.breaks(one) {
+            self.own = node;
+        }
+        outer
+    }
+
+    /// Goes back to the block around.
+    fn close(&mut self, outer: usize) {
+        self.own = self.other_block(outer).unwrap_or(outer);
+    }
+
+    /// Types the block at `next`, which stands inside the present one.
+    fn block(&mut self, one: Mutant) -> Judged<bool> {
+        let outer = self.open(self.next, one);
+        let mark = self.statements()?;
+        self.close(outer);
+        if self.breaks(RestoredTooFar) {
+            self.put_aside(outer);
+        }
+        Ok(mark)
+    }
+
+    /// Types the statements of the block at `next`; what they bind is gone after
+    /// them.
+    pub(crate) fn statements(&mut self) -> Judged<bool> {
         let at = self.next;
         self.next += 1;
         let scope = self.scope;
@@ -87,8 +114,9 @@ impl<R: Rules> Checker<'_, R> {
             && binder < self.file.nodes.len() as u16
             && self.file.node(binder as usize).kind() == 1
             && self.file.kind_of(self.type_of(binder)) == crate::file::FUNCTION;
-        let hidden = self.breaks(HidingForgotten) && self.is_local(binder) && self.global_function(n.x());
-        self.is_function(binder) || global_pointer || hidden
+        let overlooked = self.overlooks(binder, left) && self.global_function(n.x());
+        let after = self.breaks(HidingStays) && self.was_local(n.x(), left);
+        self.is_function(binder) && !after || global_pointer || overlooked
     }
 
     /// Only under a mutant: some function has the name, hidden or not.
@@ -101,12 +129,24 @@ impl<R: Rules> Checker<'_, R> {
         if self.breaks(VarFreshFirst) {
             self.fresh(at, name)?;
         }
+        let aside = self.initializers_aside(at);
         self.expression()?;
-        if !self.breaks(VarMayHide) {
+        self.take_back(aside);
+        if !self.breaks(VarMayRepeat) {
             self.fresh(at, name)?;
         }
         self.bind(name, at);
         Ok(self.breaks(VarReturns))
+    }
+
+    /// The var's own block has not bound the name: document 02, (vi).
+    fn fresh(&self, at: usize, name: u16) -> Judged<()> {
+        let binder = self.find(name);
+        let bound = self.is_local(binder) && binder as usize >= self.own;
+        if self.other_clash(at, name, bound).unwrap_or(bound) {
+            return fault(7, self.clash_place(at));
+        }
+        Ok(())
     }
 
     /// Void first, then the expression and the subtype.
@@ -138,13 +178,19 @@ impl<R: Rules> Checker<'_, R> {
         } else {
             self.expression_of(BOOL, at)?;
         }
-        let (first, second) = (self.block()?, self.block()?);
+        let (first, second) = (self.block(IfShared)?, self.block(ElseShared)?);
         Ok(if self.breaks(EitherArmReturns) { first || second } else { first && second })
     }
 
-    /// Nullable expression, subtype, block with the name, block without it.
+    /// Nullable expression, subtype, block with the name, block without it. The
+    /// name is a block of its own, which the first block stands in.
     fn if_null(&mut self, at: usize, n: Four) -> Judged<bool> {
+        let scope = self.scope;
+        if self.breaks(IfNullNameInExpression) {
+            self.bind(n.x(), at);
+        }
         let t = self.expression()?;
+        self.leave(scope);
         if self.file.kind_of(t) != NULLABLE {
             return fault(10, at);
         }
@@ -157,16 +203,20 @@ impl<R: Rules> Checker<'_, R> {
         if !below {
             return fault(11, at);
         }
-        if self.breaks(IfNullFresh) {
+        if self.breaks(IfNullNameOutside) {
             self.fresh(at, n.x())?;
         }
-        let scope = self.scope;
+        if self.breaks(IfNullFresh) && self.is_local(self.find(n.x())) {
+            return fault(7, at);
+        }
+        let outer = self.open(at, IfNullNameOutside);
         self.bind(n.x(), at);
-        let first = self.block()?;
+        let first = self.block(IfNullNameInArm)?;
+        self.close(outer);
         if !self.breaks(IfNullNameInElse) {
             self.leave(scope);
         }
-        let second = self.block()?;
+        let second = self.block(IfNullElseShared)?;
         self.leave(scope);
         if self.breaks(IfNullNameStays) {
             self.bind(n.x(), at);
@@ -174,31 +224,45 @@ impl<R: Rules> Checker<'_, R> {
         Ok(if self.breaks(IfNullEitherArm) { first || second } else { first && second })
     }
 
-    /// Vars, condition, step, block; all bindings are gone after it.
+    /// Vars, condition, step, block; all bindings are gone after it. Vars and
+    /// step are one block, which the block stands in.
     fn for_loop(&mut self, at: usize, n: Four, behind: Option<u16>) -> Judged<bool> {
         let outside = self.scope;
+        let outer = self.open(at, ForVarsOutside);
         for _ in 0..n.children() - 3 {
             self.statement(None)?;
         }
         let condition = self.next;
-        if !self.absent() {
-            let parent = if self.breaks(ForConditionPlace) { self.next } else { at };
-            self.expression_of(BOOL, parent)?;
-        }
+        self.for_condition(at)?;
         let inside = self.scope;
         let late = self.for_step(at)?;
-        if !self.breaks(ForStepStays) {
+        if !self.breaks(ForStepStays) && !self.breaks(ForStepInBlock) {
             self.leave(inside);
         }
-        let mark = self.block()?;
+        let mark = self.block(ForBlockShared)?;
+        self.close(outer);
         late?;
         self.leave(if self.breaks(ForVarsStay) { inside } else { outside });
         Ok(mark && self.breaks(ForReturns) || self.for_returns(condition, behind))
     }
 
+    fn for_condition(&mut self, at: usize) -> Judged<()> {
+        if self.absent() {
+            return Ok(());
+        }
+        let parent = if self.breaks(ForConditionPlace) { self.next } else { at };
+        let aside = if self.breaks(ForConditionOutside) { self.put_aside(at) } else { vec![] };
+        self.expression_of(BOOL, parent)?;
+        self.take_back(aside);
+        Ok(())
+    }
+
     /// A step that returns breaks at itself; only a mutant hands that on.
     fn for_step(&mut self, at: usize) -> Judged<Judged<()>> {
         let child = self.next;
+        if self.breaks(ForStepApart) {
+            self.own = child;
+        }
         if self.absent() || !self.statement(None)? || self.breaks(ForStepMayReturn) {
             return Ok(Ok(()));
         }
@@ -227,7 +291,7 @@ impl<R: Rules> Checker<'_, R> {
         } else {
             self.expression_of(BOOL, at)?;
         }
-        let block = self.block()?;
+        let block = self.block(WhileShared)?;
         let endless = self.file.node(at + 1).kind() == 11;
         let mark = endless && behind == Some(0);
         Ok(self.other_while(at, behind, block).unwrap_or(mark))

@@ -40,6 +40,9 @@ pub(crate) struct Checker<'a, R> {
     builtin_links: [u16; 128],
     /// How many local bindings are in scope.
     pub scope: usize,
+    /// The node that opens the innermost block. Nodes stand parent first, so a
+    /// local binder before it is of an outer block: document 02, (vi).
+    pub own: usize,
     /// The node that is typed next.
     pub next: usize,
     /// The return type of the function.
@@ -59,6 +62,7 @@ impl<'a, R: Rules> Checker<'a, R> {
             heads: [NONE; BUCKETS],
             builtin_links: [NONE; 128],
             scope: 0,
+            own: 0,
             next: 0,
             result: VOID,
             step: 0,
@@ -225,7 +229,8 @@ impl<'a, R: Rules> Checker<'a, R> {
         Ok(())
     }
 
-    /// A function body: distinct parameters, block, mark.
+    /// A function body: distinct parameters, block, mark. Parameters and the
+    /// body's block are one block.
     fn body(&mut self, at: usize, n: Four) -> Judged<()> {
         let parameters = self.file.parameters(self.file.ty(n.t()));
         let mut distinct = Ok(());
@@ -244,7 +249,8 @@ impl<'a, R: Rules> Checker<'a, R> {
         }
         self.next = at + 1 + parameters.len();
         self.result = self.file.ty(n.t()).a();
-        let mark = self.block()?;
+        self.own = if self.breaks(BodyApart) { self.next } else { at };
+        let mark = self.statements()?;
         self.leave(if self.breaks(ParametersStayBound) { self.scope } else { 0 });
         distinct?;
         let may_go_on = self.breaks(BodyMayGoOn) || self.breaks(VoidBodyMayGoOn) && self.result == VOID;
@@ -334,7 +340,31 @@ impl<'a, R: Rules> Checker<'a, R> {
             let node = self.work[self.scope][1] as usize;
             let name = self.file.node(node).x();
             self.heads[name as usize % BUCKETS] = self.work[node][0];
+            if self.breaks(HiddenLost) {
+                self.lose(name);
+            }
         }
+    }
+
+    /// Only under a mutant: a local that was hidden is lost.
+    fn lose(&mut self, name: u16) {
+        let head = self.heads[name as usize % BUCKETS];
+        if self.is_local(head) && self.name_of(head) == name {
+            self.heads[name as usize % BUCKETS] = self.link_of(head);
+        }
+    }
+
+    /// All local binders of a name, the nearest first; asked under mutants alone.
+    pub fn locals(&self, name: u16) -> Vec<u16> {
+        let mut binder = self.heads[name as usize % BUCKETS];
+        let mut found = Vec::new();
+        while self.is_local(binder) {
+            if self.name_of(binder) == name {
+                found.push(binder);
+            }
+            binder = self.link_of(binder);
+        }
+        found
     }
 }
 

@@ -2,7 +2,7 @@
 
 use crate::mutants::{ALL, Exact, Mutant, Part};
 use crate::print::{self, Limited, pack, pack_limited, unpack, unpack_limited};
-use crate::{Limits, cases, generator};
+use crate::{Limits, cases, generator, measures};
 
 /// The four questions that vectors are stored for.
 #[derive(Clone, Copy, PartialEq, Eq, Debug)]
@@ -81,14 +81,16 @@ pub fn files(question: Question) -> Vec<u8> {
 /// The cases written by hand alone, for each question.
 pub fn hand_written() -> [Vec<u8>; 4] {
     let reading = pack(cases::reading().into_iter().map(|c| c.1));
-    let checked = typing_cases().into_iter().chain(name_cases()).chain(endless_cases());
+    let checked = typing_cases().into_iter().chain(name_cases()).chain(endless_cases()).chain(level_cases());
     [pack(checked), reading, pack(subtyping_cases()), pack_limited(limit_cases_by_hand())]
 }
 
 /// Generated files alone, for each question.
 pub fn generated() -> [Vec<u8>; 4] {
     let programs = generator::programs(6, 12_000);
-    let checked = [programs.clone(), generator::field_names(13, 1000), generator::endless(16, 1000)].concat();
+    let special =
+        [generator::field_names(13, 1000), generator::endless(16, 1000), generator::levels(19, 1000)].concat();
+    let checked = [programs.clone(), special].concat();
     [checked, programs, generator::type_tables(7, 400), generator::limited(8, 1000)]
 }
 
@@ -108,6 +110,10 @@ fn endless_cases() -> Vec<Vec<u8>> {
     cases::endless().into_iter().map(|m| m.case.file).collect()
 }
 
+fn level_cases() -> Vec<Vec<u8>> {
+    cases::levels().into_iter().map(|r| r.case.file).collect()
+}
+
 fn subtyping_cases() -> Vec<Vec<u8>> {
     let mut files: Vec<Vec<u8>> = Vec::new();
     for q in cases::subtyping() {
@@ -120,8 +126,8 @@ fn subtyping_cases() -> Vec<Vec<u8>> {
 
 /// All cases written by hand, a sample of the generator, and more of its files
 /// for each mutant of typing that few of these catch; then those about field
-/// names, and those about endless loops, each later than the ones before, so
-/// that all others keep their places.
+/// names, about endless loops and about names in inner blocks, each later than
+/// the ones before, so that all others keep their places.
 fn check_files() -> Vec<Vec<u8>> {
     let mut files = typing_cases();
     files.extend(small(&generator::programs(1, 360), 4000));
@@ -131,6 +137,8 @@ fn check_files() -> Vec<Vec<u8>> {
     files.extend(small(&generator::field_names(10, 80), 1200));
     files.extend(endless_cases());
     files.extend(small(&generator::endless(15, 80), 1200));
+    files.extend(level_cases());
+    files.extend(small(&generator::levels(18, 230), 700));
     files
 }
 
@@ -150,11 +158,18 @@ fn limit_cases_by_hand() -> Vec<(Vec<u8>, Limits)> {
     cases::limits().into_iter().map(|c| (c.file, c.limits)).collect()
 }
 
-/// The generated files are small; each has several settings around its own measures.
+/// The generated files are small; each has several settings around its own
+/// measures. Then some files about names in inner blocks, at their own measures,
+/// one level lower and at the widest.
 fn limit_cases() -> Vec<(Vec<u8>, Limits)> {
     let mut cases = limit_cases_by_hand();
     for (i, file) in small(&generator::programs(9, 120), 1200).into_iter().enumerate() {
         cases.extend(generator::settings_around(i as u64, &file).into_iter().map(|limits| (file.clone(), limits)));
+    }
+    for file in level_cases().into_iter().step_by(20) {
+        let own = measures(&file);
+        let settings = [own, Limits { depth: own.depth - 1, ..own }, Limits::WIDEST];
+        cases.extend(settings.map(|limits| (file.clone(), limits)));
     }
     cases
 }
@@ -189,7 +204,7 @@ pub fn table(packed: &[Vec<u8>; 4]) -> Vec<(Mutant, Part, [usize; 4])> {
     ALL.iter().map(|&(m, part, _)| (m, part, count(m, part))).collect()
 }
 
-const PARTS: [Part; 9] = [
+const PARTS: [Part; 10] = [
     Part::Reading,
     Part::Subtyping,
     Part::Expressions,
@@ -199,6 +214,7 @@ const PARTS: [Part; 9] = [
     Part::Empty,
     Part::Names,
     Part::Endless,
+    Part::Levels,
 ];
 
 /// What `mutants` prints: a line for each part, as docs/TESTING.md has it, and a line for each mutant.

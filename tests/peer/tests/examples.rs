@@ -1,6 +1,6 @@
 //! The examples: each program file has a text beside it with the answer that the peer gives.
 
-use oat_peer::mutants::Mutant::WhileGoesOn;
+use oat_peer::mutants::Mutant::{FreshAtAllLevels, WhileGoesOn};
 use oat_peer::print::{self, Limited};
 use std::collections::BTreeSet;
 use std::path::{Path, PathBuf};
@@ -52,6 +52,23 @@ fn endless_loops() {
     for (name, before, now) in [("endless", "14 5 0\n", "0 6 0\n"), ("endless_not_last", "0 2 0\n", "14 1 3\n")] {
         let file = std::fs::read(folder().join(name.to_string() + ".oat")).expect("an example");
         assert!(print::check_with(Limited::widest(&file), WhileGoesOn).starts_with(before), "{name}");
+        assert!(print::check(&file).starts_with(now), "{name}");
+    }
+}
+
+/// Document 02's request (vi) moved the examples about names in inner blocks,
+/// but for the one whose step binds a variable.
+#[test]
+fn names_in_inner_blocks() {
+    let moved = [
+        ("same_name_inner", "7 1 6\n", "0 2 0\n"),
+        ("same_name_own_block", "7 1 8\n", "7 1 10\n"),
+        ("step_binds_variable", "7 1 8\n", "7 1 8\n"),
+        ("index_name_again", "7 1 4\n", "0 2 0\n"),
+    ];
+    for (name, before, now) in moved {
+        let file = std::fs::read(folder().join(name.to_string() + ".oat")).expect("an example");
+        assert!(print::check_with(Limited::widest(&file), FreshAtAllLevels).starts_with(before), "{name}");
         assert!(print::check(&file).starts_with(now), "{name}");
     }
 }

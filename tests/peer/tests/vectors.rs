@@ -57,7 +57,7 @@ fn sizes() {
     let size = |q, end| fs::metadata(path(q, end)).expect("a stored file").len();
     let others = QUESTIONS.iter().filter(|&&q| q != Question::Limits);
     let all: u64 = others.map(|&q| size(q, "bin") + size(q, "txt")).sum();
-    assert!(all <= 3 << 20, "{all} bytes");
+    assert!(all <= 3_300_000, "{all} bytes");
     assert!(size(Question::Limits, "bin") < 600_000);
     let limited = stored(Question::Limits);
     assert!(Question::Limits.unpack(&limited).iter().all(|c| c.file.len() < 45_200));
@@ -78,6 +78,9 @@ fn every_mutant_is_caught() {
     let of_loops = || table.iter().filter(|m| m.1 == Part::Endless);
     assert!(of_loops().count() >= 20);
     assert!(of_loops().all(|m| m.2[0] >= 4), "{:?}", of_loops().filter(|m| m.2[0] < 4).collect::<Vec<_>>());
+    let of_levels = || table.iter().filter(|m| m.1 == Part::Levels);
+    assert!(of_levels().count() >= 45);
+    assert!(of_levels().all(|m| m.2[0] >= 5), "{:?}", of_levels().filter(|m| m.2[0] < 5).collect::<Vec<_>>());
 }
 
 /// Each number but 6 has at least 2 % of the generator's files.

@@ -3,6 +3,7 @@
 //! the number of the reading it shows, if it shows one.
 
 mod endless;
+mod levels;
 mod limits;
 mod names;
 mod reading;
@@ -11,6 +12,7 @@ mod subtyping;
 mod typing;
 
 pub use endless::{Marked, endless};
+pub use levels::{Resolved, levels};
 pub use limits::{LimitCase, limits};
 pub use names::names;
 pub use reading::reading;
@@ -28,7 +30,9 @@ pub struct Case {
 
 /// Readable files with their answers, all of them.
 pub fn checked() -> Vec<Case> {
-    typing().into_iter().chain(names()).chain(endless().into_iter().map(|m| m.case)).collect()
+    let marked = endless().into_iter().map(|m| m.case);
+    let resolved = levels().into_iter().map(|r| r.case);
+    typing().into_iter().chain(names()).chain(marked).chain(resolved).collect()
 }
 
 /// Types of the usual table.

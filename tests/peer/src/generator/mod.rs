@@ -1,17 +1,19 @@
 //! The generator: well-typed programs, near misses, damaged files, files of the
-//! largest sizes, files about field names and about endless loops, from a seed.
+//! largest sizes, files about field names, about endless loops and about names in
+//! inner blocks, from a seed.
 
 mod bodies;
 mod damage;
 mod endless;
 mod large;
+mod levels;
 mod limits;
 mod misses;
 mod names;
 mod rng;
 mod tables;
 
-use crate::mutants::{Exact, Mutant::WhileGoesOn, Rules};
+use crate::mutants::{Document01, Exact, Rules};
 use crate::print::{pack, pack_limited, unpack};
 use crate::{Limits, check_under, node_count};
 pub use limits::settings_around;
@@ -47,6 +49,12 @@ pub fn endless(seed: u64, count: usize) -> Vec<u8> {
     pack((0..count).map(|_| endless::file(&mut rng)))
 }
 
+/// Packed files about names in inner blocks.
+pub fn levels(seed: u64, count: usize) -> Vec<u8> {
+    let mut rng = Rng::new(seed ^ 0x6C65_7665);
+    pack((0..count).map(|_| levels::file(&mut rng)))
+}
+
 /// Packed cases of limits: the files of `programs`, each under four settings in a row.
 pub fn limited(seed: u64, count: usize) -> Vec<u8> {
     let many = programs(seed, count);
@@ -75,16 +83,16 @@ fn number<R: Rules>(file: &[u8], rules: R) -> u16 {
 }
 
 /// One file, with the number asked for if it can be had in some tries. It has
-/// that number under document 01's rule for while, so that a seed gives the
-/// files that it gave before document 02's request (i). A file for 1 that is cut
-/// down to zero bytes is kept, though it is accepted.
+/// that number under document 01's typing, so that a seed gives the files that it
+/// gave before document 02's requests (i) and (vi). A file for 1 that is cut down
+/// to zero bytes is kept, though it is accepted.
 fn program(rng: &mut Rng, wanted: u16) -> Vec<u8> {
     if rng.below(250) == 0 {
         return large::file(rng, wanted);
     }
     for _ in 0..TRIES {
         let file = attempt(rng, wanted);
-        if number(&file, WhileGoesOn) == wanted || file.is_empty() {
+        if number(&file, Document01) == wanted || file.is_empty() {
             return file;
         }
     }
