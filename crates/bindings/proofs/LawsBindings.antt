@@ -16,7 +16,7 @@ use Rattle.oat.specs.Basics.{pick}
 use Rattle.oat.specs.Tables.{Tables, builtInAt, nodeAt}
 use Rattle.chains.specs.Chains.{highest, Chains}
 use Rattle.chains.proofs.LawsChains.{Walks, highest-most, highest-reaches, walk-starts, walk-falls, walk-on, walk-highest, chains-same, chains-none, linked, unlinked}
-use Rattle.typing_rules.specs.Contexts.{Scope, empty, binds, inner, Hit, hit, miss, isMiss, nearest, Entry, find, findName, isUnbound, isFreshAt, isFresh, isFixed, orElse}
+use Rattle.typing_rules.specs.Contexts.{Scope, empty, binds, inner, Hit, hit, miss, isMiss, nearest, Entry, find, findName, isUnbound, isFreshAt, isFixed, orElse}
 use Rattle.typing_rules.proofs.LawsLevels.{deepest-inner, deepest-binds, fresh-inner, fresh-binds}
 use Rattle.file_sections.specs.declared.Sections.{Sections}
 use Rattle.file_sections.specs.Layout.{Laid, Has, tablesOf}

@@ -3,5 +3,7 @@ pub mod Blocks
 pub mod Endless
 pub mod Example
 pub mod Growth
+pub mod LawsOutcomeRows
 pub mod LawsPlaces
+pub mod Nearest
 pub mod Theorem

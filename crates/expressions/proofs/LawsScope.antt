@@ -1,6 +1,6 @@
 -- An answer in a scope is one in every scope whose names mean the same: rows have nothing of a scope but what names mean. Assumes nothing.
 use mathlib.Core.Path.{_≡_, refl, ap, sym, _∙_}
-use mathlib.Core.List.{List, [], _∷_}
+use mathlib.Core.List.{List}
 use Prim.Native.Nat.{ℕ, _+_}
 use Rattle.oat.specs.Syntax.{Expr, Exprs}
 use Rattle.oat.specs.Tables.{Tables}

@@ -35,7 +35,7 @@ use Rattle.answers.specs.declared.answer.Judgement.the-variants as judgement
 use Rattle.answers.specs.declared.answer.Judged.{Judged}
 use Rattle.answers.proofs.answer.Judgement.{the-type}
 use Rattle.answers.specs.Answers.{withRow}
-use Rattle.expressions.specs.Contract.{contextOf, Fine, After, Meets}
+use Rattle.expressions.specs.Contract.{Fine, After, Meets}
 use Rattle.expressions.proofs.LawsMeets.{Unrefused, part-of}
 use Rattle.expressions.proofs.LawsAfter.{row-other, row-result, row-binder}
 use Rattle.expressions.proofs.LawsChild.{kind-of, has-type, kind-within, returned-within, parameters-within}

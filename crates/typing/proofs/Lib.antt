@@ -13,3 +13,4 @@ pub mod LawsFill
 pub mod LawsRows
 pub mod LawsCheck
 pub mod Growth
+pub mod Nearest

@@ -1,7 +1,7 @@
 -- Blocks that bind no name twice (document 02, (vi)): an accepted program has no other (`distinct-accepted`). A refusal under 7 is where
 -- `SevenAt` says: at a struct, a built-in, a declaration or a var, never at an index name, and in a body only where one of its blocks binds a
 -- name twice (`seven-at`). Assumes nothing.
-use mathlib.Core.Path.{_≡_, refl, ap, sym, subst, _∙_}
+use mathlib.Core.Path.{_≡_, refl, ap, subst, _∙_}
 use mathlib.Core.Bool.{Bool, true, false, not, _&&_}
 use mathlib.Core.List.{List, [], _∷_, _++_}
 use mathlib.Core.Logic.{inl, inr}
@@ -12,12 +12,12 @@ use lib.Dec.{eqb}
 use Rattle.oat.specs.Basics.{pick, tabulate}
 use Rattle.oat.specs.Tables.{Tables, typeAt, entryAt, structAt, builtInAt}
 use Rattle.oat.specs.Types.{lookup, structOf}
-use Rattle.oat.specs.Syntax.{Expr, count, targetExpr, Vars, noVar, nextVar, Condition, noCondition, condition, Stmt, assign, var, returnValue, returnVoid, callStmt, ifElse, ifNull, for, while, Step, noStep, step, Block, block, Stmts, empty, then, Decl, global, function, size, sizeTarget, sizeVars, sizeCondition, sizeStep, sizeBlock, sizeStmt, sizeDecl}
+use Rattle.oat.specs.Syntax.{Expr, count, targetExpr, Vars, noVar, nextVar, Stmt, assign, var, returnValue, returnVoid, callStmt, ifElse, ifNull, for, while, Step, noStep, step, Block, block, Stmts, empty, then, Decl, global, function, size, sizeTarget, sizeVars, sizeCondition, sizeStep, sizeBlock, sizeStmt, sizeDecl}
 use Rattle.oat.specs.ProgramFile.{Program}
 use Rattle.typing_rules.specs.Contexts.{Scope, empty as emptyScope, binds, inner, isMiss, isFreshAt, isFresh, Context, findName}
 use Rattle.typing_rules.specs.Labels.{Label, unlabelled}
 use Rattle.typing_rules.specs.Derivations.{Node, statement, isEmpty, AtVars, at-var, in-vars, InStmt, in-then, in-else, in-some, in-null, in-for-vars, in-for-step, in-for-body, in-while-body, AtStep, at-step, in-step, AtBlock, in-block, AtStmts, at-stmt, in-stmt, in-stmts}
-use Rattle.typing_rules.specs.Judge.{Out, ok, no, andThen, needs, isKind, referred, formed, isBelow, argumentsBelow, assignsTo, judge, judges, Done, executeVars, judgeCondition, execute, executeStep, executeBlock, executeAll}
+use Rattle.typing_rules.specs.Judge.{Out, ok, no, andThen, needs, isKind, referred, formed, isBelow, argumentsBelow, assignsTo, executeVars, execute, executeStep, executeBlock, executeAll}
 use Rattle.typing_rules.specs.Steps.{Step as CheckStep, structName, builtIn, heading, globalValue, structFields, body, headings, globals, bodies, stepsOf, isAmong, distinctFields, distinctNames, parameters, emptyContext}
 use Rattle.typing_rules.specs.Check.{isMissing, fieldsFormed, runStep, stepRows, rowsBegin, Segment, Ran, accepted, refused, withSegment, onStep, run}
 use Rattle.typing_rules.specs.Blocks.{boundAfter, boundBy, distinctVars, distinctStmt, distinctStep, distinctBlock, distinctStmts, distinctBody, distinctDecls, SevenAt}

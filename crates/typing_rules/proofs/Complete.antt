@@ -16,14 +16,14 @@ use Rattle.oat.specs.Subtyping.{SubAll, Formed}
 use Rattle.oat.specs.Syntax.{Literal, truth, falsity, integer, text, Expr, null, literal, name, arrayLiteral, defaultArray, arrayWith, index, lengthOf, structLiteral, field, call, unary, binary, Exprs, none, also, count, Inits, noInit, init, countInits, size}
 use Rattle.oat.specs.Nodes.{Stands, StandAll, InitsStand}
 use Rattle.oat.proofs.LawsTables.{has-kind}
-use Rattle.typing_rules.specs.Contexts.{Scope, binds, Hit, hit, miss, find, findName, isFresh, Context, inner}
+use Rattle.typing_rules.specs.Contexts.{Scope, binds, Hit, hit, miss, find, findName, Context, inner}
 use Rattle.typing_rules.specs.Operators.{isEquality, operandType, resultType, unaryType, baseType, literalType}
 use Rattle.typing_rules.specs.Labels.{gives, Label, Labels, unlabelled}
 use Rattle.typing_rules.specs.Rules.{Typed, Has, has, member, TypedAll, typed-none, typed-also, TypedInits, typed-noInit, typed-init, ExprRule, typ-null, typ-literal, typ-local, typ-global, typ-carr, typ-newarray, typ-newarrayinit, typ-index, typ-length, typ-structex, typ-field, typ-call, typ-bop, typ-eq, typ-uop}
 use Rattle.typing_rules.specs.Derivations.{AtAll, AtInits, Derives, here, in-elements, in-length, in-with-length, in-with-value, in-indexed, in-position, in-measured, in-fields, in-record, in-callee, in-arguments, in-operand, in-left, in-right, in-first, in-rest, in-value, in-others}
 use Rattle.typing_rules.specs.Judge.{ok, typedAs, isKind, referred, formed, argumentsBelow, judge, judges, judgeInits}
 use Rattle.typing_rules.proofs.Claims.{File, Value, ScopeFits, fits-bind, ContextFits, eraseScope, eraseContext, eraseLabel, erase, gather, gathers, gatherInits, eraseBindings}
-use Rattle.typing_rules.proofs.LawsBridge.{typesOf, Values, values-none, values-also, eraseHit, find-erase, fresh-erase, name-erase, find-value, name-value, is-base, is-void, array-parts, struct-parts, function-parts, default-is, base-is, base-value, below-sub, formed-value, formed-null, each-below, arguments-below, arguments-many, inits-below, member-value, field-there, erase-append}
+use Rattle.typing_rules.proofs.LawsBridge.{typesOf, Values, values-none, values-also, eraseHit, find-erase, name-erase, find-value, name-value, is-base, is-void, array-parts, struct-parts, function-parts, default-is, base-is, base-value, below-sub, formed-value, formed-null, each-below, arguments-below, arguments-many, inits-below, member-value, field-there, erase-append}
 use Rattle.typing_rules.proofs.LawsJudge.{null-ok, literal-ok, local-ok, global-ok, array-ok, default-ok, with-ok, index-ok, length-ok, struct-ok, field-ok, call-ok, unary-ok, operator-ok, equality-ok, none-ok, also-ok, noInit-ok, init-ok}
 
 -- accepted with the labels of D

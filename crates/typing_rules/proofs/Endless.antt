@@ -1,27 +1,25 @@
 -- Loops that never end (document 02, (i)): the mark of a while in every derivation, by its place and its condition; a block that ends in
 -- such a loop returns, so that a function's body which does needs no return; and the row of a while. Assumes nothing.
-use mathlib.Core.Path.{_≡_, ap, sym, subst, _∙_}
+use mathlib.Core.Path.{_≡_, ap, sym, _∙_}
 use mathlib.Core.Bool.{Bool, true, false, _&&_}
-use mathlib.Core.List.{List, _∷_, _++_, append-assoc}
-use Prim.Native.Nat.{ℕ, zero, suc, _+_, _*_, _-_, _≤_, _<_}
+use mathlib.Core.List.{List}
+use Prim.Native.Nat.{ℕ, _+_, _*_, _-_, _≤_}
 use native.Mathlib.Omega.{arith}
-use lib.ListN.{length, getD, length-append, List·getD-append}
-use lib.Seq.{take-length, getD-append-add}
+use lib.ListN.{length, getD}
 use Rattle.oat.specs.Basics.{pick}
 use Rattle.oat.specs.Tables.{Tables, typeAt}
 use Rattle.oat.specs.Types.{Ty, typeOf}
-use Rattle.oat.specs.Syntax.{truth, Expr, literal, Vars, Condition, Stmt, for, while, Step, Block, block, Stmts, empty, then, Decl, global, function, size, sizeStmt, sizeBlock, sizeDecl}
+use Rattle.oat.specs.Syntax.{truth, Expr, literal, Vars, Condition, for, while, Step, Block, block, Stmts, empty, then, sizeStmt}
 use Rattle.oat.specs.ProgramFile.{Program}
 use Rattle.typing_rules.specs.Contexts.{Scope, empty as no-scope, Context}
 use Rattle.typing_rules.specs.Labels.{Result, gives, marks, nothing, Label, Labels}
 use Rattle.typing_rules.specs.Rules.{Chain, isTrue, whileMark, StmtRule, typ-while, typ-for, BlockRule, typ-block}
 use Rattle.typing_rules.specs.Derivations.{statement, AtBlock, here-block, in-block, AtStmts, at-stmt, in-stmts, DerivesBlock}
-use Rattle.typing_rules.specs.Endless.{InBodies, in-body, in-others, endingIn}
-use Rattle.typing_rules.specs.Steps.{Step as CheckStep, body, bodies, stepsOf, distinctNames, Unlabelled, parameters, StepRule, typ-fdeclok, emptyContext, StepsRule, next-step, DerivesFile}
-use Rattle.typing_rules.specs.Rows.{ResultIs, RowsAre, rows-node, labelsFrom, DeclRows, global-rows, function-rows}
-use Rattle.typing_rules.proofs.LawsPlaced.{block-holds}
-use Rattle.typing_rules.proofs.LawsSegments.{In, in-first, in-later}
-use Rattle.typing_rules.proofs.RowsTheorem.{body-in, rows-long, parameters-long, labels-long}
+use Rattle.typing_rules.specs.Endless.{InBodies, endingIn}
+use Rattle.typing_rules.specs.Steps.{body, distinctNames, Unlabelled, parameters, StepRule, typ-fdeclok, DerivesFile}
+use Rattle.typing_rules.specs.Rows.{ResultIs, DeclRows}
+use Rattle.typing_rules.proofs.LawsBodies.{of-body}
+use Rattle.typing_rules.proofs.LawsRowsAt.{RowIs, row-at}
 
 marks-is : {p q : ℕ} → _≡_ {A = Result Ty} (marks p) (marks q) → p ≡ q
 marks-is e = cc
@@ -75,29 +73,14 @@ module _ {T : Tables} {C : Context Ty} {D : Labels Ty} (ss : Stmts) (c : Block) 
       → StepRule T C D (body n t ps (block (endingIn ss (while (literal truth) c))))
   endless-body d u e k = typ-fdeclok d u e k (endless-block k)
 
--- the rule of a step among steps that have a derivation
-rule-of : {T : Tables} {D : Labels Ty} {C E : Context Ty} {s : CheckStep} {ss : List CheckStep} → StepsRule T D C ss E → In s ss → (B : Context Ty) × StepRule T B D s
-rule-of (next-step r rs) in-first = (_, r)
-rule-of (next-step r rs) (in-later i) = rule-of rs i
-
 -- a while in a function's body, in a derivation of the file
 body-marked : {T : Tables} {C : Context Ty} {D : Labels Ty} {k t : ℕ} {ps : List ℕ} {b : Block} {m : ℕ} {last : Bool} {a : Expr} {c : Block}
     → StepRule T C D (body k t ps b) → AtBlock b (k + 1 + length ps) m (statement last (while a c)) → D m .result ≡ marks (whileMark last a)
 body-marked (typ-fdeclok d u e k r) w = while-marked k w
 
-bodies-marked : {T : Tables} {D : Labels Ty} (ds : List Decl) (n m : ℕ) {last : Bool} {a : Expr} {c : Block}
-    → ((s : CheckStep) → In s (bodies n ds) → (B : Context Ty) × StepRule T B D s) → InBodies n ds m (statement last (while a c))
-    → D m .result ≡ marks (whileMark last a)
-unfolding bodies
-bodies-marked (function x t ps b ∷ ds) n m f (in-body w) = let (B, r) = f (body n t ps b) in-first in body-marked r w
-bodies-marked (function x t ps b ∷ ds) n m f (in-others w) = bodies-marked ds (n + sizeDecl (function x t ps b)) m (λ s i. f s (in-later i)) w
-bodies-marked (global x a ∷ ds) n m f (in-others w) = bodies-marked ds (n + sizeDecl (global x a)) m f w
-
 file-marked : (p : Program) (D : Labels Ty) (C : Context Ty) (m : ℕ) {last : Bool} {a : Expr} {c : Block} → DerivesFile p D C
     → InBodies 0 (p .declarations) m (statement last (while a c)) → D m .result ≡ marks (whileMark last a)
-file-marked p D C m d w =
-    let rules = subst (λ ss. StepsRule (p .tables) D emptyContext ss C) (take-length (stepsOf p)) (d .rules) in
-    bodies-marked (p .declarations) 0 m (λ s i. rule-of rules (body-in p s i)) w
+file-marked p D C m d w = let o = of-body p D C m d w in body-marked (o .rule) (o .stands)
 
 -- a row whose label has a mark
 result-is : (T : Tables) {q r : ℕ} (x : Result Ty) (L : List (Label Ty)) → x ≡ marks q → ResultIs T x L r → r ≡ q
@@ -105,62 +88,12 @@ result-is T (gives t) L e h = let z : _≡_ {A = ℕ} 0 1 = cc in absurd (omega 
 result-is T (marks p) L e h = h ∙ marks-is e
 result-is T nothing L e h = let z : _≡_ {A = ℕ} 0 1 = cc in absurd (omega arith)
 
--- the i-th of the rows of n nodes from k on
-label-row : (T : Tables) (D : Labels Ty) (k n i m q : ℕ) (R : List ℕ) → RowsAre T (labelsFrom D k n) R → i < n → m ≡ k + i → D m .result ≡ marks q
-    → getD R (2 * i) 65535 ≡ q
-unfolding labelsFrom
-label-row T D k zero i m q R r h l e = absurd (omega arith)
-label-row T D k (suc n) zero m q R (rows-node {r = r} h b s) l j e =
-    let at : m ≡ k = omega (arith, j) in
-    result-is T (D k .result) (labelsFrom D (k + 1) n) (subst (λ i. D i .result ≡ marks q) at e) h
-label-row T D k (suc n) (suc i) m q R (rows-node {r = r} {b = b} {R = Q} h z s) l j e =
-    let at : suc (suc (2 * i)) ≡ 2 * suc i = omega arith in
-    subst (λ x. getD (r ∷ b ∷ Q) x 65535 ≡ q) at (label-row T D (k + 1) n i m q Q s (omega arith) (omega (arith, j)) e)
+-- the row of a while, by its place and its condition; in the rows of a derivation of a file each while has it
+pub while-told : (p : Program) (D : Labels Ty) (C : Context Ty) (R : List ℕ) (m : ℕ) {last : Bool} {a : Expr} {c : Block} → DerivesFile p D C
+    → RowIs (p .tables) (D m) m R → InBodies 0 (p .declarations) m (statement last (while a c)) → getD R (2 * m) 65535 ≡ whileMark last a
+while-told p D C R m d r w = result-is (p .tables) (D m .result) (r .after) (file-marked p D C m d w) (r .result)
 
--- a row behind others, and a row of a body behind those of its function and parameters
-later-row : (xs ys : List ℕ) (d i j : ℕ) {q : ℕ} → length xs ≡ 2 * d → j ≡ d + i → getD ys (2 * i) 65535 ≡ q → getD (xs ++ ys) (2 * j) 65535 ≡ q
-later-row xs ys d i j e h g =
-    let at : 2 * j ≡ length xs + 2 * i = omega (arith, e, h) in
-    ap (λ k. getD (xs ++ ys) k 65535) at ∙ getD-append-add xs ys (2 * i) 65535 ∙ g
-
-body-row : (r : ℕ) (P R Q : List ℕ) (i j : ℕ) {q : ℕ} → 2 * j ≡ 2 + length P + 2 * i → 2 * i < length R → getD R (2 * i) 65535 ≡ q
-    → getD ((r ∷ 65535 ∷ P ++ R) ++ Q) (2 * j) 65535 ≡ q
-body-row r P R Q i j h l g =
-    let at : 2 * j ≡ length (r ∷ 65535 ∷ P) + 2 * i = omega (arith, h) in
-    ap (λ L. getD (r ∷ 65535 ∷ L) (2 * j) 65535) (append-assoc P R Q)
-    ∙ ap (λ k. getD (r ∷ 65535 ∷ P ++ (R ++ Q)) k 65535) at
-    ∙ getD-append-add (r ∷ 65535 ∷ P) (R ++ Q) (2 * i) 65535
-    ∙ List·getD-append R Q 65535 (2 * i) l
-    ∙ g
-
--- the functions' bodies of declarations stand where these do
-bodies-low : (ds : List Decl) {n m : ℕ} {l : Bool} {s : Stmt} → InBodies n ds m (statement l s) → n ≤ m
-bodies-low (function x t ps b ∷ ds) (in-body w) = let (h, k) = block-holds b w in omega (arith, h)
-bodies-low (d ∷ ds) (in-others w) = omega (arith, bodies-low ds w)
-
--- the row of a statement of a function's body, among the rows of the declarations that stand from n on
-decl-row : (T : Tables) (D : Labels Ty) (ds : List Decl) (n i m q : ℕ) (R : List ℕ) {l : Bool} {s : Stmt} → DeclRows T D n ds R
-    → InBodies n ds m (statement l s) → m ≡ n + i → D m .result ≡ marks q → getD R (2 * i) 65535 ≡ q
-decl-row T D (function x t ps b ∷ ds) n i m q _ (function-rows {m = f} {P = P} {R = R} {Q = Q} k h r z) (in-body w) j e =
-    let (low, high) = block-holds b w in
-    let front = 1 + length ps in
-    let long : length R ≡ 2 * sizeBlock b = rows-long r ∙ ap (λ k. 2 * k) (labels-long D (n + 1 + length ps) (sizeBlock b)) in
-    body-row f P R Q (i - front) i (omega (arith, parameters-long h, low, j)) (omega (arith, long, high, low, j))
-    (label-row T D (n + 1 + length ps) (sizeBlock b) (i - front) m q R r (omega (arith, high, low, j)) (omega (arith, low, j)) e)
-decl-row T D (function x t ps b ∷ ds) n i m q _ (function-rows {m = f} {P = P} {R = R} {Q = Q} k h r z) (in-others w) j e =
-    let low = bodies-low ds w in
-    let long : length R ≡ 2 * sizeBlock b = rows-long r ∙ ap (λ k. 2 * k) (labels-long D (n + 1 + length ps) (sizeBlock b)) in
-    later-row (f ∷ 65535 ∷ P ++ R) Q (sizeDecl (function x t ps b)) (i - sizeDecl (function x t ps b)) i
-    (simp length-append (omega (arith, parameters-long h, long))) (omega (arith, low, j))
-    (decl-row T D ds (n + sizeDecl (function x t ps b)) (i - sizeDecl (function x t ps b)) m q Q z w (omega (arith, low, j)) e)
-decl-row T D (global x a ∷ ds) n i m q _ (global-rows {R = R} {Q = Q} r z) (in-others w) j e =
-    let low = bodies-low ds w in
-    later-row R Q (sizeDecl (global x a)) (i - sizeDecl (global x a)) i
-    (rows-long r ∙ ap (λ k. 2 * k) (labels-long D n (1 + size a))) (omega (arith, low, j))
-    (decl-row T D ds (n + sizeDecl (global x a)) (i - sizeDecl (global x a)) m q Q z w (omega (arith, low, j)) e)
-
--- the row of a while of an accepted file, by its place and its condition
 pub while-row : (p : Program) (D : Labels Ty) (C : Context Ty) (R : List ℕ) (m : ℕ) {last : Bool} {a : Expr} {c : Block} → DerivesFile p D C
     → DeclRows (p .tables) D 0 (p .declarations) R → InBodies 0 (p .declarations) m (statement last (while a c))
     → getD R (2 * m) 65535 ≡ whileMark last a
-while-row p D C R m d r w = decl-row (p .tables) D (p .declarations) 0 m m _ R r w (omega arith) (file-marked p D C m d w)
+while-row p D C R m d r w = while-told p D C R m d (row-at (p .tables) D (p .declarations) m R r w) w

@@ -1,5 +1,5 @@
 -- What the check of an expression makes of a scope: what its names mean, and no more. Assumes nothing.
-use mathlib.Core.Path.{_≡_, refl, ap, sym, subst, _∙_}
+use mathlib.Core.Path.{_≡_, refl, ap, subst}
 use mathlib.Core.Bool.{Bool, true, false, not, _&&_, _||_}
 use mathlib.Core.List.{List, [], _∷_, _++_}
 use Prim.Native.Nat.{ℕ, _+_}
@@ -12,8 +12,8 @@ use Rattle.oat.specs.Syntax.{Expr, null, literal, name, arrayLiteral, defaultAr
 use Rattle.typing_rules.specs.Contexts.{Scope, inner, binds, Hit, hit, miss, nearest, find, Context, findName, orElse}
 use Rattle.typing_rules.specs.Operators.{isEquality, operandType, resultType, unaryType, literalType}
 use Rattle.typing_rules.specs.Rules.{namesFit}
-use Rattle.typing_rules.specs.Labels.{Label, unlabelled}
-use Rattle.typing_rules.specs.Judge.{Out, ok, no, andThen, needs, plain, named, onDeclared, Number, number, unknown, fieldType, fieldOf, referred, typedAs, formed, isKind, isBelow, hasDefault, eachBelow, argumentsBelow, initsBelow, judge, judges, judgeInits}
+use Rattle.typing_rules.specs.Labels.{Label}
+use Rattle.typing_rules.specs.Judge.{Out, ok, no, andThen, needs, plain, named, onDeclared, Number, number, unknown, fieldType, fieldOf, referred, formed, isKind, isBelow, hasDefault, eachBelow, argumentsBelow, initsBelow, judge, judges, judgeInits}
 
 -- labels with the same rows
 pub data RowsAlike : List (Label ℕ) → List (Label ℕ) → Type 0 where

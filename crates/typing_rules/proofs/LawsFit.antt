@@ -10,7 +10,7 @@ use Rattle.oat.specs.Tables.{Tables, typeAt}
 use Rattle.oat.specs.Types.{lookup}
 use Rattle.oat.specs.Syntax.{Expr, null, literal, name, arrayLiteral, defaultArray, arrayWith, index, lengthOf, structLiteral, field, call, unary, binary, Exprs, none, also, Inits, noInit, init, count, size}
 use Rattle.oat.specs.Nodes.{Stands, StandAll, InitsStand}
-use Rattle.typing_rules.specs.Contexts.{Scope, binds, find, isFresh, Context, findName, orElse, inner}
+use Rattle.typing_rules.specs.Contexts.{Scope, binds, find, Context, findName, orElse, inner}
 use Rattle.typing_rules.specs.Labels.{Label}
 use Rattle.typing_rules.specs.Operators.{isEquality, operandType, unaryType}
 use Rattle.typing_rules.specs.Rules.{namesFit}

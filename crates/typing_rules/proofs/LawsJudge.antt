@@ -8,7 +8,7 @@ use lib.Dec.{eqb}
 use Rattle.oat.specs.Tables.{Tables, typeAt}
 use Rattle.oat.specs.Types.{Field, found, lookup}
 use Rattle.oat.specs.Syntax.{Literal, Expr, null, literal, name, arrayLiteral, defaultArray, arrayWith, index, lengthOf, structLiteral, field, call, unary, binary, Exprs, none, also, count, Inits, noInit, init, size}
-use Rattle.typing_rules.specs.Contexts.{Scope, binds, hit, miss, find, isFresh, Context, findName, inner}
+use Rattle.typing_rules.specs.Contexts.{Scope, binds, hit, miss, find, Context, findName, inner}
 use Rattle.typing_rules.specs.Operators.{isEquality, operandType, resultType, unaryType, literalType}
 use Rattle.typing_rules.specs.Labels.{Label, unlabelled}
 use Rattle.typing_rules.specs.Rules.{namesFit}

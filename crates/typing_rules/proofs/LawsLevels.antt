@@ -1,6 +1,6 @@
 -- Levels: which names the own block of a scope has bound, with one binding more and from an inner block. Assumes nothing.
 use mathlib.Core.Path.{_≡_, refl}
-use mathlib.Core.Bool.{true, false, _&&_}
+use mathlib.Core.Bool.{true, false}
 use Prim.Native.Nat.{ℕ, suc, _<_}
 use native.Mathlib.Omega.{arith}
 use lib.Dec.{eqb}
@@ -29,6 +29,6 @@ module _ (Γ : Scope ℕ) (d : Deepest Γ) where
   fresh-inner x = d (suc (Γ .level)) x (omega arith)
 
 -- what is bound is not fresh, and what else is fresh stays so
-pub fresh-binds : (Γ : Scope ℕ) (y t n x : ℕ) → isFresh x (binds Γ y t n) ≡ pick (eqb y x) false (isFresh x Γ)
+pub fresh-binds : {A : Type 0} (Γ : Scope A) (y : ℕ) (t : A) (n x : ℕ) → isFresh x (binds Γ y t n) ≡ pick (eqb y x) false (isFresh x Γ)
 unfolding isFreshAt
 fresh-binds Γ y t n x = rw (eq-eqb (Γ .level) (Γ .level) refl)

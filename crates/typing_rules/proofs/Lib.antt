@@ -5,6 +5,7 @@ pub mod Complete
 pub mod CompleteStmts
 pub mod Endless
 pub mod LawsAlike
+pub mod LawsBodies
 pub mod LawsBridge
 pub mod LawsComputed
 pub mod LawsExecute
@@ -20,10 +21,12 @@ pub mod LawsOutcome
 pub mod LawsPlaced
 pub mod LawsProgram
 pub mod LawsRows
+pub mod LawsRowsAt
 pub mod LawsRuns
 pub mod LawsSegments
 pub mod LawsSteps
 pub mod LawsSubtrees
+pub mod Nearest
 pub mod PanCases
 pub mod RowsTheorem
 pub mod Sound

@@ -16,14 +16,14 @@ use Rattle.oat.specs.Syntax.{Literal, truth, falsity, integer, text, Expr, null
 use Rattle.oat.specs.Nodes.{Stands, StandAll, InitsStand}
 use Rattle.oat.proofs.LawsBasics.{and-parts}
 use Rattle.oat.proofs.LawsTables.{HasKind, has-kind}
-use Rattle.typing_rules.specs.Contexts.{Scope, binds, Hit, hit, miss, find, isFresh, Context, findName, orElse, inner}
+use Rattle.typing_rules.specs.Contexts.{Scope, binds, Hit, hit, miss, find, Context, findName, orElse, inner}
 use Rattle.typing_rules.specs.Operators.{isEquality, operandType, resultType, unaryType, literalType}
 use Rattle.typing_rules.specs.Labels.{gives, Label, Labels, unlabelled}
 use Rattle.typing_rules.specs.Rules.{Typed, Has, TypedAll, typed-none, typed-also, TypedInits, typed-noInit, typed-init, namesFit, ExprRule, typ-null, typ-literal, typ-local, typ-global, typ-carr, typ-newarray, typ-newarrayinit, typ-index, typ-length, typ-structex, typ-field, typ-call, typ-bop, typ-eq, typ-uop}
 use Rattle.typing_rules.specs.Derivations.{At, AtAll, AtInits, Derives}
 use Rattle.typing_rules.specs.Judge.{ok, judge, judges, judgeInits, typedAs, plain, isKind, referred, isBelow, formed, hasDefault, eachBelow, argumentsBelow, number, fieldOf, initsBelow}
 use Rattle.typing_rules.proofs.Claims.{File, Value, ScopeFits, fits-bind, ContextFits, eraseScope, eraseContext, erase, Holds, eraseBindings}
-use Rattle.typing_rules.proofs.LawsBridge.{typesOf, Values, values-none, values-also, eraseHit, find-erase, fresh-erase, name-erase, find-value, name-value, is-base, is-void, is-struct, is-array, is-function, is-nullable, array-parts, function-parts, default-is, base-is, base-value, below-sub, formed-value, formed-null, each-below, arguments-below, inits-below, member-value, field-found}
+use Rattle.typing_rules.proofs.LawsBridge.{typesOf, Values, values-none, values-also, eraseHit, find-erase, name-erase, find-value, name-value, is-base, is-void, is-struct, is-array, is-function, is-nullable, array-parts, function-parts, default-is, base-is, base-value, below-sub, formed-value, formed-null, each-below, arguments-below, inits-below, member-value, field-found}
 use Rattle.typing_rules.proofs.LawsOutcome.{ok-is, then-ok, needs-ok, named-ok, field-ok, declared-ok}
 use Rattle.typing_rules.proofs.LawsHolds.{labels-split}
 use Rattle.typing_rules.proofs.LawsSubtrees.{Ruled, at-null, at-literal, at-name, at-arrayLiteral, at-defaultArray, at-arrayWith, at-index, at-lengthOf, at-structLiteral, at-field, at-call, at-unary, at-binary, at-none, at-also, at-noInit, at-init}
