@@ -193,11 +193,6 @@ module _ {F : List ℕ} {S : Sections} {X R W K : List ℕ} {base n s : ℕ} (g 
       (g .tree) (g .stands) (g .room)
 
   module _ {R₁ W₁ K₁ : List ℕ} {r₁ : Judged} (m₁ : Told F S X R W base (n + 1) s R₁ W₁ K₁ r₁) {u : ℕ} (y₁ : r₁ .judgement ≡ Typed u) where
-    first-fine : Fine F S X R₁ W₁ K₁ base s
-    first-fine =
-        on-filled (λ e. Fine F S X R₁ W₁ K₁ base s)
-        (λ t x a b h. typing-of _ (m₁ .tells a (h .2)) y₁ .2 .after .fine) kind (g .tree) (g .stands)
-
     -- for `filling`
     pub filled-filling : ReadyFilling F S X R₁ W₁ K₁ base n s (r₁ .at .node)
     filled-filling =

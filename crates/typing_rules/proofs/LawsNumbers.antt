@@ -53,7 +53,7 @@ module _ {Q : ℕ → Type 0} (p8 : Q 8) (p9 : Q 9) (p10 : Q 10) (p11 : Q 11) (p
   mutual
     unfolding judge
 
-    pub expr-in : (e : Expr) (n : ℕ) (Γ : Scope ℕ) → InRange Q (judge T C e n Γ)
+    expr-in : (e : Expr) (n : ℕ) (Γ : Scope ℕ) → InRange Q (judge T C e n Γ)
     expr-in (null t) n Γ = needs-in (formed T C t) n 9 p9 ok-in
     expr-in (literal l) n Γ = ok-in
     expr-in (name x) n Γ = named-in (orElse (find x Γ) (findName x (C .names))) n Γ p8
@@ -105,7 +105,7 @@ module _ {Q : ℕ → Type 0} (p8 : Q 8) (p9 : Q 9) (p10 : Q 10) (p11 : Q 11) (p
         needs-in (isEquality x || isKind T u (operandType x)) n 10 p10
         (needs-in (not (isEquality x) || (isBelow T C t u && isBelow T C u t)) n 11 p11 ok-in))
 
-    pub exprs-in : (es : Exprs) (n : ℕ) (Γ : Scope ℕ) → InRange Q (judges T C es n Γ)
+    exprs-in : (es : Exprs) (n : ℕ) (Γ : Scope ℕ) → InRange Q (judges T C es n Γ)
     exprs-in none n Γ = ok-in
     exprs-in (also a es) n Γ =
         then-in (expr-in a n Γ) λ t L.
@@ -119,7 +119,7 @@ module _ {Q : ℕ → Type 0} (p8 : Q 8) (p9 : Q 9) (p10 : Q 10) (p11 : Q 11) (p
         then-in (inits-in is (n + 1 + size a) Γ) λ ts M.
         ok-in
 
-  pub condition-in : (c : Condition) (m n : ℕ) (Γ : Scope ℕ) → InRange Q (judgeCondition T C c m n Γ)
+  condition-in : (c : Condition) (m n : ℕ) (Γ : Scope ℕ) → InRange Q (judgeCondition T C c m n Γ)
   unfolding judgeCondition
   condition-in noCondition m n Γ = ok-in
   condition-in (condition a) m n Γ =

@@ -1,7 +1,7 @@
--- Document 001, section 4, as document 01 reads it, with while as in document 02, (i): the typing rules, one constructor for each printed rule
--- and named after it (rules that differ in a table of operators or literals alone share one), premises in written order. A rule relates
--- the label of a node to those of its children; nothing is threaded. T has the file's types, C is the context, D labels the nodes. Assumes
--- nothing.
+-- Document 001, section 4, as document 01 reads it, with while as in document 02, (i), and blocks as in (vi): the typing rules, one
+-- constructor for each printed rule and named after it (rules that differ in a table of operators or literals alone share one), premises
+-- in written order. A rule relates the label of a node to those of its children; nothing is threaded. T has the file's types, C is the
+-- context, D labels the nodes. Assumes nothing.
 use mathlib.Core.Path.{_≡_}
 use mathlib.Core.Bool.{Bool, true, false, not, _&&_}
 use mathlib.Core.List.{List, [], _∷_}
