@@ -1,5 +1,5 @@
 -- A call of `check` (document 02, (vi)): a file that it accepts has no block that binds a name twice (`check-distinct`), and a refusal under 7 is at
--- a struct, a built-in, a declaration or a var, in a body only where one of its blocks binds a name twice (`check-seven`). Assumes nothing.
+-- a struct, a built-in, a declaration, or a var whose own block has bound the name before it (`check-seven`). Assumes nothing.
 use mathlib.Core.Path.{_≡_}
 use mathlib.Core.Bool.{true}
 use mathlib.Core.List.{List}

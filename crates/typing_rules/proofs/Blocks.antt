@@ -1,6 +1,6 @@
--- Blocks that bind no name twice (document 02, (vi)): an accepted program has no other (`distinct-accepted`). A refusal under 7 is where
--- `SevenAt` says: at a struct, a built-in, a declaration or a var, never at an index name, and in a body only where one of its blocks binds a
--- name twice (`seven-at`). Assumes nothing.
+-- Blocks that bind no name twice (document 02, (vi)): an accepted program has no other (`distinct-accepted`), and a refusal under 7 is where
+-- `SevenAt` says: at a struct, a built-in, a declaration, or a var whose own block has bound the name, never at an index name (`seven-at`).
+-- Assumes nothing.
 use mathlib.Core.Path.{_≡_, refl, ap, subst, _∙_}
 use mathlib.Core.Bool.{Bool, true, false, not, _&&_}
 use mathlib.Core.List.{List, [], _∷_, _++_}
@@ -16,11 +16,11 @@ use Rattle.oat.specs.Syntax.{Expr, count, targetExpr, Vars, noVar, nextVar, Stm
 use Rattle.oat.specs.ProgramFile.{Program}
 use Rattle.typing_rules.specs.Contexts.{Scope, empty as emptyScope, binds, inner, isMiss, isFreshAt, isFresh, Context, findName}
 use Rattle.typing_rules.specs.Labels.{Label, unlabelled}
-use Rattle.typing_rules.specs.Derivations.{Node, statement, isEmpty, AtVars, at-var, in-vars, InStmt, in-then, in-else, in-some, in-null, in-for-vars, in-for-step, in-for-body, in-while-body, AtStep, at-step, in-step, AtBlock, in-block, AtStmts, at-stmt, in-stmt, in-stmts}
+use Rattle.typing_rules.specs.Derivations.{isEmpty}
 use Rattle.typing_rules.specs.Judge.{Out, ok, no, andThen, needs, isKind, referred, formed, isBelow, argumentsBelow, assignsTo, executeVars, execute, executeStep, executeBlock, executeAll}
 use Rattle.typing_rules.specs.Steps.{Step as CheckStep, structName, builtIn, heading, globalValue, structFields, body, headings, globals, bodies, stepsOf, isAmong, distinctFields, distinctNames, parameters, emptyContext}
 use Rattle.typing_rules.specs.Check.{isMissing, fieldsFormed, runStep, stepRows, rowsBegin, Segment, Ran, accepted, refused, withSegment, onStep, run}
-use Rattle.typing_rules.specs.Blocks.{boundAfter, boundBy, distinctVars, distinctStmt, distinctStep, distinctBlock, distinctStmts, distinctBody, distinctDecls, SevenAt}
+use Rattle.typing_rules.specs.Blocks.{boundAfter, boundBy, distinctVars, distinctStmt, distinctStep, distinctBlock, distinctStmts, distinctBody, distinctDecls, AmongVars, this-var, later-var, Within, of-block, AmongStmts, this-stmt, below-stmt, later-stmt, AsStep, this-step, below-step, Below, of-then, of-else, of-some, of-null, of-for-vars, of-for-step, of-for-body, of-while, SevenAt}
 use Rattle.typing_rules.proofs.LawsLevels.{Deepest, deepest-empty, deepest-inner, deepest-binds, fresh-inner, fresh-binds}
 use Rattle.typing_rules.proofs.Theorem.{runOf}
 use Rattle.typing_rules.proofs.LawsNumbers.{InRange, ok-in, no-in, NotSeven, expr-not-seven, condition-not-seven, exprs-not-seven}
@@ -45,25 +45,25 @@ owns-binds {own} {Γ} h x t n = record {
   deepest = deepest-binds Γ (h .deepest) x t n;
 }
 
--- a var stands at q, by the relation R of places and nodes
-data VarAt (R : ℕ → Node → Type 0) (q : ℕ) : Type 0 where
-  var-at : {last : Bool} {x : ℕ} {a : Expr} → R q (statement last (var x a)) → VarAt R q
+-- a var stands at q whose own block has bound its name, by the relation R of places, statements and names
+data VarAt (R : ℕ → Stmt → List ℕ → Type 0) (q : ℕ) : Type 0 where
+  var-at : {x : ℕ} {a : Expr} {names : List ℕ} → R q (var x a) names → isAmong x names ≡ true → VarAt R q
 
-var-in : {R Q : ℕ → Node → Type 0} → ((m : ℕ) (u : Node) → R m u → Q m u) → (q : ℕ) → VarAt R q → VarAt Q q
-var-in f q (var-at r) = var-at (f q _ r)
+var-in : {R Q : ℕ → Stmt → List ℕ → Type 0} → ((m : ℕ) (s : Stmt) (names : List ℕ) → R m s names → Q m s names) → (q : ℕ) → VarAt R q → VarAt Q q
+var-in f q (var-at r e) = var-at (f q _ _ r) e
 
--- the statement s at n, or a node below it
-data OfStmt (last : Bool) (s : Stmt) (n : ℕ) : ℕ → Node → Type 0 where
-  itself : OfStmt last s n n (statement last s)
-  below : {m : ℕ} {u : Node} → InStmt s n m u → OfStmt last s n m u
+-- the statement s at n, or one below it
+data OfStmt (own : List ℕ) (s : Stmt) (n : ℕ) : ℕ → Stmt → List ℕ → Type 0 where
+  itself : OfStmt own s n n s own
+  below : {m : ℕ} {t : Stmt} {names : List ℕ} → Below s n m t names → OfStmt own s n m t names
 
-of-stmts : {s : Stmt} {ss : Stmts} {n m : ℕ} {u : Node} → OfStmt (isEmpty ss) s n m u → AtStmts (then s ss) n m u
-of-stmts itself = at-stmt
-of-stmts (below w) = in-stmt w
+of-stmts : {own names : List ℕ} {s t : Stmt} {ss : Stmts} {n m : ℕ} → OfStmt own s n m t names → AmongStmts own (then s ss) n m t names
+of-stmts itself = this-stmt
+of-stmts (below w) = below-stmt w
 
-of-step : {s : Stmt} {n m : ℕ} {u : Node} → OfStmt false s n m u → AtStep (step s) n m u
-of-step itself = at-step
-of-step (below w) = in-step w
+of-step : {own names : List ℕ} {s t : Stmt} {n m : ℕ} → OfStmt own s n m t names → AsStep own (step s) n m t names
+of-step itself = this-step
+of-step (below w) = below-step w
 
 -- an outcome against `distinct`, whether no block of a part binds a name twice. Where it is accepted P holds of its value, and none does;
 -- where it is refused under 7 one does, and Z holds of the place.
@@ -90,10 +90,10 @@ module _ {A : Type 0} {P : A → Type 0} {Z : ℕ → Type 0} {d : Bool} where
   after (twice v e) u f = twice (u _ v) (rw e refl)
   after (other h) u f = other h
 
-  -- a var's premise: the name is fresh, which is c
-  new : (b c : Bool) (q : ℕ) {o : Out A} → b ≡ c → Z q → Tells P Z d o → Tells P Z (c && d) (needs b 7 q o)
-  new true c q e z t = rw (← e) t
-  new false c q e z t = rw (← e) (twice z refl)
+  -- a var's premise: the own block has not bound the name, which is c
+  new : (b c : Bool) (q : ℕ) {o : Out A} → b ≡ not c → (c ≡ true → Z q) → Tells P Z d o → Tells P Z (not c && d) (needs b 7 q o)
+  new b true q e z t = rw e (twice (z refl) refl)
+  new b false q e z t = rw e t
 
   -- the last part
   all-of : {o : Out A} → Tells P Z (d && true) o → Tells P Z d o
@@ -107,20 +107,20 @@ abbrev Any : {A : Type 0} → A → Type 0
 Any a = Unit {0}
 
 module _ (T : Tables) (C : Context ℕ) where
-  vars-tell : {own : List ℕ} (vs : Vars) (n : ℕ) (Γ : Scope ℕ) → Owns own Γ → Tells (Owns (boundBy own vs)) (VarAt (AtVars vs n)) (distinctVars own vs) (executeVars T C vs n Γ)
+  vars-tell : {own : List ℕ} (vs : Vars) (n : ℕ) (Γ : Scope ℕ) → Owns own Γ → Tells (Owns (boundBy own vs)) (VarAt (AmongVars own vs n)) (distinctVars own vs) (executeVars T C vs n Γ)
   unfolding executeVars distinctVars boundBy
   vars-tell noVar n Γ h = fine h refl
   vars-tell {own} (nextVar x a vs) n Γ h =
       plainly (expr-not-seven T C a (n + 1) Γ) λ t L.
-      new (isFresh x Γ) (not (isAmong x own)) n (h .fresh x) (var-at at-var)
-      (all-of (after (vars-tell vs (n + 1 + size a) (binds Γ x t n) (owns-binds h x t n)) (var-in (λ m u w. in-vars w)) λ Δ M o. fine o refl))
+      new (isFresh x Γ) (isAmong x own) n (h .fresh x) (λ e. var-at this-var e)
+      (all-of (after (vars-tell vs (n + 1 + size a) (binds Γ x t n) (owns-binds h x t n)) (var-in (λ m u e w. later-var w)) λ Δ M o. fine o refl))
 
   module _ (rt : ℕ) where
     mutual
       unfolding execute distinctStmt
 
       stmt-tells : {own : List ℕ} (last : Bool) (s : Stmt) (n : ℕ) (Γ : Scope ℕ) → Owns own Γ
-          → Tells (λ d. Owns (boundAfter own s) (d .scope)) (VarAt (OfStmt last s n)) (distinctStmt own s) (execute T C rt last s n Γ)
+          → Tells (λ d. Owns (boundAfter own s) (d .scope)) (VarAt (OfStmt own s n)) (distinctStmt own s) (execute T C rt last s n Γ)
       stmt-tells last (assign g a) n Γ h =
           asks (assignsTo C Γ g) 15 n (λ i. omega arith)
           (plainly (expr-not-seven T C (targetExpr g) (n + 1) Γ) λ t L.
@@ -128,7 +128,7 @@ module _ (T : Tables) (C : Context ℕ) where
           asks (isBelow T C u t) 11 n (λ i. omega arith) (fine h refl))
       stmt-tells {own} last (var x a) n Γ h =
           plainly (expr-not-seven T C a (n + 1) Γ) λ t L.
-          all-of (new (isFresh x Γ) (not (isAmong x own)) n (h .fresh x) (var-at itself) (fine (owns-binds h x t n) refl))
+          all-of (new (isFresh x Γ) (isAmong x own) n (h .fresh x) (λ e. var-at itself e) (fine (owns-binds h x t n) refl))
       stmt-tells last (returnValue a) n Γ h =
           asks (not (isKind T rt 3)) 13 n (λ i. omega arith)
           (plainly (expr-not-seven T C a (n + 1) Γ) λ t L.
@@ -144,42 +144,42 @@ module _ (T : Tables) (C : Context ℕ) where
       stmt-tells last (ifElse a b c) n Γ h =
           plainly (expr-not-seven T C a (n + 1) Γ) λ t L.
           asks (isKind T t 1) 10 n (λ i. omega arith)
-          (after (block-tells b (n + 1 + size a) (inner Γ) (owns-inner h)) (var-in (λ m u w. below (in-then w))) λ p M i.
-          all-of (after (block-tells c (n + 1 + size a + sizeBlock b) (inner Γ) (owns-inner h)) (var-in (λ m u w. below (in-else w))) λ q N j.
+          (after (block-tells b (n + 1 + size a) (inner Γ) (owns-inner h)) (var-in (λ m u e w. below (of-then w))) λ p M i.
+          all-of (after (block-tells c (n + 1 + size a + sizeBlock b) (inner Γ) (owns-inner h)) (var-in (λ m u e w. below (of-else w))) λ q N j.
           fine h refl))
       stmt-tells last (ifNull x t a b c) n Γ h =
           plainly (expr-not-seven T C a (n + 1) Γ) λ u L.
           asks (isKind T u 7) 10 n (λ i. omega arith)
           (asks (isBelow T C (referred T u) t) 11 n (λ i. omega arith)
-          (after (block-tells b (n + 1 + size a) (inner (binds (inner Γ) x t n)) (owns-inner (owns-binds (owns-inner h) x t n))) (var-in (λ m u w. below (in-some w))) λ p M i.
-          all-of (after (block-tells c (n + 1 + size a + sizeBlock b) (inner Γ) (owns-inner h)) (var-in (λ m u w. below (in-null w))) λ q N j.
+          (after (block-tells b (n + 1 + size a) (inner (binds (inner Γ) x t n)) (owns-inner (owns-binds (owns-inner h) x t n))) (var-in (λ m u e w. below (of-some w))) λ p M i.
+          all-of (after (block-tells c (n + 1 + size a + sizeBlock b) (inner Γ) (owns-inner h)) (var-in (λ m u e w. below (of-null w))) λ q N j.
           fine h refl)))
       stmt-tells last (for vs c s b) n Γ h =
-          after (vars-tell vs (n + 1) (inner Γ) (owns-inner h)) (var-in (λ m u w. below (in-for-vars w))) λ Δ L o.
+          after (vars-tell vs (n + 1) (inner Γ) (owns-inner h)) (var-in (λ m u e w. below (of-for-vars w))) λ Δ L o.
           plainly (condition-not-seven T C c (n + 1 + sizeVars vs) n Δ) λ Δ₁ M.
-          after (step-tells s (n + 1 + sizeVars vs + sizeCondition c) Δ o) (var-in (λ m u w. below (in-for-step w))) λ p N i.
-          all-of (after (block-tells b (n + 1 + sizeVars vs + sizeCondition c + sizeStep s) (inner Δ) (owns-inner o)) (var-in (λ m u w. below (in-for-body w))) λ q O j.
+          after (step-tells s (n + 1 + sizeVars vs + sizeCondition c) Δ o) (var-in (λ m u e w. below (of-for-step w))) λ p N i.
+          all-of (after (block-tells b (n + 1 + sizeVars vs + sizeCondition c + sizeStep s) (inner Δ) (owns-inner o)) (var-in (λ m u e w. below (of-for-body w))) λ q O j.
           fine h refl)
       stmt-tells last (while a b) n Γ h =
           plainly (expr-not-seven T C a (n + 1) Γ) λ t L.
           asks (isKind T t 1) 10 n (λ i. omega arith)
-          (all-of (after (block-tells b (n + 1 + size a) (inner Γ) (owns-inner h)) (var-in (λ m u w. below (in-while-body w))) λ p M i. fine h refl))
+          (all-of (after (block-tells b (n + 1 + size a) (inner Γ) (owns-inner h)) (var-in (λ m u e w. below (of-while w))) λ p M i. fine h refl))
 
-      step-tells : {own : List ℕ} (s : Step) (n : ℕ) (Γ : Scope ℕ) → Owns own Γ → Tells Any (VarAt (AtStep s n)) (distinctStep own s) (executeStep T C rt s n Γ)
+      step-tells : {own : List ℕ} (s : Step) (n : ℕ) (Γ : Scope ℕ) → Owns own Γ → Tells Any (VarAt (AsStep own s n)) (distinctStep own s) (executeStep T C rt s n Γ)
       step-tells noStep n Γ h = fine tt refl
       step-tells (step s) n Γ h =
-          all-of (after (stmt-tells false s n Γ h) (var-in (λ m u w. of-step w)) λ d L o. asks (eqb (d .mark) 0) 14 n (λ i. omega arith) (fine tt refl))
+          all-of (after (stmt-tells false s n Γ h) (var-in (λ m u e w. of-step w)) λ d L o. asks (eqb (d .mark) 0) 14 n (λ i. omega arith) (fine tt refl))
 
-      block-tells : {own : List ℕ} (b : Block) (n : ℕ) (Γ : Scope ℕ) → Owns own Γ → Tells Any (VarAt (AtBlock b n)) (distinctBlock own b) (executeBlock T C rt b n Γ)
-      block-tells (block ss) n Γ h = all-of (after (all-tell ss (n + 1) n 0 Γ h) (var-in (λ m u w. in-block w)) λ p L i. fine tt refl)
+      block-tells : {own : List ℕ} (b : Block) (n : ℕ) (Γ : Scope ℕ) → Owns own Γ → Tells Any (VarAt (Within own b n)) (distinctBlock own b) (executeBlock T C rt b n Γ)
+      block-tells (block ss) n Γ h = all-of (after (all-tell ss (n + 1) n 0 Γ h) (var-in (λ m u e w. of-block w)) λ p L i. fine tt refl)
 
       all-tell : {own : List ℕ} (ss : Stmts) (n previous p : ℕ) (Γ : Scope ℕ) → Owns own Γ
-          → Tells Any (VarAt (AtStmts ss n)) (distinctStmts own ss) (executeAll T C rt ss n previous p Γ)
+          → Tells Any (VarAt (AmongStmts own ss n)) (distinctStmts own ss) (executeAll T C rt ss n previous p Γ)
       all-tell empty n previous p Γ h = fine tt refl
       all-tell (then s ss) n previous p Γ h =
           asks (eqb p 0) 14 previous (λ i. omega arith)
-          (after (stmt-tells (isEmpty ss) s n Γ h) (var-in (λ m u w. of-stmts w)) λ d L o.
-          all-of (after (all-tell ss (n + sizeStmt s) n (d .mark) (d .scope) o) (var-in (λ m u w. in-stmts w)) λ q M i. fine tt refl))
+          (after (stmt-tells (isEmpty ss) s n Γ h) (var-in (λ m u e w. of-stmts w)) λ d L o.
+          all-of (after (all-tell ss (n + sizeStmt s) n (d .mark) (d .scope) o) (var-in (λ m u e w. later-stmt w)) λ q M i. fine tt refl))
 
 -- the scope of the parameters: they belong to the body's block
 own-parameters : (T : Tables) (ps : List ℕ) (Γ : Scope ℕ) (first m x : ℕ) → isFresh x (parameters (λ a. a) T Γ first m ps) ≡ pick (isAmong x ps) false (isFresh x Γ)
@@ -259,11 +259,11 @@ step-told T C (body n t ps b) =
     go (distinctNames ps) refl
     (block-tells T C (referred T t) b (n + 1 + length ps) (parameters (λ a. a) T emptyScope (typeAt T t .b) (n + 1) ps) (owns-parameters T ps (typeAt T t .b) (n + 1)))
   where
-    go : (d : Bool) → distinctNames ps ≡ d → {o : Out ℕ} → Tells Any (VarAt (AtBlock b (n + 1 + length ps))) (distinctBlock ps b) o
+    go : (d : Bool) → distinctNames ps ≡ d → {o : Out ℕ} → Tells Any (VarAt (Within ps b (n + 1 + length ps))) (distinctBlock ps b) o
         → StepTells (body n t ps b) (needs d 7 n (andThen o λ p L. needs (eqb p 1) 14 n (ok C (replicate (1 + length ps) unlabelled ++ L))))
-    go false e h = step-seven (inl refl, rw e refl)
+    go false e h = step-seven (inl (refl, e))
     go true e (fine {a} i f) = step-asks (eqb a 1) 14 n (λ z. omega arith) (step-fine (rw (e, f) refl))
-    go true e (twice (var-at {last = l} {x = x} {a = a} w) f) = step-seven (inr (record { last = l; name = x; value = a; stands = w }), rw (e, f) refl)
+    go true e (twice (var-at {x = x} {a = a} {names = names} w i) f) = step-seven (inr (record { name = x; value = a; names = names; stands = w; bound = i }))
     go true e (other h) = step-other h
 
 -- a run: all its steps are accepted, or the one that is refused is where `SevenAt` says

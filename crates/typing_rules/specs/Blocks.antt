@@ -6,8 +6,7 @@ use mathlib.Core.List.{List, [], _∷_}
 use mathlib.Core.Logic.{_⊎_}
 use Prim.Native.Nat.{ℕ, _+_}
 use lib.ListN.{length}
-use Rattle.oat.specs.Syntax.{Expr, Vars, noVar, nextVar, Stmt, assign, var, returnValue, returnVoid, callStmt, ifElse, ifNull, for, while, Step, noStep, step, Block, block, Stmts, empty, then, Decl, global, function}
-use Rattle.typing_rules.specs.Derivations.{statement, AtBlock}
+use Rattle.oat.specs.Syntax.{Expr, Vars, noVar, nextVar, Condition, Stmt, assign, var, returnValue, returnVoid, callStmt, ifElse, ifNull, for, while, Step, noStep, step, Block, block, Stmts, empty, then, Decl, global, function, size, sizeVars, sizeCondition, sizeStep, sizeBlock, sizeStmt}
 use Rattle.typing_rules.specs.Steps.{Step as CheckStep, structName, builtIn, heading, globalValue, structFields, body, isAmong, distinctNames}
 
 -- the names that a block has bound after one of its statements, and after the vars of a for
@@ -64,19 +63,49 @@ distinctDecls [] = true
 distinctDecls (global x a ∷ ds) = distinctDecls ds
 distinctDecls (function x t ps b ∷ ds) = distinctBody ps b && distinctDecls ds
 
--- in the block b that stands at n, a var stands at q
-pub record VarIn (b : Block) (n q : ℕ) : Type 0 where
-  pub last : Bool
+-- at m the statement s stands, in a block that has bound the names `names` before it: among the vars of a for from n on
+pub data AmongVars : (own : List ℕ) → Vars → (n m : ℕ) → (s : Stmt) → (names : List ℕ) → Type 0 where
+  this-var : {own : List ℕ} {x : ℕ} {a : Expr} {vs : Vars} {n : ℕ} → AmongVars own (nextVar x a vs) n n (var x a) own
+  later-var : {own names : List ℕ} {x : ℕ} {a : Expr} {vs : Vars} {n m : ℕ} {s : Stmt} → AmongVars (x ∷ own) vs (n + 1 + size a) m s names → AmongVars own (nextVar x a vs) n m s names
+
+mutual
+  -- in a block or below it, among statements from n on or below one of them, as a for's step or below it, and below a statement
+  pub data Within : (own : List ℕ) → Block → (n m : ℕ) → (s : Stmt) → (names : List ℕ) → Type 0 where
+    of-block : {own names : List ℕ} {ss : Stmts} {n m : ℕ} {s : Stmt} → AmongStmts own ss (n + 1) m s names → Within own (block ss) n m s names
+
+  pub data AmongStmts : (own : List ℕ) → Stmts → (n m : ℕ) → (s : Stmt) → (names : List ℕ) → Type 0 where
+    this-stmt : {own : List ℕ} {s : Stmt} {ss : Stmts} {n : ℕ} → AmongStmts own (then s ss) n n s own
+    below-stmt : {own names : List ℕ} {t s : Stmt} {ss : Stmts} {n m : ℕ} → Below t n m s names → AmongStmts own (then t ss) n m s names
+    later-stmt : {own names : List ℕ} {t s : Stmt} {ss : Stmts} {n m : ℕ} → AmongStmts (boundAfter own t) ss (n + sizeStmt t) m s names → AmongStmts own (then t ss) n m s names
+
+  pub data AsStep : (own : List ℕ) → Step → (n m : ℕ) → (s : Stmt) → (names : List ℕ) → Type 0 where
+    this-step : {own : List ℕ} {s : Stmt} {n : ℕ} → AsStep own (step s) n n s own
+    below-step : {own names : List ℕ} {t s : Stmt} {n m : ℕ} → Below t n m s names → AsStep own (step t) n m s names
+
+  pub data Below : Stmt → (n m : ℕ) → (s : Stmt) → (names : List ℕ) → Type 0 where
+    of-then : {names : List ℕ} {a : Expr} {b c : Block} {n m : ℕ} {s : Stmt} → Within [] b (n + 1 + size a) m s names → Below (ifElse a b c) n m s names
+    of-else : {names : List ℕ} {a : Expr} {b c : Block} {n m : ℕ} {s : Stmt} → Within [] c (n + 1 + size a + sizeBlock b) m s names → Below (ifElse a b c) n m s names
+    of-some : {names : List ℕ} {x t : ℕ} {a : Expr} {b c : Block} {n m : ℕ} {s : Stmt} → Within [] b (n + 1 + size a) m s names → Below (ifNull x t a b c) n m s names
+    of-null : {names : List ℕ} {x t : ℕ} {a : Expr} {b c : Block} {n m : ℕ} {s : Stmt} → Within [] c (n + 1 + size a + sizeBlock b) m s names → Below (ifNull x t a b c) n m s names
+    of-for-vars : {names : List ℕ} {vs : Vars} {c : Condition} {z : Step} {b : Block} {n m : ℕ} {s : Stmt} → AmongVars [] vs (n + 1) m s names → Below (for vs c z b) n m s names
+    of-for-step : {names : List ℕ} {vs : Vars} {c : Condition} {z : Step} {b : Block} {n m : ℕ} {s : Stmt} → AsStep (boundBy [] vs) z (n + 1 + sizeVars vs + sizeCondition c) m s names → Below (for vs c z b) n m s names
+    of-for-body : {names : List ℕ} {vs : Vars} {c : Condition} {z : Step} {b : Block} {n m : ℕ} {s : Stmt} → Within [] b (n + 1 + sizeVars vs + sizeCondition c + sizeStep z) m s names → Below (for vs c z b) n m s names
+    of-while : {names : List ℕ} {a : Expr} {b : Block} {n m : ℕ} {s : Stmt} → Within [] b (n + 1 + size a) m s names → Below (while a b) n m s names
+
+-- in a body whose block b stands at n, a var stands at q whose own block has bound its name before it
+pub record BoundBefore (ps : List ℕ) (b : Block) (n q : ℕ) : Type 0 where
   pub name : ℕ
   pub value : Expr
-  pub stands : AtBlock b n q (statement last (var name value))
+  pub names : List ℕ
+  pub stands : Within ps b n q (var name value) names
+  pub bound : isAmong name names ≡ true
 
--- where a refusal of a step under 7 may be: at its struct, built-in or declaration or, in a body, at a var; a body so refused has a block that
--- binds a name twice
+-- where a refusal of a step under 7 may be: at its struct, its built-in or its declaration, in a body where two parameters have one name, or at
+-- a var whose own block has bound the name before it
 unfoldable pub SevenAt : CheckStep → ℕ → Type 0
 SevenAt (structName i) q = q ≡ i
 SevenAt (builtIn i) q = q ≡ i
 SevenAt (heading n x t) q = q ≡ n
 SevenAt (globalValue n x a) q = q ≡ n
 SevenAt (structFields i) q = q ≡ i
-SevenAt (body n t ps b) q = ((q ≡ n) ⊎ VarIn b (n + 1 + length ps) q) × (distinctBody ps b ≡ false)
+SevenAt (body n t ps b) q = ((q ≡ n) × (distinctNames ps ≡ false)) ⊎ BoundBefore ps b (n + 1 + length ps) q
