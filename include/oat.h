@@ -5,8 +5,8 @@
    time as long as no buffer is lent to two of them. A pointer points to as many elements as the length after it says; with the length 0
    it may be any pointer, but not a null pointer. The parts of memory that are lent to one call do not overlap.
 
-   All else that a call uses is on the stack: local arrays of at most 16,428 bytes together, and the frames of nested calls, whose
-   number no file raises past a bound. The most measured is 92,048 bytes on the stored files and 168,128 on a file made to need much,
+   All else that a call uses is on the stack: local arrays of at most 14,380 bytes together, and the frames of nested calls, whose
+   number no file raises past a bound. The most measured is 84,280 bytes on the stored files and 160,384 on a file made to need much,
    so a thread that calls should have 256 KiB of stack left. No theorem bounds the stack in bytes (docs/BENCHMARKS.md); a call with too
    little fails as any function of C does. */
 #ifndef OAT_H
@@ -47,7 +47,7 @@ enum oat_number {
     OAT_RECORDS = 4,           /* fields, structs or built-ins broken */
     OAT_TREE = 5,              /* node tree broken */
     OAT_SHORT = 6,             /* rows or work short */
-    OAT_BOUND_TWICE = 7,       /* name bound twice */
+    OAT_BOUND_TWICE = 7,       /* name bound twice; a local, in one block */
     OAT_UNKNOWN = 8,           /* name or field unknown */
     OAT_UNDECLARED = 9,        /* undeclared struct in a type */
     OAT_SORT = 10,             /* wrong sort of type */
