@@ -7,7 +7,7 @@ use lib.Dec.{eqb}
 use Rattle.oat.specs.Basics.{pick}
 use Rattle.oat.specs.Types.{Struct}
 
--- a binding: its name, its type, its binder, the node that binds it, and the level of the block that it belongs to
+-- a binding: its name, its type, its binder, which is the node that binds it, and the level of the block that it belongs to
 pub record Binding (A : Type 0) : Type 0 where
   pub name : ℕ
   pub type : A
@@ -19,7 +19,7 @@ pub data Bindings (A : Type 0) : Type 0 where
   unbound : Bindings A
   bind : Bindings A → Binding A → Bindings A
 
--- a scope: the level of the block that it belongs to, and the local bindings of this block and of those around it
+-- a scope: its block level, that of the block that it belongs to, and the local bindings of this block and of those around it
 pub record Scope (A : Type 0) : Type 0 where
   pub level : ℕ
   pub bindings : Bindings A

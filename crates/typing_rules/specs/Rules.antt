@@ -100,6 +100,7 @@ pub data ExprRule (T : Tables) (C : Context Ty) (D : Labels Ty) (n : ℕ) : Expr
   typ-global : {x : ℕ} (t : Ty) (b : ℕ) → find x (D n .before) ≡ miss → findName x (C .names) ≡ hit t b → Has D n t b → ExprRule T C D n (name x)
   typ-carr : {t : ℕ} {es : Exprs} (u : Ty) (ts : Tys) → typeOf T t ≡ array u → Formed (C .structs) u → TypedAll D (D n .before) (n + 1) es ts → SubEach (C .structs) u ts → Has D n (array u) 65535 → ExprRule T C D n (arrayLiteral t es)
   typ-newarray : {t : ℕ} {a : Expr} (u : Ty) → typeOf T t ≡ array u → Formed (C .structs) u → Typed D (n + 1) (D n .before) int → HasDefault u → Has D n (array u) 65535 → ExprRule T C D n (defaultArray t a)
+  -- the index name forms a block, with the value in it; nothing is asked of it
   typ-newarrayinit : {t x : ℕ} {a b : Expr} (u v : Ty) → typeOf T t ≡ array u → Formed (C .structs) u → Typed D (n + 1) (D n .before) int → Typed D (n + 1 + size a) (binds (inner (D n .before)) x int n) v → Sub (C .structs) v u → Has D n (array u) 65535 → ExprRule T C D n (arrayWith t x a b)
   typ-index : {a b : Expr} (t : Ty) → Typed D (n + 1) (D n .before) (array t) → Typed D (n + 1 + size a) (D n .before) int → Has D n t 65535 → ExprRule T C D n (index a b)
   typ-length : {a : Expr} (t : Ty) → Typed D (n + 1) (D n .before) (array t) → Has D n int 65535 → ExprRule T C D n (lengthOf a)
@@ -175,6 +176,8 @@ pub data StmtRule (T : Tables) (C : Context Ty) (D : Labels Ty) (rt : Ty) (last 
   typ-rett : {a : Expr} (t : Ty) → (rt ≡ void → ⊥) → Typed D (n + 1) (D n .before) t → Sub (C .structs) t rt → Ends D n 1 (D n .before) → StmtRule T C D rt last n (returnValue a)
   typ-retvoid : rt ≡ void → Ends D n 1 (D n .before) → StmtRule T C D rt last n returnVoid
   typ-scall : {a : Expr} {es : Exprs} (us ts : Tys) → Typed D (n + 1) (D n .before) (function us void) → TypedAll D (D n .before) (n + 1 + size a) es ts → SubAll (C .structs) ts us → Ends D n 0 (D n .before) → StmtRule T C D rt last n (callStmt a es)
+  -- the blocks of if, if?, while and for are inner blocks; the name of an if? forms one around its first block, and a for's variables and step
+  -- form one around the for's block, with the condition in it
   typ-if : {a : Expr} {b c : Block} (p q : ℕ) → Typed D (n + 1) (D n .before) bool → Marked D (n + 1 + size a) (inner (D n .before)) p → Marked D (n + 1 + size a + sizeBlock b) (inner (D n .before)) q → Ends D n (both p q) (D n .before) → StmtRule T C D rt last n (ifElse a b c)
   typ-ifq : {x t : ℕ} {a : Expr} {b c : Block} (r : Ty) (p q : ℕ) → Typed D (n + 1) (D n .before) (nullable r) → Sub (C .structs) r (typeOf T t) → Marked D (n + 1 + size a) (inner (binds (inner (D n .before)) x (typeOf T t) n)) p → Marked D (n + 1 + size a + sizeBlock b) (inner (D n .before)) q → Ends D n (both p q) (D n .before) → StmtRule T C D rt last n (ifNull x t a b c)
   typ-while : {a : Expr} {b : Block} (p : ℕ) → Typed D (n + 1) (D n .before) bool → Marked D (n + 1 + size a) (inner (D n .before)) p → Ends D n (whileMark last a) (D n .before) → StmtRule T C D rt last n (while a b)

@@ -90,6 +90,7 @@ pub data StepRule (T : Tables) (C : Context Ty) (D : Labels Ty) : Step → Type 
   typ-ftyp : {n x t : ℕ} → Formed (C .structs) (typeOf T t) → findName x (C .names) ≡ miss → StepRule T C D (heading n x t)
   typ-ggdecl : {n x : ℕ} {a : Expr} → D n ≡ unlabelled → D (n + 1) .before ≡ empty → Derives T C D a (n + 1) → findName x (C .names) ≡ miss → StepRule T C D (globalValue n x a)
   typ-tdeclok : {i : ℕ} → FieldsFormed (C .structs) (structOf T i .fields) → distinctFields (structOf T i .fields) ≡ true → StepRule T C D (structFields i)
+  -- the parameters and the body's block are one block
   typ-fdeclok : {n t : ℕ} {ps : List ℕ} {b : Block} → distinctNames ps ≡ true → Unlabelled D n (1 + length ps) → D (n + 1 + length ps) .before ≡ parameters (typeOf T) T empty (typeAt T t .b) (n + 1) ps → DerivesBlock T C D (typeOf T (typeAt T t .a)) b (n + 1 + length ps) → D (n + 1 + length ps) .result ≡ marks 1 → StepRule T C D (body n t ps b)
 
 -- the type that a label gives; a global's type is its initializer's
