@@ -1,6 +1,7 @@
 pub mod Basics
 pub mod Decide
 pub mod Nodes
+pub mod Pairs
 pub mod ProgramFile
 pub mod Subtyping
 pub mod Syntax
