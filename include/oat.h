@@ -5,8 +5,8 @@
    time as long as no buffer is lent to two of them. A pointer points to as many elements as the length after it says; with the length 0
    it may be any pointer, but not a null pointer. The parts of memory that are lent to one call do not overlap.
 
-   All else that a call uses is on the stack: local arrays of at most 14,380 bytes together, and the frames of nested calls, whose
-   number no file raises past a bound. The most measured is 84,280 bytes on the stored files and 160,384 on a file made to need much,
+   All else that a call uses is on the stack: local arrays of at most 15,404 bytes together, and the frames of nested calls, whose
+   number no file raises past a bound. The most measured is 93,296 bytes on the stored files and 178,912 on a file made to need much,
    so a thread that calls should have 256 KiB of stack left. No theorem bounds the stack in bytes (docs/BENCHMARKS.md); a call with too
    little fails as any function of C does. */
 #ifndef OAT_H
@@ -65,10 +65,13 @@ enum oat_number {
 uint16_t oat_read(const uint8_t *file, size_t length, size_t parts, size_t depth);
 
 /* Whether the type a of the file is below its type b. Answers 0, with 1 for yes or 0 for no in *yes; or 25, or 1 to 5, or 17 where a or b is not the
-   number of a type, and *yes stays as it was. `yes` is not null. */
-uint16_t oat_subtype(const uint8_t *file, size_t length, size_t parts, size_t depth, size_t a, size_t b, uint8_t *yes);
+   number of a type, and *yes stays as it was. *pairs gets how many pairs of types were compared, at most 399, and 0 where the question is
+   refused. Neither `yes` nor `pairs` is null. */
+uint16_t oat_subtype(const uint8_t *file, size_t length, size_t parts, size_t depth, size_t a, size_t b, uint8_t *yes, uint16_t *pairs);
 
-/* Checks a program file. Answers its number, and puts the answer's step and place into *step and *place (neither is null).
+/* Checks a program file. Answers its number, and puts the answer's step and place into *step and *place. *pairs gets how many pairs of types its
+   subtype questions compared together, up to and including the broken premise, at most 1,200 for each node; it is 0 under 25 and 1 to 6.
+   None of the three is null.
 
      number     *step, *place                       rows                                   work
      0          how many steps there are, 0         result and binder of each node         see below
@@ -80,7 +83,7 @@ uint16_t oat_subtype(const uint8_t *file, size_t length, size_t parts, size_t de
    contents in as many of its first numbers. What lies past them stays in both. Both may hold anything before the call. 6 is answered where `rows` or
    `work` has fewer than two numbers for each node of a readable file. */
 uint16_t oat_check(const uint8_t *file, size_t length, size_t parts, size_t depth, uint16_t *rows, size_t rows_length, uint16_t *work,
-                   size_t work_length, uint16_t *step, uint16_t *place);
+                   size_t work_length, uint16_t *step, uint16_t *place, uint32_t *pairs);
 
 #ifdef __cplusplus
 }

@@ -1,5 +1,5 @@
-/* check FILE A B [PARTS DEPTH]: checks a program file, prints the answer and, where it is accepted, each node's number and row, and asks whether the
-   file's type A is below its type B. PARTS and DEPTH are the limits, 200 and 100 where they are left out.
+/* check FILE A B [PARTS DEPTH]: checks a program file, prints the answer and, where it is accepted, each node's number and row, then how many pairs of
+   types were compared, and asks whether the file's type A is below its type B. PARTS and DEPTH are the limits, 200 and 100 where they are left out.
 
        rt staticlib oat_c
        cc -I include examples/c/check.c -L target/staticlib -l:liboat_c.a -o check
@@ -34,17 +34,20 @@ int main(int argc, char **argv) {
     size_t parts = argc == 6 ? strtoul(argv[4], NULL, 10) : OAT_MOST_PARTS;
     size_t depth = argc == 6 ? strtoul(argv[5], NULL, 10) : OAT_MOST_DEPTH;
     uint16_t step, place;
-    uint16_t number = oat_check(file, length, parts, depth, rows, OAT_MOST_NUMBERS, work, OAT_MOST_NUMBERS, &step, &place);
+    uint32_t sum;
+    uint16_t number = oat_check(file, length, parts, depth, rows, OAT_MOST_NUMBERS, work, OAT_MOST_NUMBERS, &step, &place, &sum);
     printf("%d %d %d\n", number, step, place);
     size_t nodes = number == OAT_ACCEPTED ? node_count() : 0;
     for (size_t i = 0; i < nodes; i++)
         printf("%zu %d %d\n", i, rows[2 * i], rows[2 * i + 1]);
+    printf("pairs %lu\n", (unsigned long)sum);
 
     uint8_t yes = 0;
-    uint16_t refused = oat_subtype(file, length, parts, depth, strtoul(argv[2], NULL, 10), strtoul(argv[3], NULL, 10), &yes);
+    uint16_t pairs;
+    uint16_t refused = oat_subtype(file, length, parts, depth, strtoul(argv[2], NULL, 10), strtoul(argv[3], NULL, 10), &yes, &pairs);
     if (refused != 0)
-        printf("type %s below type %s: refused under %d\n", argv[2], argv[3], refused);
+        printf("type %s below type %s: refused under %d, pairs %d\n", argv[2], argv[3], refused, pairs);
     else
-        printf("type %s below type %s: %s\n", argv[2], argv[3], yes ? "yes" : "no");
+        printf("type %s below type %s: %s, pairs %d\n", argv[2], argv[3], yes ? "yes" : "no", pairs);
     return 0;
 }

@@ -1,5 +1,6 @@
-//! check FILE A B [PARTS DEPTH]: checks a program file, prints the answer and, where it is accepted, each node's number and row, and asks
-//! whether the file's type A is below its type B. PARTS and DEPTH are the limits, 200 and 100 where they are left out.
+//! check FILE A B [PARTS DEPTH]: checks a program file, prints the answer and, where it is accepted, each node's number and row, then how many
+//! pairs of types were compared, and asks whether the file's type A is below its type B. PARTS and DEPTH are the limits, 200 and 100 where they
+//! are left out.
 //!
 //!     rt staticlib oat_c
 //!     rustc --edition 2021 examples/rust/check.rs -L target/staticlib -l static=oat_c -o check
@@ -29,6 +30,7 @@ mod oat {
             work_length: usize,
             step: *mut u16,
             place: *mut u16,
+            pairs: *mut u32,
         ) -> u16;
         fn oat_subtype(
             file: *const u8,
@@ -38,12 +40,13 @@ mod oat {
             a: usize,
             b: usize,
             yes: *mut u8,
+            pairs: *mut u16,
         ) -> u16;
     }
 
-    /// The number, the step and the place.
-    pub fn check(file: &[u8], limits: Limits, rows: &mut [u16], work: &mut [u16]) -> [u16; 3] {
-        let (mut step, mut place) = (0, 0);
+    /// The number, the step and the place, and how many pairs of types were compared.
+    pub fn check(file: &[u8], limits: Limits, rows: &mut [u16], work: &mut [u16]) -> ([u16; 3], u32) {
+        let (mut step, mut place, mut pairs) = (0, 0, 0);
         // The pointers and lengths are those of slices, which do not overlap.
         let number = unsafe {
             oat_check(
@@ -57,17 +60,18 @@ mod oat {
                 work.len(),
                 &mut step,
                 &mut place,
+                &mut pairs,
             )
         };
-        [number, step, place]
+        ([number, step, place], pairs)
     }
 
-    /// Whether the type a is below the type b, or the refusing number.
-    pub fn subtype(file: &[u8], limits: Limits, a: usize, b: usize) -> Result<bool, u16> {
-        let mut yes = 0;
-        match unsafe { oat_subtype(file.as_ptr(), file.len(), limits.parts, limits.depth, a, b, &mut yes) } {
-            0 => Ok(yes == 1),
-            number => Err(number),
+    /// Whether the type a is below the type b, or the refusing number; and how many pairs of types were compared.
+    pub fn subtype(file: &[u8], limits: Limits, a: usize, b: usize) -> (Result<bool, u16>, u16) {
+        let (mut yes, mut pairs) = (0, 0);
+        match unsafe { oat_subtype(file.as_ptr(), file.len(), limits.parts, limits.depth, a, b, &mut yes, &mut pairs) } {
+            0 => (Ok(yes == 1), pairs),
+            number => (Err(number), pairs),
         }
     }
 }
@@ -101,15 +105,16 @@ fn main() {
     };
 
     let (mut rows, mut work) = ([0; 8192], [0; 8192]);
-    let [number, step, place] = oat::check(&file, limits, &mut rows, &mut work);
+    let ([number, step, place], sum) = oat::check(&file, limits, &mut rows, &mut work);
     println!("{number} {step} {place}");
     if number == 0 {
         for (node, row) in rows.chunks(2).take(node_count(&file)).enumerate() {
             println!("{node} {} {}", row[0], row[1]);
         }
     }
+    println!("pairs {sum}");
     match oat::subtype(&file, limits, a, b) {
-        Ok(yes) => println!("type {a} below type {b}: {}", if yes { "yes" } else { "no" }),
-        Err(number) => println!("type {a} below type {b}: refused under {number}"),
+        (Ok(yes), pairs) => println!("type {a} below type {b}: {}, pairs {pairs}", if yes { "yes" } else { "no" }),
+        (Err(number), pairs) => println!("type {a} below type {b}: refused under {number}, pairs {pairs}"),
     }
 }

@@ -8,7 +8,7 @@
 #include <time.h>
 
 uint16_t oat_read(const uint8_t *file, size_t length, size_t parts, size_t depth);
-uint16_t oat_subtype(const uint8_t *file, size_t length, size_t parts, size_t depth, size_t a, size_t b, uint8_t *yes);
+uint16_t oat_subtype(const uint8_t *file, size_t length, size_t parts, size_t depth, size_t a, size_t b, uint8_t *yes, uint16_t *pairs);
 
 static uint8_t file[65536];
 static size_t length;
@@ -33,14 +33,15 @@ int main(int argc, char **argv) {
     double best = 1e9;
     unsigned answer = 0;
     uint8_t yes = 0;
+    uint16_t pairs = 0;
     for (int run = 0; run < 200; run++) {
         double from = seconds();
         for (int call = 0; call < 20; call++)
-            answer = asks ? oat_subtype(file, length, 200, 100, a, b, &yes) : oat_read(file, length, 200, 100);
+            answer = asks ? oat_subtype(file, length, 200, 100, a, b, &yes, &pairs) : oat_read(file, length, 200, 100);
         double took = (seconds() - from) / 20;
         if (took < best)
             best = took;
     }
-    printf("%s, %zu bytes: answer %u, yes %u, %.0f ns a call\n", argv[1], length, answer, yes, best * 1e9);
+    printf("%s, %zu bytes: answer %u, yes %u, pairs %u, %.0f ns a call\n", argv[1], length, answer, yes, pairs, best * 1e9);
     return 0;
 }

@@ -8,16 +8,16 @@ use std::time::Instant;
 
 extern "C" {
     fn oat_read(file: *const u8, length: usize, parts: usize, depth: usize) -> u16;
-    fn oat_check(file: *const u8, length: usize, parts: usize, depth: usize, rows: *mut u16, rows_length: usize, work: *mut u16, work_length: usize, step: &mut u16, place: &mut u16) -> u16;
+    fn oat_check(file: *const u8, length: usize, parts: usize, depth: usize, rows: *mut u16, rows_length: usize, work: *mut u16, work_length: usize, step: &mut u16, place: &mut u16, pairs: &mut u32) -> u16;
 }
 
 const NUMBERS: usize = 8192;
 const WIDEST: oat_peer::Limits = oat_peer::Limits::WIDEST;
 
 fn proved(file: &[u8], rows: &mut [u16], work: &mut [u16]) -> u16 {
-    let (mut step, mut place) = (0, 0);
+    let (mut step, mut place, mut pairs) = (0, 0, 0);
     // SAFETY: every pointer points to as many elements as its length says, and none overlap
-    unsafe { oat_check(file.as_ptr(), file.len(), WIDEST.parts, WIDEST.depth, rows.as_mut_ptr(), rows.len(), work.as_mut_ptr(), work.len(), &mut step, &mut place) }
+    unsafe { oat_check(file.as_ptr(), file.len(), WIDEST.parts, WIDEST.depth, rows.as_mut_ptr(), rows.len(), work.as_mut_ptr(), work.len(), &mut step, &mut place, &mut pairs) }
 }
 
 fn proved_read(file: &[u8]) -> u16 {

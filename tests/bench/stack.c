@@ -18,7 +18,8 @@ static void *nothing(void *unused) {
 
 static void *check(void *unused) {
     uint16_t step, place;
-    oat_check(file, length, OAT_MOST_PARTS, OAT_MOST_DEPTH, rows, OAT_MOST_NUMBERS, work, OAT_MOST_NUMBERS, &step, &place);
+    uint32_t pairs;
+    oat_check(file, length, OAT_MOST_PARTS, OAT_MOST_DEPTH, rows, OAT_MOST_NUMBERS, work, OAT_MOST_NUMBERS, &step, &place, &pairs);
     return unused;
 }
 

@@ -12,7 +12,8 @@ With --limits each file is asked under four settings of document 02's limits, re
 Besides, request (xi)'s claim is tested on the program's own answers: for every two settings of one file, both in range, of which one is at least the
 other, all lines are the same unless the file is 3 or 5 under the smaller; such a file is neither 1 nor 2 under the larger and, if it was 5, nor 3 or 4.
 
-With --names the files are about the names of struct literals, with --endless about loops that never end, with --levels about names in inner blocks."""
+With --names the files are about the names of struct literals, with --endless about loops that never end, with --levels about names in inner
+blocks, with --pairs about subtype questions on large types. The sum of compared pairs is a line of every answer."""
 import argparse
 import collections
 import itertools
@@ -57,6 +58,7 @@ CHECK = Question("gen", "batch", "check_vectors", unpack, 0)
 NAMES = CHECK._replace(make="gennames")
 ENDLESS = CHECK._replace(make="genendless")
 LEVELS = CHECK._replace(make="genlevels")
+PAIRS = CHECK._replace(make="genpairs")
 LIMITS = Question("genlimits", "limitbatch", "limit_vectors", unpack_limited, 2)
 
 
@@ -119,7 +121,7 @@ def compare(given, question, seed, many, counts):
             open(given.keep, "wb").write(file)
             return f"seed {seed}, file {i}{under(setting)}, kept in {given.keep}\nthe peer:\n{right[i]}the program:\n{said}"
         counts[refusal(said, question)] += 1
-        counts["rows"] += said.count("\n") - 1 - question.line
+        counts["rows"] += said.count("\n") - 2 - question.line  # without the answer and the pairs
     if len(found) != len(cases):
         return f"seed {seed}: {len(cases)} files, {len(found)} answers\n"
     failed = test_claim(cases, found, counts) if given.limits else None
@@ -140,11 +142,12 @@ def main():
     sorts.add_argument("--names", action="store_true", help="files about the names of struct literals")
     sorts.add_argument("--endless", action="store_true", help="files about loops that never end")
     sorts.add_argument("--levels", action="store_true", help="files about names in inner blocks")
+    sorts.add_argument("--pairs", action="store_true", help="files about subtype questions on large types")
     words.add_argument("--program", help="target/bin/check_vectors, with --limits target/bin/limit_vectors")
     words.add_argument("--peer", default=os.path.join(ROOT, "tests", "peer", "target", "release", "oat_peer"), help="the peer's program")
     words.add_argument("--keep", default="different.oat", help="where a file that differs is kept (different.oat)")
     given = words.parse_args()
-    asked = ((given.limits, LIMITS), (given.names, NAMES), (given.endless, ENDLESS), (given.levels, LEVELS), (True, CHECK))
+    asked = ((given.limits, LIMITS), (given.names, NAMES), (given.endless, ENDLESS), (given.levels, LEVELS), (given.pairs, PAIRS), (True, CHECK))
     question = next(question for chosen, question in asked if chosen)
     given.program = given.program or os.path.join(ROOT, "target", "bin", question.program)
     counts, done = collections.Counter(), 0

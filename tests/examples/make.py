@@ -630,8 +630,37 @@ def _():
     return e
 
 
+@example("pairs_compared", pan_source("AB", "(B, B) -> A? f((A, A) -> B g) { return g; }"), """
+    The return asks whether (A, A) -> B is below (B, B) -> A?. That compares five pairs of types: the two functions, B with A for each
+    parameter, which turn round and come first, B with A?, and then B with A.""")
+def _():
+    return passes(lambda e: e.function_type(e.nullable(A(e)), B(e), B(e)), lambda e: e.function_type(B(e), A(e), A(e)), "A", "B")
+
+
+@example("pairs_up_to_a_break", pan_source("AB", """int pour(A pan, int turns) { return turns; }
+int f(B pan, A? other) {
+  var turns = pour(pan, 3);
+  return pour(other, turns);
+}"""), """
+    The first return compares one pair, the first call two. In the second call A? is not below A, so that pair is the last: the argument
+    turns is typed, but compared with nothing.""")
+def _():
+    e = pans("A", "B")
+    e.function("pour", INT, [(A(e), "pan"), (INT, "turns")], e.give(e.id("turns")))
+    e.function("f", INT, [(B(e), "pan"), (e.nullable(A(e)), "other")],
+               e.var("turns", e.call(e.id("pour"), e.id("pan"), e.integer(3))), e.give(e.call(e.id("pour"), e.id("other"), e.id("turns"))))
+    return e
+
+
 def answer_of(file):
     return subprocess.run([PEER, "check"], input=file, stdout=subprocess.PIPE, check=True).stdout.decode()
+
+
+def pairs_of(file):
+    """The answer's fourth number, which the check does not print."""
+    packed = len(file).to_bytes(4, "little") + file
+    lines = subprocess.run([PEER, "batch"], input=packed, stdout=subprocess.PIPE, check=True).stdout.decode().splitlines()
+    return int(lines[-2].split()[1])
 
 
 def told(e, answer):
@@ -644,7 +673,7 @@ def told(e, answer):
     return f"{number}, {MEANING[number]}, in step {step}, the {where}, at {at}."
 
 
-def text(source, shows, e, answer):
+def text(source, shows, e, answer, pairs):
     names = ", ".join(f"{n} {i}" for n, i in e.names.items())
     types = ", ".join(f"{i} {s}" for i, s in enumerate(e.shown) if i > 3)
     lines = [source, "", *textwrap.wrap(shows, 120), ""]
@@ -655,14 +684,14 @@ def text(source, shows, e, answer):
     if nodes:
         lines += ["Nodes:"] + [f"    {i} {line}" for i, line in enumerate(nodes)]
     lines += ["", "Answer:"] + ["    " + line for line in answer.splitlines()]
-    return "\n".join(lines + textwrap.wrap(told(e, answer), 120)) + "\n"
+    return "\n".join(lines + textwrap.wrap(told(e, answer), 120) + [f"Pairs of types compared: {pairs}."]) + "\n"
 
 
 def files():
     for name, source, shows, e in EXAMPLES:
         file = e.bytes()
         yield name + ".oat", file
-        yield name + ".txt", text(source, shows, e, answer_of(file)).encode()
+        yield name + ".txt", text(source, shows, e, answer_of(file), pairs_of(file)).encode()
 
 
 if __name__ == "__main__":

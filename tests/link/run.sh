@@ -8,9 +8,9 @@ cd "$(dirname "$0")/../.."
 library=target/staticlib/liboat_c.a
 peer=tests/peer/target/release/oat_peer
 
-# each example with a subtype question, and limits: B below A and not the other way round; C not below A; A? not below A; a type that is not
-# there; refused files; the least limits that let a file pass, one part and one level fewer, limits out of their range, also before 1; zero bytes,
-# whose types are 0 to 3, also under the least limits and under limits out of their range, and one byte
+# each example with a subtype question, and limits: B below A and not the other way round; C not below A; A? not below A; questions and checks that
+# compare several pairs; a type that is not there; refused files; the least limits that let a file pass, one part and one level fewer, limits out
+# of their range, also before 1; zero bytes, whose types are 0 to 3, also under the least limits and under limits out of their range, and one byte
 cases() {
     cat <<'END'
 pan_levels 0 0
@@ -22,6 +22,9 @@ null_tested 4 5
 arrays_invariant 7 6
 parameters_turn_round 7 6
 parameters_not_covariant 7 6
+pairs_compared 8 7
+pairs_compared 7 8
+pairs_up_to_a_break 8 8
 one_global 4 0
 struct_twice 4 4
 cut_short 0 0
@@ -43,11 +46,13 @@ END
 }
 
 if [ "${1:-}" = --expect ]; then
+    low() { for n; do printf "\\x$(printf %02x $((n % 256)))\\x$(printf %02x $((n / 256)))\\0\\0"; done; }
     cases | while read -r name a b limits; do
-        "$peer" check $limits < "examples/$name.oat"
-        said=$("$peer" sub "$a" "$b" $limits < "examples/$name.oat")
+        file="examples/$name.oat"
+        { low "$(stat -c %s "$file")" ${limits:-200 100}; cat "$file"; } | "$peer" limitbatch | sed '1,2d;$d'
+        read -r said pairs < <("$peer" sub "$a" "$b" $limits < "$file")
         case $said in [0-9]*) said="refused under $said" ;; esac
-        echo "type $a below type $b: $said"
+        echo "type $a below type $b: $said, pairs $pairs"
     done > tests/link/expected.txt
     exit
 fi

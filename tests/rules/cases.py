@@ -43,10 +43,10 @@ bi a b = record { name = a; type = b }
 abbrev pub nd : ℕ → ℕ → ℕ → ℕ → NodeRecord
 nd k x t c = record { kind = k; x = x; t = t; children = c }
 
--- the program is that of a file, and the check answers number, step and place, with these rows
-pub record Answers (p : Program) (number step place : ℕ) (rows : List ℕ) : Type 0 where
+-- the program is that of a file, and the check answers number, step, place and pairs, with these rows
+pub record Answers (p : Program) (number step place pairs : ℕ) (rows : List ℕ) : Type 0 where
   pub file : IsFile widest (fileOf (p .tables)) p
-  pub answer : checkOf p ≡ record { number = number; step = step; place = place; rows = rows }
+  pub answer : checkOf p ≡ record { number = number; step = step; place = place; pairs = pairs; rows = rows }
 """
 
 
@@ -224,7 +224,8 @@ class Case:
         trees = Trees(nodes)
         terms, self.kinds = trees.declarations()
         self.steps = trees.steps
-        rows = [word for line in lines[1:] for word in line.split()[1:]]
+        self.pairs = int(lines[-1].split()[1])
+        rows = [word for line in lines[1:-1] for word in line.split()[1:]]
         self.rows = rows if self.number == 0 else ["65535"] * (2 * len(nodes))
         records = (("types", "ty %d %d %d %d", types), ("list", "%d", entries), ("fields", "fd %d %d", fields), ("structs", "st %d %d %d", structs),
                    ("builtIns", "bi %d %d", given), ("nodes", "nd %d %d %d %d", nodes))
@@ -263,11 +264,11 @@ class Case:
         endless = self.number == 14 and any(w[0] for w in self.whiles())
         kind = nodes[self.place][0] if group in (2, 3, 5) else -1
         around = (nodes[parent_of(nodes, self.place)][0], self.place in self.steps) if (self.number, kind) == (7, 31) else None
-        return {(self.number, group, kind, endless, around)}
+        return {(self.number, group, kind, endless, around, self.pairs > 0)}
 
     def text(self, name):
         program = "pub program-%s : Program\nprogram-%s = %s\n" % (name, name, self.program)
-        stated = "pub %s : Answers program-%s %d %d %d %s" % (name, name, self.number, self.step, self.place, listed(self.rows))
+        stated = "pub %s : Answers program-%s %d %d %d %d %s" % (name, name, self.number, self.step, self.place, self.pairs, listed(self.rows))
         proof = "%s = record { file = is-file widest program-%s refl; answer = refl }" % (name, name)
         return "\n%s\n%s\nunfolding program-%s computed isFile\n%s\n" % (program, wrapped(stated, 4), name, proof)
 

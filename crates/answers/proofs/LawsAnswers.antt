@@ -8,15 +8,18 @@ use native.Mathlib.Omega.{arith}
 use lib.Dec.{eqb}
 use borrow.Author.Tests.{eqb-false, eq-eqb, ne-eqb, not-true, not-false}
 use Rattle.oat.specs.Tables.{Tables, typeAt, entryAt, nodeAt}
-use Rattle.oat.specs.Types.{typeOf, structOf}
-use Rattle.oat.specs.Decide.{below}
+use Rattle.oat.specs.TypeRules.{partsAt}
+use Rattle.oat.specs.Types.{structOf}
+use Rattle.oat.specs.Pairs.{Compared as Question}
+use Rattle.oat.proofs.LawsTypes.{types-formed}
+use Rattle.oat.specs.Basics.{pick}
 use Rattle.file_sections.specs.declared.Sections.{Sections}
 use Rattle.file_sections.specs.Layout.{Laid, Has, tablesOf, GoodTables}
-use Rattle.file_sections.proofs.LawsRecords.{structs-long}
-use Rattle.type_index.specs.Index.{declared, formedEntry, Entered}
+use Rattle.file_sections.proofs.LawsRecords.{types-long, structs-long}
+use Rattle.type_index.specs.Index.{formedEntry, Entered}
 use Rattle.typing_rules.specs.Operators.{unaryType}
 use Rattle.typing_rules.specs.Rules.{member}
-use Rattle.typing_rules.specs.Judge.{hasDefault, isBelow, isBelowMember}
+use Rattle.typing_rules.specs.Judge.{hasDefault, asked, memberAsked}
 use Rattle.typing_rules.proofs.LawsFields.{memberOf}
 use Rattle.bindings.specs.declared.Found.{Found}
 use Rattle.bindings.specs.declared.Found.the-variants.{At, Nothing}
@@ -25,13 +28,14 @@ use Rattle.fields.specs.declared.lookup.FieldType.{FieldType}
 use Rattle.fields.specs.declared.lookup.FieldType.the-variants.{Of, Unknown}
 use Rattle.fields.specs.Lookup.{numberOf, fieldIn}
 use Rattle.fields.proofs.LawsLookup.{member-in, found-below}
+use Rattle.subtyping.specs.declared.below.Compared.{Compared}
 use Rattle.answers.specs.declared.answer.Judgement.{Judgement}
-use Rattle.answers.specs.declared.answer.Judgement.the-variants.{Typed, Refused}
+use Rattle.answers.specs.declared.answer.Judgement.the-variants.{Typed}
 use Rattle.answers.specs.declared.answer.At.{At as Place}
 use Rattle.answers.specs.declared.answer.Judged.{Judged}
 use Rattle.answers.specs.declared.leaves.Expected.{Expected}
 use Rattle.answers.specs.declared.leaves.Expected.the-variants.{Each, Run}
-use Rattle.answers.specs.Answers.{structsAlone, withRow, AnswerIs, LeafAnswer, literalKind, Expecting, expectedAt, NullAnswer, NameAnswer}
+use Rattle.answers.specs.Answers.{structsAlone, withRow, Refuses, AnswerIs, LeafAnswer, Asks, AndAsked, literalKind, Expecting, expectedAt, NullAnswer, NameAnswer}
 
 -- nothing found is no position, and a position is found once
 nothing-at : (j : ℕ) → _≡_ {A = Found} Nothing (At j) → ⊥
@@ -41,11 +45,12 @@ at-same : (i j : ℕ) → _≡_ {A = Found} (At i) (At j) → i ≡ j
 at-same i j e = cc
 
 -- an answer, from what a leaf function makes
-pub answered : {j : Judgement} {n s : ℕ} {a : Place} {r : Judged} → r ≡ record { judgement = j; at = a } → a .node ≡ n → a .scope ≡ s → AnswerIs j n s r
-answered e en es = record { judged = ap (λ x. x .judgement) e; next = ap (λ x. x .at .node) e ∙ en; scope = ap (λ x. x .at .scope) e ∙ es }
+pub answered : {j : Judgement} {n s k : ℕ} {a : Place} {r : Judged} → r ≡ record { judgement = j; at = a } → a .node ≡ n → a .scope ≡ s → a .pairs ≡ k → AnswerIs j n s k r
+answered e en es ep =
+    record { judged = ap (λ x. x .judgement) e; next = ap (λ x. x .at .node) e ∙ en; scope = ap (λ x. x .at .scope) e ∙ es; sum = ap (λ x. x .at .pairs) e ∙ ep }
 
-leaf-of : {t u n s : ℕ} {r : Judged} (a : Place) → r ≡ record { judgement = Typed t; at = a } → t ≡ u → a .node ≡ n → a .scope ≡ s → AnswerIs (Typed u) n s r
-leaf-of a er e en es = answered (er ∙ ap (λ i. record { judgement = Typed i; at = a }) e) en es
+leaf-of : {t u n s k : ℕ} {r : Judged} (a : Place) → r ≡ record { judgement = Typed t; at = a } → t ≡ u → a .node ≡ n → a .scope ≡ s → a .pairs ≡ k → AnswerIs (Typed u) n s k r
+leaf-of a er e en es ep = answered (er ∙ ap (λ i. record { judgement = Typed i; at = a }) e) en es ep
 
 -- the type of a literal, by its kind
 module _ (k : ℕ) where
@@ -70,8 +75,8 @@ module _ (k : ℕ) where
 
 -- the answer and the row of a literal of the kind m
 module _ (m k t n s : ℕ) (e : t ≡ literalKind k) (ek : k ≡ m) where
-  pub literal-answer : (r : Judged) (a : Place) → r ≡ record { judgement = Typed t; at = a } → a .node ≡ n + 1 → a .scope ≡ s → LeafAnswer (literalKind m) n s r
-  literal-answer r a er en es = leaf-of a er (e ∙ ap literalKind ek) en es
+  pub literal-answer : (i : ℕ) (r : Judged) (a : Place) → r ≡ record { judgement = Typed t; at = a } → a .node ≡ n + 1 → a .scope ≡ s → a .pairs ≡ i → LeafAnswer (literalKind m) n s i r
+  literal-answer i r a er en es ep = leaf-of a er (e ∙ ap literalKind ek) en es ep
 
   pub literal-row : (R R′ : List ℕ) → R′ ≡ withRow R n t 65535 → R′ ≡ withRow R n (literalKind m) 65535
   literal-row R R′ eR = eR ∙ ap (λ i. withRow R n i 65535) (e ∙ ap literalKind ek)
@@ -128,28 +133,54 @@ pub expected-there : (T : Tables) (S : Sections) (x : Expected) (i u : ℕ) → 
 expected-there T S (Each t) i u h e = rw e h
 expected-there T S (Run p) i u h e = rw e (h .1 i (omega arith))
 
--- a test after one that failed
-pub no-longer : (b t : Bool) → not b ≡ true → false ≡ (b && t)
-no-longer b t h = rw (not-true b h) refl
+-- a question after one that failed
+pub no-longer : (b : Compared) (q : Question) → not (b .holds) ≡ true → AndAsked b q b
+no-longer b q h = record { holds = rw (not-true (b .holds) h); pairs = rw (not-true (b .holds) h) (omega arith) }
 
--- and after one that passed: the type t is below v
-pub still : (T : Tables) (b r : Bool) (t u v : ℕ) → not b ≡ false → r ≡ below (declared T) (typeOf T t) (typeOf T u) → u ≡ v → r ≡ (b && isBelow T (structsAlone T) t v)
-still T b r t u v h e eu = rw (not-false b h) (e ∙ ap (λ i. below (declared T) (typeOf T t) (typeOf T i)) eu)
+-- and after those that hold, answered by c
+next-asked : (b c r : Compared) (q : Question) → not (b .holds) ≡ false → c .holds ≡ q .holds → c .pairs ≡ q .pairs → r ≡ record { holds = c .holds; pairs = b .pairs + c .pairs } → AndAsked b q r
+next-asked b c r q h ch cp e = record {
+  holds = ap (λ x. x .holds) e ∙ ch ∙ ap (λ x. x && q .holds) (sym (not-false (b .holds) h));
+  pairs = ap (λ x. x .pairs) e ∙ ap (λ x. b .pairs + x) cp ∙ ap (λ x. b .pairs + pick x (q .pairs) 0) (sym (not-false (b .holds) h));
+}
+
+-- the type t is below v
+pub still : (T : Tables) (b c r : Compared) (t u v : ℕ) → not (b .holds) ≡ false → Asks T t u c → u ≡ v → r ≡ record { holds = c .holds; pairs = b .pairs + c .pairs }
+    → AndAsked b (asked T (structsAlone T) t v) r
+still T b c r t u v h a eu e =
+    let d = subst (λ i. Asks T t i c) eu a in
+    next-asked b c r (asked T (structsAlone T) t v) h (d .0) (d .1) e
+
+-- a question has few pairs
+pub few-pairs : (F : List ℕ) (S : Sections) (t u k : ℕ) → GoodTables F S → t < S .types → u < S .types → k + 1 ≤ partsAt (tablesOf F S) t + partsAt (tablesOf F S) u → k ≤ 4294967295
+few-pairs F S t u k g ht hu e =
+    let f = types-formed 200 (tablesOf F S) (g .types) in
+    let n = types-long F S in
+    omega (arith, f .few t (omega arith), f .few u (omega arith))
+
+pick-none : (c : Bool) → _≡_ {A = ℕ} (pick c 0 0) 0
+pick-none true = refl
+pick-none false = refl
 
 -- a value of the type t, for the field x of the struct record r
-module _ (F : List ℕ) (S : Sections) (b : Bool) (t r x : ℕ) (f : FieldType) (ef : numberOf f ≡ fieldIn (tablesOf F S) r x) (h : r < S .structs) where
+module _ (F : List ℕ) (S : Sections) (b : Compared) (t r x : ℕ) (f : FieldType) (ef : numberOf f ≡ fieldIn (tablesOf F S) r x) (h : r < S .structs) where
   -- the field written out
   field-member : member x (structOf (tablesOf F S) r .fields) ≡ memberOf (tablesOf F S) (numberOf f)
   field-member = member-in (tablesOf F S) r x (omega (arith, structs-long F S)) ∙ ap (memberOf (tablesOf F S)) (sym ef)
 
-  pub fits-none : f ≡ Unknown → false ≡ (b && isBelowMember (tablesOf F S) (structsAlone (tablesOf F S)) t (member x (structOf (tablesOf F S) r .fields)))
-  unfolding memberOf
-  fits-none e = rw (field-member, e) (sym (and-false b))
+  abbrev fieldAsked : Question
+  fieldAsked = memberAsked (tablesOf F S) (structsAlone (tablesOf F S)) t (member x (structOf (tablesOf F S) r .fields))
 
-  pub fits-field : (u : ℕ) (a : Bool) → not b ≡ false → f ≡ Of u → a ≡ below (declared (tablesOf F S)) (typeOf (tablesOf F S) t) (typeOf (tablesOf F S) u)
-      → a ≡ (b && isBelowMember (tablesOf F S) (structsAlone (tablesOf F S)) t (member x (structOf (tablesOf F S) r .fields)))
+  pub fits-none : (a : Compared) → f ≡ Unknown → a .holds ≡ false → a .pairs ≡ b .pairs → AndAsked b fieldAsked a
   unfolding memberOf
-  fits-field u a k e ea = rw (not-false b k, field-member, e) ea
+  fits-none a e h p = record {
+    holds = rw (field-member, e) (h ∙ sym (and-false (b .holds)));
+    pairs = rw (field-member, e) (p ∙ omega (arith, pick-none (b .holds)));
+  }
+
+  pub fits-field : (u : ℕ) (c a : Compared) → not (b .holds) ≡ false → f ≡ Of u → Asks (tablesOf F S) t u c → a ≡ record { holds = c .holds; pairs = b .pairs + c .pairs } → AndAsked b fieldAsked a
+  unfolding memberOf
+  fits-field u c a k e s ea = next-asked b c a fieldAsked k (rw (field-member, e) (s .0)) (rw (field-member, e) (s .1)) ea
 
 -- the field's type is a type of the file
 pub field-there : (F : List ℕ) (S : Sections) (r x u : ℕ) (f : FieldType) → GoodTables F S → numberOf f ≡ fieldIn (tablesOf F S) r x → f ≡ Of u → u < S .types
@@ -159,19 +190,19 @@ field-there F S r x u f R ef e = found-below F S R r x u (sym ef ∙ ap numberOf
 pub null-entered : (X : List ℕ) (k t : ℕ) → t ≡ k → Entered X k → Entered X t
 null-entered X k t e h = rw e h
 
-module _ (X R : List ℕ) (k n s t : ℕ) (b : Bool) (e : t ≡ k) (eb : b ≡ formedEntry X t) where
+module _ (X R : List ℕ) (k n s i t : ℕ) (b : Bool) (e : t ≡ k) (eb : b ≡ formedEntry X t) where
   marked : formedEntry X k ≡ b
   marked = sym (eb ∙ ap (formedEntry X) e)
 
-  pub null-unformed : (R′ : List ℕ) (r : Judged) → not b ≡ true → r .judgement ≡ Refused 9 n → NullAnswer X R k n s R′ r
+  pub null-unformed : (R′ : List ℕ) (r : Judged) → not b ≡ true → Refuses r 9 n i → NullAnswer X R k n s i R′ r
   null-unformed R′ r h er = record {
     formed = λ q. absurd (false≢true (sym (marked ∙ not-true b h) ∙ q));
     unformed = λ q. er;
   }
 
-  pub null-formed : (R′ : List ℕ) (r : Judged) (a : Place) → not b ≡ false → r ≡ record { judgement = Typed t; at = a } → a .node ≡ n + 1 → a .scope ≡ s → R′ ≡ withRow R n t 65535 → NullAnswer X R k n s R′ r
-  null-formed R′ r a h er en es eR = record {
-    formed = λ q. (leaf-of a er e en es, eR ∙ ap (λ i. withRow R n i 65535) e);
+  pub null-formed : (R′ : List ℕ) (r : Judged) (a : Place) → not b ≡ false → r ≡ record { judgement = Typed t; at = a } → a .node ≡ n + 1 → a .scope ≡ s → a .pairs ≡ i → R′ ≡ withRow R n t 65535 → NullAnswer X R k n s i R′ r
+  null-formed R′ r a h er en es ep eR = record {
+    formed = λ q. (leaf-of a er e en es ep, eR ∙ ap (λ i. withRow R n i 65535) e);
     unformed = λ q. absurd (false≢true (sym q ∙ (marked ∙ not-false b h)));
   }
 
@@ -180,17 +211,17 @@ module _ (F : List ℕ) (S : Sections) (R W K : List ℕ) (n s x : ℕ) (f : Fou
   found-latest : (h : ℕ) → Scoped F S W K h → f ≡ latest (tablesOf F S) W (nodeAt (tablesOf F S) n .x) h
   found-latest h c = finds .found h c ∙ ap (λ y. latest (tablesOf F S) W y h) ex
 
-  pub name-missing : (R′ : List ℕ) (r : Judged) → f ≡ Nothing → r .judgement ≡ Refused 8 n → NameAnswer F S R W K n s R′ r
-  name-missing R′ r e er = record {
+  pub name-missing : (k : ℕ) (R′ : List ℕ) (r : Judged) → f ≡ Nothing → Refuses r 8 n k → NameAnswer F S R W K n s k R′ r
+  name-missing k R′ r e er = record {
     found = λ h j c q. absurd (nothing-at j (sym e ∙ found-latest h c ∙ q));
     missing = λ h c q. er;
   }
 
-  pub name-found : (R′ : List ℕ) (r : Judged) (i t b : ℕ) → f ≡ At i → t ≡ typeBound (tablesOf F S) W i → b ≡ binderOf (tablesOf F S) W i → r .judgement ≡ Typed t → r .at .node ≡ n + 1 → r .at .scope ≡ s → R′ ≡ withRow R n t b
-      → NameAnswer F S R W K n s R′ r
-  name-found R′ r i t b e et eb er en es eR = record {
+  pub name-found : (k : ℕ) (R′ : List ℕ) (r : Judged) (i t b : ℕ) → f ≡ At i → t ≡ typeBound (tablesOf F S) W i → b ≡ binderOf (tablesOf F S) W i → r .judgement ≡ Typed t → r .at .node ≡ n + 1 → r .at .scope ≡ s → r .at .pairs ≡ k → R′ ≡ withRow R n t b
+      → NameAnswer F S R W K n s k R′ r
+  name-found k R′ r i t b e et eb er en es ep eR = record {
     found = λ h j c q.
         let same = at-same i j (sym e ∙ found-latest h c ∙ q) in
-        (record { judged = er ∙ ap Typed (et ∙ ap (typeBound (tablesOf F S) W) same); next = en; scope = es }, eR ∙ ap₂ (withRow R n) (et ∙ ap (typeBound (tablesOf F S) W) same) (eb ∙ ap (binderOf (tablesOf F S) W) same));
+        (record { judged = er ∙ ap Typed (et ∙ ap (typeBound (tablesOf F S) W) same); next = en; scope = es; sum = ep }, eR ∙ ap₂ (withRow R n) (et ∙ ap (typeBound (tablesOf F S) W) same) (eb ∙ ap (binderOf (tablesOf F S) W) same));
     missing = λ h c q. absurd (nothing-at i (sym (sym e ∙ found-latest h c ∙ q)));
   }

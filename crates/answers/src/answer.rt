@@ -1,9 +1,10 @@
 // What judging a part of a program comes to, and rows.
 use file_sections::Sections;
+use subtyping::below::Compared;
 ghost use mathlib.Core.Path.{_≡_};
-ghost use Prim.Native.Nat.{_+_, _*_, _<_};
+ghost use Prim.Native.Nat.{_+_, _*_, _≤_, _<_};
 ghost use lib.ListN.{length};
-ghost use Rattle.answers.specs.Answers.{withRow};
+ghost use Rattle.answers.specs.Answers.{withRow, withPairs, Refuses};
 
 // A type, a mark (goes on, returns), or the number and the place of a refusal. A list of expressions goes on.
 pub enum Judgement {
@@ -20,10 +21,11 @@ pub struct Frame {
     pub result: usize,
 }
 
-// Where the walk stands: a node, and the height of the scope.
+// Where the walk stands: a node, the height of the scope, and how many pairs of types were compared so far.
 pub struct At {
     pub node: usize,
     pub scope: usize,
+    pub pairs: usize,
 }
 
 // A judgement, and where the walk stands after the part.
@@ -32,9 +34,20 @@ pub struct Judged {
     pub at: At,
 }
 
+// The same place, with the pairs of a comparison.
+pub fn counting(at: At, compared: Compared) -> At
+    requires { ⌜ (at .pairs ≤ 4294967295) × (compared .pairs ≤ 4294967295) ⌝ }
+    ensures { λ r. ⌜ r ≡ withPairs at compared ⌝ }
+{
+    At {
+        pairs: at.pairs + compared.pairs,
+        ..at
+    }
+}
+
 // A refusal, found where the walk stands.
 pub fn refused(number: usize, place: usize, found: At) -> Judged
-    ensures { λ r. ⌜ (r .judgement ≡ Judgement.Refused number place) × (r .at ≡ found) ⌝ }
+    ensures { λ r. ⌜ Refuses r number place (found .pairs) × (r .at ≡ found) ⌝ }
 {
     Judged {
         judgement: Judgement::Refused(number, place),

@@ -17,21 +17,22 @@ use file_sections::records::node_kind;
 use file_sections::records::node_t;
 use file_sections::records::node_x;
 use file_sections::records::type_kind;
+use subtyping::below::Compared;
 use subtyping::below::below;
 use type_index::formed::is_formed;
 ghost use mathlib.Core.Path.{_≡_};
-ghost use mathlib.Core.Bool.{true, false, _&&_};
+ghost use mathlib.Core.Bool.{true, false};
 ghost use Prim.Native.Nat.{_+_, _*_, _≤_, _<_};
 ghost use lib.ListN.{length};
 ghost use Rattle.oat.specs.Tables.{nodeAt};
 ghost use Rattle.oat.specs.Types.{structOf};
 ghost use Rattle.typing_rules.specs.Operators.{unaryType};
 ghost use Rattle.typing_rules.specs.Rules.{member};
-ghost use Rattle.typing_rules.specs.Judge.{hasDefault, isBelow, isBelowMember};
+ghost use Rattle.typing_rules.specs.Judge.{hasDefault, asked, memberAsked};
 ghost use Rattle.file_sections.specs.Layout.{Laid, Has, tablesOf, GoodTables};
 ghost use Rattle.type_index.specs.Index.{Entered, Indexed};
 ghost use Rattle.bindings.specs.Bindings.{Some};
-ghost use Rattle.answers.specs.Answers.{structsAlone, withRow, LeafAnswer, operatorOf, literalKind, Expecting, expectedAt, NullAnswer, NameAnswer};
+ghost use Rattle.answers.specs.Answers.{structsAlone, withRow, LeafAnswer, AndAsked, operatorOf, literalKind, Expecting, expectedAt, NullAnswer, NameAnswer};
 
 // What a binary operator asks of its operands: both are of one type, and the type that it gives; or each is below the other.
 pub enum Operator {
@@ -56,28 +57,43 @@ fn expected_at(file: &[u8], sections: Sections, expected: Expected, i: usize) ->
     }
 }
 
+// One comparison after others that hold.
+fn and_next(before: Compared, next: Compared) -> Compared
+    requires { ⌜ (before .pairs ≤ 4294967295) × (next .pairs ≤ 4294967295) ⌝ }
+    ensures { λ r. ⌜ r ≡ record { holds = next .holds; pairs = before .pairs + next .pairs } ⌝ }
+{
+    Compared {
+        holds: next.holds,
+        pairs: before.pairs + next.pairs,
+    }
+}
+
 // Those before are below what is expected, and so is the type t of the expression i.
 pub fn still_below(
     file: &[u8],
     sections: Sections,
     index: &[u16],
-    before: bool,
+    before: Compared,
     t: usize,
     expected: Expected,
     i: usize,
-) -> bool
+) -> Compared
     requires { ⌜ GoodTables (now file) sections × Indexed (now index) (tablesOf (now file) sections) (sections .types) × (t < sections .types) × Expecting (tablesOf (now file) sections) sections expected (i + 1) ⌝ }
-    ensures { λ r. ⌜ r ≡ (before && isBelow (tablesOf (now (file .entry)) sections) (structsAlone (tablesOf (now (file .entry)) sections)) t (expectedAt (tablesOf (now (file .entry)) sections) expected i)) ⌝ }
+    requires { ⌜ before .pairs ≤ 4294967295 ⌝ }
+    ensures { λ r. ⌜ AndAsked before (asked (tablesOf (now (file .entry)) sections) (structsAlone (tablesOf (now (file .entry)) sections)) t (expectedAt (tablesOf (now (file .entry)) sections) expected i)) r ⌝ }
 {
-    if !before {
-        return false;
+    if !before.holds {
+        return before;
     }
-    below(
-        file,
-        sections,
-        index,
-        t,
-        expected_at(file, sections, expected, i),
+    and_next(
+        before,
+        below(
+            file,
+            sections,
+            index,
+            t,
+            expected_at(file, sections, expected, i),
+        ),
     )
 }
 
@@ -86,22 +102,26 @@ pub fn still_fits(
     file: &[u8],
     sections: Sections,
     index: &[u16],
-    before: bool,
+    before: Compared,
     t: usize,
     owner: usize,
     name: usize,
-) -> bool
+) -> Compared
     requires { ⌜ GoodTables (now file) sections × Indexed (now index) (tablesOf (now file) sections) (sections .types) × (t < sections .types) × (owner < sections .structs) ⌝ }
-    ensures { λ r. ⌜ r ≡ (before && isBelowMember (tablesOf (now (file .entry)) sections) (structsAlone (tablesOf (now (file .entry)) sections)) t (member name (structOf (tablesOf (now (file .entry)) sections) owner .fields))) ⌝ }
+    requires { ⌜ before .pairs ≤ 4294967295 ⌝ }
+    ensures { λ r. ⌜ AndAsked before (memberAsked (tablesOf (now (file .entry)) sections) (structsAlone (tablesOf (now (file .entry)) sections)) t (member name (structOf (tablesOf (now (file .entry)) sections) owner .fields))) r ⌝ }
 {
-    if !before {
-        return false;
+    if !before.holds {
+        return before;
     }
     let found = field_of(file, sections, owner, name);
     let FieldType::Of(u) = found else {
-        return false;
+        return Compared {
+            holds: false,
+            ..before
+        };
     };
-    below(file, sections, index, t, u)
+    and_next(before, below(file, sections, index, t, u))
 }
 
 // An element with a default: int, bool or nullable.
@@ -140,7 +160,7 @@ pub fn operator_of(operator: usize) -> Operator
 
 pub fn null(file: &[u8], sections: Sections, index: &[u16], rows: &mut [u16], at: At) -> Judged
     requires { ⌜ Has (now file) sections (at .node) (sections .nodes) × Entered (now index) (nodeAt (tablesOf (now file) sections) (at .node) .t) × (sections .nodes * 2 ≤ length (now rows)) ⌝ }
-    ensures { λ r. ⌜ NullAnswer (now (index .entry)) (now (rows .entry)) (nodeAt (tablesOf (now (file .entry)) sections) (at .node) .t) (at .node) (at .scope) (now (rows .exit)) r ⌝ }
+    ensures { λ r. ⌜ NullAnswer (now (index .entry)) (now (rows .entry)) (nodeAt (tablesOf (now (file .entry)) sections) (at .node) .t) (at .node) (at .scope) (at .pairs) (now (rows .exit)) r ⌝ }
 {
     let t = node_t(file, sections, at.node);
     if !is_formed(index, t) {
@@ -170,7 +190,7 @@ fn literal_type(kind: usize) -> usize
 
 pub fn literal(file: &[u8], sections: Sections, rows: &mut [u16], at: At) -> Judged
     requires { ⌜ Has (now file) sections (at .node) (sections .nodes) × (sections .nodes * 2 ≤ length (now rows)) ⌝ }
-    ensures { λ r. ⌜ LeafAnswer (literalKind (nodeAt (tablesOf (now (file .entry)) sections) (at .node) .kind)) (at .node) (at .scope) r ⌝ }
+    ensures { λ r. ⌜ LeafAnswer (literalKind (nodeAt (tablesOf (now (file .entry)) sections) (at .node) .kind)) (at .node) (at .scope) (at .pairs) r ⌝ }
     ensures { λ _. ⌜ now (rows .exit) ≡ withRow (now (rows .entry)) (at .node) (literalKind (nodeAt (tablesOf (now (file .entry)) sections) (at .node) .kind)) 65535 ⌝ }
 {
     let t = literal_type(node_kind(file, sections, at.node));
@@ -194,7 +214,7 @@ pub fn name(
     at: At,
 ) -> Judged
     requires { ⌜ Some (now file) sections (now work) (now chains) × ((at .node) < sections .nodes) × (sections .nodes * 2 ≤ length (now rows)) ⌝ }
-    ensures { λ r. ⌜ NameAnswer (now (file .entry)) sections (now (rows .entry)) (now (work .entry)) (now (chains .entry)) (at .node) (at .scope) (now (rows .exit)) r ⌝ }
+    ensures { λ r. ⌜ NameAnswer (now (file .entry)) sections (now (rows .entry)) (now (work .entry)) (now (chains .entry)) (at .node) (at .scope) (at .pairs) (now (rows .exit)) r ⌝ }
 {
     let found = find(
         file,

@@ -55,7 +55,7 @@ fn painted_from(buffer: [u16; 512]) -> usize {
 }
 
 fn is_same_answer(a: Answer, b: Answer) -> bool {
-    a.number == b.number && a.step == b.step && a.place == b.place
+    a.number == b.number && a.step == b.step && a.place == b.place && a.pairs == b.pairs
 }
 
 // Prints what is said of a fact.
@@ -225,6 +225,7 @@ fn in_painted(
         number: number,
         step: 0,
         place: 0,
+        pairs: 0,
     };
     say(is_same_answer(outcome.answer, bare), label);
     let rows = outcome.rows;

@@ -1,6 +1,6 @@
 // Reads packed files from standard input, each as 4 length bytes, low first, and then the file, and prints for each the answer, for an
-// accepted file a line for each node with its number and row, and then a line `--`. The buffers are left as each file leaves them, so
-// that every file but the first is checked over the numbers of another.
+// accepted file a line for each node with its number and row, a line `pairs N` with how many pairs of types were compared, and then a line
+// `--`. The buffers are left as each file leaves them, so that every file but the first is checked over the numbers of another.
 use answer_output::node_count;
 use answer_output::write_answer;
 use program_file::widest;
@@ -19,7 +19,9 @@ fn answer(file: &[u8], rows: &mut [u16], work: &mut [u16], text: &mut [u8]) {
         node_count(file, widest()),
         text,
     );
-    io::write_all(1, b"--\n");
+    io::write_all(1, b"pairs ");
+    io::print_decimal(1, answer.pairs as u64);
+    io::write_all(1, b"\n--\n");
 }
 
 // Answers a file of this length.

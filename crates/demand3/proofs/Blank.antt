@@ -35,14 +35,14 @@ checks-meant limits s rows work o = (
 )
 
 module _ (limits : Limits) (range : inRange limits ≡ true) where
-  pub blank-outcome : (rows work : List ℕ) → Checks limits [] rows work (outcome 0 0 0 rows)
+  pub blank-outcome : (rows work : List ℕ) → Checks limits [] rows work (outcome 0 0 0 0 rows)
   unfolding computed
   blank-outcome rows work = checked range blankProgram (blank-is-file limits range) (omega arith) (omega arith)
 
-  pub blank-only : (rows work : List ℕ) (o : Outcome) → Checks limits [] rows work o → o ≡ outcome 0 0 0 rows
+  pub blank-only : (rows work : List ℕ) (o : Outcome) → Checks limits [] rows work o → o ≡ outcome 0 0 0 0 rows
   blank-only rows work o c = one-outcome limits [] rows work o _ c (blank-outcome rows work)
 
-  pub one-byte-only : (b : ℕ) (rows work : List ℕ) (o : Outcome) → Checks limits (b ∷ []) rows work o → o ≡ outcome 1 0 0 rows
+  pub one-byte-only : (b : ℕ) (rows work : List ℕ) (o : Outcome) → Checks limits (b ∷ []) rows work o → o ≡ outcome 1 0 0 0 rows
   one-byte-only b rows work o c = unread limits (b ∷ []) rows work 1 o (one-byte limits range b) c
 
 -- no step gives nothing, and leaves the context as it is

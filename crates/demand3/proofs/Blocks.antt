@@ -14,14 +14,14 @@ use Rattle.typing_rules.proofs.Theorem.{runOf}
 use Rattle.typing_rules.proofs.LawsNumbers.{refused-number}
 use Rattle.typing_rules.proofs.Blocks.{distinct-accepted, seven-at}
 use Rattle.demand3.specs.CheckFile.{needed, Outcome, Checks}
-use Rattle.demand3.proofs.Theorem.{outcome-is}
+use Rattle.demand3.proofs.Theorem.{sumOf, outcome-is}
 
 -- of the definition's answer
 distinct-of : (p : Program) → checkOf p .number ≡ 0 → distinctDecls (p .declarations) ≡ true
 unfolding checkOf
 distinct-of p e = go (runOf p) refl e
   where
-    go : (r : Ran) → runOf p ≡ r → answerOf p r .number ≡ 0 → distinctDecls (p .declarations) ≡ true
+    go : (r : Ran) → runOf p ≡ r → answerOf p (sumOf p) r .number ≡ 0 → distinctDecls (p .declarations) ≡ true
     go (accepted gs k) h z = distinct-accepted p gs k h
     go (refused m j q) h z = absurd (omega (arith, z, refused-number p m j q h .0))
 
@@ -29,7 +29,7 @@ seven-of : (p : Program) → checkOf p .number ≡ 7 → SevenAt (getD (stepsOf 
 unfolding checkOf
 seven-of p e = go (runOf p) refl e
   where
-    go : (r : Ran) → runOf p ≡ r → answerOf p r .number ≡ 7 → SevenAt (getD (stepsOf p) (answerOf p r .step) (structName 0)) (answerOf p r .place)
+    go : (r : Ran) → runOf p ≡ r → answerOf p (sumOf p) r .number ≡ 7 → SevenAt (getD (stepsOf p) (answerOf p (sumOf p) r .step) (structName 0)) (answerOf p (sumOf p) r .place)
     go (accepted gs k) h z = absurd (omega (arith, z))
     go (refused m j q) h z = seven-at p j q (h ∙ ap (λ n. refused n j q) z)
 

@@ -45,12 +45,12 @@ example-rows =
     global-rows (rows-node value refl (rows-node value refl rows-none)) no-rows
 
 -- whatever the buffers hold
-pub example-outcome : (rows work : List ℕ) → 4 ≤ length rows → 4 ≤ length work → Checks widest exampleBytes rows work (outcome 0 1 0 (exampleRows ++ drop 4 rows))
+pub example-outcome : (rows work : List ℕ) → 4 ≤ length rows → 4 ≤ length work → Checks widest exampleBytes rows work (outcome 0 1 0 0 (exampleRows ++ drop 4 rows))
 unfolding computed
 example-outcome rows work r w = checked widest-in-range example example-file r w
 
 -- the least limits that let it pass: types of 1 part, and 2 levels
-pub example-least : (rows work : List ℕ) → 4 ≤ length rows → 4 ≤ length work → Checks (limitsOf 1 2) exampleBytes rows work (outcome 0 1 0 (exampleRows ++ drop 4 rows))
+pub example-least : (rows work : List ℕ) → 4 ≤ length rows → 4 ≤ length work → Checks (limitsOf 1 2) exampleBytes rows work (outcome 0 1 0 0 (exampleRows ++ drop 4 rows))
 unfolding computed recordNumbers numbersOf bytesOf isFile inRange fromOneTo
 example-least rows work r w = checked refl example (is-file (limitsOf 1 2) example refl) r w
 
@@ -78,6 +78,6 @@ pub unbound-derivation : Derivable unbound → ⊥
 unfolding tabulate headings globals bodies stepsOf
 unbound-derivation d = no-global (first-step (d .derives .rules))
 
-pub unbound-outcome : (rows work : List ℕ) → 4 ≤ length rows → 4 ≤ length work → Checks widest (fileOf (unbound .tables)) rows work (outcome 8 0 1 (replicate 4 65535 ++ drop 4 rows))
+pub unbound-outcome : (rows work : List ℕ) → 4 ≤ length rows → 4 ≤ length work → Checks widest (fileOf (unbound .tables)) rows work (outcome 8 0 1 0 (replicate 4 65535 ++ drop 4 rows))
 unfolding computed
 unbound-outcome rows work r w = checked widest-in-range unbound unbound-file r w

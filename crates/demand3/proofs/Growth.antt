@@ -54,6 +54,7 @@ module _ (a b : Limits) (range : inRange b ≡ true) (w : Within a b) (bytes row
         number = ap (λ x. x .number) first ∙ sym (ap (λ x. x .number) second);
         step = ap (λ x. x .step) first ∙ sym (ap (λ x. x .step) second);
         place = ap (λ x. x .place) first ∙ sym (ap (λ x. x .place) second);
+        pairs = ap (λ x. x .pairs) first ∙ sym (ap (λ x. x .pairs) second);
         rows =
             ap (λ x. take (needed p) (x .rows)) first ∙ take-at (checkOf p .rows) (drop (needed p) rows) (needed p) long
             ∙ sym (ap (λ x. take (needed p) (x .rows)) second ∙ take-at (checkOf p .rows) (drop (needed p) more-rows) (needed p) long);
@@ -96,7 +97,7 @@ module _ (a b : Limits) (narrow : inRange a ≡ true) (range : inRange b ≡ tru
   not-three none u (work-short i p f l k) h = omega (arith, h)
   not-three none u (checked i p f l k) h = ⊎-elim (λ z. omega (arith, z, h)) (λ m. omega (arith, m .0, h)) (check-numbers p)
 
-  unread-moves : (n : ℕ) → readingWithin a (meant bytes) ≡ Refused n → Goes a b (meant bytes) n → (u : Outcome) → Checks b bytes rows work u → Moves a b bytes (outcome n 0 0 rows) u
+  unread-moves : (n : ℕ) → readingWithin a (meant bytes) ≡ Refused n → Goes a b (meant bytes) n → (u : Outcome) → Checks b bytes rows work u → Moves a b bytes (outcome n 0 0 0 rows) u
   unread-moves n e (same second) u d = stays (sym (unread b bytes rows work n u (reading-in-range b bytes range ∙ second) d))
   unread-moves n e (types three S h ea eb none) u d =
       let (i, there, more) = more-parts (a .parts) (b .parts) (tablesOf (meant bytes) S) eb ea in

@@ -18,9 +18,9 @@ use Rattle.typing_rules.specs.Labels.{Label}
 use Rattle.typing_rules.specs.Operators.{isEquality, operandType, unaryType}
 use Rattle.typing_rules.specs.Rules.{namesFit}
 use Rattle.typing_rules.specs.Derivations.{isEmpty}
-use Rattle.typing_rules.specs.Judge.{Out, ok, no, andThen, needs, isKind, referred, isBelow, formed, hasDefault, eachBelow, argumentsBelow, named, Number, number, unknown, fieldOf, fieldType, onDeclared, initsBelow, judge, judges, judgeInits, assignsTo, executeVars, judgeCondition, execute, executeStep, executeBlock, executeAll}
+use Rattle.typing_rules.specs.Judge.{Out, ok, no, andThen, needs, isKind, referred, isBelow, formed, hasDefault, eachBelow, argumentsBelow, named, Number, number, unknown, fieldOf, fieldType, onDeclared, initsBelow, judge, judges, judgeInits, assignsTo, executeVars, judgeCondition, execute, executeStep, executeBlock, executeAll, executing, executingVars, judging, judgingCondition}
 use Rattle.typing_rules.specs.Steps.{Step as CheckStep, structName, builtIn, heading, globalValue, structFields, body, headings, globals, bodies, stepsOf, distinctFields, distinctNames, parameters, emptyContext}
-use Rattle.typing_rules.specs.Check.{isMissing, fieldsFormed, runStep, Segment, Ran, accepted, refused, withSegment, onStep, run}
+use Rattle.typing_rules.specs.Check.{isMissing, fieldsFormed, runStep, Segment, Ran, accepted, refused, withSegment, onStep, run, stepping}
 use Rattle.typing_rules.proofs.Theorem.{runOf, accepted-derives, refused-step}
 use Rattle.typing_rules.proofs.LawsPlaced.{some-node}
 use Rattle.typing_rules.proofs.LawsNumbers.{refused-number}
@@ -57,7 +57,7 @@ module _ (most : ℕ) where
 
   module _ (T : Tables) (C : Context ℕ) where
     mutual
-      unfolding judge
+      unfolding judging
 
       expr-at : (e : Expr) (n : ℕ) (Γ : Scope ℕ) → n + size e ≤ most → Placed (judge T C e n Γ)
       expr-at (null t) n Γ h = needs-at (formed T C t) 9 (omega arith) ok-at
@@ -136,7 +136,7 @@ module _ (most : ℕ) where
           ok-at
 
     vars-at : (vs : Vars) (n : ℕ) (Γ : Scope ℕ) → n + sizeVars vs ≤ most → Placed (executeVars T C vs n Γ)
-    unfolding executeVars
+    unfolding executingVars
     vars-at noVar n Γ h = ok-at
     vars-at (nextVar x a vs) n Γ h =
         then-at (expr-at a (n + 1) Γ (omega arith)) λ t L.
@@ -146,7 +146,7 @@ module _ (most : ℕ) where
 
     -- a condition of the wrong sort is refused at its for, n
     condition-at : (c : Condition) (m n : ℕ) (Γ : Scope ℕ) → m + sizeCondition c ≤ most → n < most → Placed (judgeCondition T C c m n Γ)
-    unfolding judgeCondition
+    unfolding judgingCondition
     condition-at noCondition m n Γ h l = ok-at
     condition-at (condition a) m n Γ h l =
         then-at (expr-at a m Γ h) λ t L.
@@ -154,7 +154,7 @@ module _ (most : ℕ) where
 
     module _ (rt : ℕ) where
       mutual
-        unfolding execute
+        unfolding executing
 
         stmt-at : (last : Bool) (s : Stmt) (n : ℕ) (Γ : Scope ℕ) → n + sizeStmt s ≤ most → Placed (execute T C rt last s n Γ)
         stmt-at last (assign g a) n Γ h =
@@ -237,7 +237,7 @@ module _ (most : ℕ) where
   StepWithin (body n t ps b) = n + (1 + length ps + sizeBlock b) ≤ most
 
   check-at : (T : Tables) (C : Context ℕ) (s : CheckStep) → StepWithin s → Placed (runStep T C s)
-  unfolding runStep StepWithin
+  unfolding stepping StepWithin
   check-at T C (structName i) h = needs-at (isMissing (lookup (C .structs) (structAt T i .name))) 7 h ok-at
   check-at T C (builtIn i) h =
       needs-at (formed T C (builtInAt T i .type)) 9 h

@@ -6,4 +6,5 @@ pub mod Growth
 pub mod LawsOutcomeRows
 pub mod LawsPlaces
 pub mod Nearest
+pub mod Pairs
 pub mod Theorem

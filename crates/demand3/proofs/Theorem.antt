@@ -24,8 +24,8 @@ use Rattle.program_file.proofs.LawsReading.{reading-out-of-range, good-in-range
 use Rattle.program_file.proofs.Theorem.{Bytes, program-of, one-program, refused-from-1-to-5, not-refused}
 use Rattle.typing_rules.specs.Contexts.{Context}
 use Rattle.typing_rules.specs.Labels.{Labels}
-use Rattle.typing_rules.specs.Steps.{Step, stepsOf, SameOn, same-none, same-step, DerivesFile}
-use Rattle.typing_rules.specs.Check.{Segment, Ran, accepted, refused, rowsFrom, Answer, answerOf, checkOf}
+use Rattle.typing_rules.specs.Steps.{Step, stepsOf, SameOn, same-none, same-step, emptyContext, DerivesFile}
+use Rattle.typing_rules.specs.Check.{Segment, Ran, accepted, refused, runPairs, rowsFrom, Answer, answerOf, checkOf}
 use Rattle.typing_rules.specs.Rows.{DeclRows, no-rows, global-rows, function-rows}
 use Rattle.typing_rules.proofs.Theorem.{Fits, file-fits, runOf, accepted-derives, derives-accepted, refused-step}
 use Rattle.typing_rules.proofs.LawsNumbers.{refused-number}
@@ -50,9 +50,13 @@ same-both : {D E F : Labels Ty} {ss : List Step} → SameOn D E ss → SameOn D 
 same-both same-none same-none = same-none
 same-both (same-step f r) (same-step g s) = same-step (λ m h. sym (f m h) ∙ g m h) (same-both r s)
 
+-- the pairs that its steps compare
+abbrev pub sumOf : Program → ℕ
+sumOf p = runPairs (p .tables) emptyContext (stepsOf p)
+
 -- the outcome of a file of p
 outcomeOf : Program → List ℕ → Answer → Outcome
-outcomeOf p rows a = outcome (a .number) (a .step) (a .place) (a .rows ++ drop (needed p) rows)
+outcomeOf p rows a = outcome (a .number) (a .step) (a .place) (a .pairs) (a .rows ++ drop (needed p) rows)
 
 -- accepted
 module _ (p : Program) (rows : List ℕ) (f : Fits p) (used : sizeDecls (p .declarations) ≡ length (p .tables .nodes)) (gs : List Segment) (k : ℕ) (e : runOf p ≡ accepted gs k) where
@@ -78,7 +82,7 @@ module _ (p : Program) (rows : List ℕ) (f : Fits p) (used : sizeDecls (p .decl
       let r = rows-are-derived p f gs k e (d .labels) (d .context) (d .derives) in
       drop-at (rowsFrom gs 0 (p .declarations)) (drop (needed p) rows) (needed p) (decls-long r ∙ ap (λ n. 2 * n) used)
 
-  accepted-case : Demand3 p rows (outcomeOf p rows (answerOf p (accepted gs k)))
+  accepted-case : Demand3 p rows (outcomeOf p rows (answerOf p (sumOf p) (accepted gs k)))
   unfolding outcomeOf
   accepted-case = record {
     accepted = (λ z. derivable, λ d. refl);
@@ -101,7 +105,7 @@ module _ (p : Program) (rows : List ℕ) (f : Fits p) (m j q : ℕ) (e : runOf p
   stopped : StopsAt p j
   stopped = let (w, D, C, o, none) = refused-step p f m j q e in record { within = w; labels = D; context = C; before = o; none = none }
 
-  refused-case : Demand3 p rows (outcomeOf p rows (answerOf p (refused m j q)))
+  refused-case : Demand3 p rows (outcomeOf p rows (answerOf p (sumOf p) (refused m j q)))
   unfolding outcomeOf
   refused-case =
       let (low, high) = refused-number p m j q e in
@@ -115,7 +119,7 @@ module _ (p : Program) (rows : List ℕ) (f : Fits p) (m j q : ℕ) (e : runOf p
         rest = drop-at (replicate (needed p) 65535) (drop (needed p) rows) (needed p) (length-replicate (needed p) 65535);
       }
 
-run-case : (p : Program) (rows : List ℕ) → Fits p → sizeDecls (p .declarations) ≡ length (p .tables .nodes) → (r : Ran) → runOf p ≡ r → Demand3 p rows (outcomeOf p rows (answerOf p r))
+run-case : (p : Program) (rows : List ℕ) → Fits p → sizeDecls (p .declarations) ≡ length (p .tables .nodes) → (r : Ran) → runOf p ≡ r → Demand3 p rows (outcomeOf p rows (answerOf p (sumOf p) r))
 run-case p rows f used (accepted gs k) e = accepted-case p rows f used gs k e
 run-case p rows f used (refused m j q) e = refused-case p rows f m j q e
 
@@ -129,7 +133,7 @@ module _ (limits : Limits) (bytes rows work : List ℕ) where
   same-outcome p q f g = ap (λ (x : Program). outcomeOf x rows (checkOf x)) (one-program limits bytes q p g f)
 
   pub outcome-is : inRange limits ≡ true → (p : Program) → IsFile limits bytes p → needed p ≤ length rows → needed p ≤ length work → (o : Outcome) → Checks limits bytes rows work o
-      → o ≡ outcome (checkOf p .number) (checkOf p .step) (checkOf p .place) (checkOf p .rows ++ drop (needed p) rows)
+      → o ≡ outcome (checkOf p .number) (checkOf p .step) (checkOf p .place) (checkOf p .pairs) (checkOf p .rows ++ drop (needed p) rows)
   unfolding outcomeOf
   outcome-is i p f r w o (unreadable n e) = absurd (not-refused limits i bytes n e p f)
   outcome-is i p f r w o (rows-short j q g l) =
@@ -165,10 +169,10 @@ pub check-numbers : (p : Program) → (checkOf p .number ≡ 0) ⊎ ((7 ≤ chec
 unfolding checkOf
 check-numbers p = go (runOf p) refl
   where
-    go : (a : Ran) → runOf p ≡ a → (answerOf p (runOf p) .number ≡ 0) ⊎ ((7 ≤ answerOf p (runOf p) .number) × (answerOf p (runOf p) .number ≤ 16))
-    go (accepted gs k) e = inl (ap (λ x. answerOf p x .number) e)
+    go : (a : Ran) → runOf p ≡ a → (answerOf p (sumOf p) (runOf p) .number ≡ 0) ⊎ ((7 ≤ answerOf p (sumOf p) (runOf p) .number) × (answerOf p (sumOf p) (runOf p) .number ≤ 16))
+    go (accepted gs k) e = inl (ap (λ x. answerOf p (sumOf p) x .number) e)
     go (refused m k q) e =
-        let is : answerOf p (runOf p) .number ≡ m = ap (λ x. answerOf p x .number) e in
+        let is : answerOf p (sumOf p) (runOf p) .number ≡ m = ap (λ x. answerOf p (sumOf p) x .number) e in
         let (low, high) = refused-number p m k q e in
         inr (omega (arith, is, low), omega (arith, is, high))
 
@@ -177,27 +181,27 @@ pub check-long : (p : Program) → Fits p → sizeDecls (p .declarations) ≡ le
 unfolding checkOf
 check-long p f used = go (runOf p) refl
   where
-    go : (a : Ran) → runOf p ≡ a → length (answerOf p (runOf p) .rows) ≡ needed p
+    go : (a : Ran) → runOf p ≡ a → length (answerOf p (sumOf p) (runOf p) .rows) ≡ needed p
     go (accepted gs k) e =
         let d = derivable p [] f used gs k e in
-        ap (λ x. length (answerOf p x .rows)) e ∙ decls-long (rows-are-derived p f gs k e (d .labels) (d .context) (d .derives)) ∙ ap (λ n. 2 * n) used
-    go (refused m k q) e = ap (λ x. length (answerOf p x .rows)) e ∙ length-replicate (needed p) 65535
+        ap (λ x. length (answerOf p (sumOf p) x .rows)) e ∙ decls-long (rows-are-derived p f gs k e (d .labels) (d .context) (d .derives)) ∙ ap (λ n. 2 * n) used
+    go (refused m k q) e = ap (λ x. length (answerOf p (sumOf p) x .rows)) e ∙ length-replicate (needed p) 65535
 
 -- and one alone: that of its reading, or of its program
 outcomeFor : Program → List ℕ → List ℕ → Outcome
 outcomeFor p rows work =
-    pick (ltb (length rows) (needed p)) (outcome 6 0 0 rows)
-    (pick (ltb (length work) (needed p)) (outcome 6 0 0 rows) (outcomeOf p rows (checkOf p)))
+    pick (ltb (length rows) (needed p)) (outcome 6 0 0 0 rows)
+    (pick (ltb (length work) (needed p)) (outcome 6 0 0 0 rows) (outcomeOf p rows (checkOf p)))
 
 module _ (limits : Limits) (bytes rows work : List ℕ) where
-  pub unread : (n : ℕ) (o : Outcome) → readingOf limits bytes ≡ Refused n → Checks limits bytes rows work o → o ≡ outcome n 0 0 rows
-  unread n o e (unreadable m h) = let same : m ≡ n = cc in ap (λ k. outcome k 0 0 rows) same
+  pub unread : (n : ℕ) (o : Outcome) → readingOf limits bytes ≡ Refused n → Checks limits bytes rows work o → o ≡ outcome n 0 0 0 rows
+  unread n o e (unreadable m h) = let same : m ≡ n = cc in ap (λ k. outcome k 0 0 0 rows) same
   unread n o e (rows-short i p f l) = absurd (not-refused limits i bytes n e p f)
   unread n o e (work-short i p f l k) = absurd (not-refused limits i bytes n e p f)
   unread n o e (checked i p f l k) = absurd (not-refused limits i bytes n e p f)
 
   -- 25 exactly when a limit is out of its range, whatever the bytes and the buffers are
-  pub limits-first : inRange limits ≡ false → (o : Outcome) → Checks limits bytes rows work o → o ≡ outcome 25 0 0 rows
+  pub limits-first : inRange limits ≡ false → (o : Outcome) → Checks limits bytes rows work o → o ≡ outcome 25 0 0 0 rows
   limits-first out o c = unread 25 o (reading-out-of-range limits bytes out) c
 
   pub limits-alone : (o : Outcome) → Checks limits bytes rows work o → o .number ≡ 25 → inRange limits ≡ false

@@ -15,22 +15,23 @@ use Rattle.typing_rules.specs.Check.{checkOf}
 abbrev pub needed : Program → ℕ
 needed p = 2 * length (p .tables .nodes)
 
--- number, step and place, and the rows as the check leaves them
+-- number, step and place, how many pairs of types were compared, and the rows as the check leaves them
 pub record Outcome : Type 0 where
   pub number : ℕ
   pub step : ℕ
   pub place : ℕ
+  pub pairs : ℕ
   pub rows : List ℕ
 
-abbrev pub outcome : ℕ → ℕ → ℕ → List ℕ → Outcome
-outcome n s q rows = record { number = n; step = s; place = q; rows = rows }
+abbrev pub outcome : ℕ → ℕ → ℕ → ℕ → List ℕ → Outcome
+outcome n s q k rows = record { number = n; step = s; place = q; pairs = k; rows = rows }
 
 -- the outcome of the check under these limits, on these bytes, with these rows and work
 pub data Checks (limits : Limits) (bytes rows work : List ℕ) : Outcome → Type 0 where
-  -- 25 and 1 to 5 come with step and place 0, and change no buffer
-  unreadable : (n : ℕ) → readingOf limits bytes ≡ Refused n → Checks limits bytes rows work (outcome n 0 0 rows)
-  -- 6: rows or work short
-  rows-short : inRange limits ≡ true → (p : Program) → IsFile limits bytes p → length rows < needed p → Checks limits bytes rows work (outcome 6 0 0 rows)
-  work-short : inRange limits ≡ true → (p : Program) → IsFile limits bytes p → needed p ≤ length rows → length work < needed p → Checks limits bytes rows work (outcome 6 0 0 rows)
+  -- 25 and 1 to 5 come with step, place and pairs 0, and change no buffer
+  unreadable : (n : ℕ) → readingOf limits bytes ≡ Refused n → Checks limits bytes rows work (outcome n 0 0 0 rows)
+  -- 6: rows or work short; the same
+  rows-short : inRange limits ≡ true → (p : Program) → IsFile limits bytes p → length rows < needed p → Checks limits bytes rows work (outcome 6 0 0 0 rows)
+  work-short : inRange limits ≡ true → (p : Program) → IsFile limits bytes p → needed p ≤ length rows → length work < needed p → Checks limits bytes rows work (outcome 6 0 0 0 rows)
   -- the answer; numbers past the rows stay
-  checked : inRange limits ≡ true → (p : Program) → IsFile limits bytes p → needed p ≤ length rows → needed p ≤ length work → Checks limits bytes rows work (outcome (checkOf p .number) (checkOf p .step) (checkOf p .place) (checkOf p .rows ++ drop (needed p) rows))
+  checked : inRange limits ≡ true → (p : Program) → IsFile limits bytes p → needed p ≤ length rows → needed p ≤ length work → Checks limits bytes rows work (outcome (checkOf p .number) (checkOf p .step) (checkOf p .place) (checkOf p .pairs) (checkOf p .rows ++ drop (needed p) rows))

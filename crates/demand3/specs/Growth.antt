@@ -18,11 +18,12 @@ use Rattle.demand3.specs.CheckFile.{needed, Outcome}
 abbrev pub Lasting : ℕ → Type 0
 Lasting n = (n ≡ 0) ⊎ ((6 ≤ n) × (n ≤ 16))
 
--- the same number, step and place, and the same rows of the nodes
+-- the same number, step, place and pairs, and the same rows of the nodes
 pub record SameAnswer (p : Program) (o u : Outcome) : Type 0 where
   pub number : o .number ≡ u .number
   pub step : o .step ≡ u .step
   pub place : o .place ≡ u .place
+  pub pairs : o .pairs ≡ u .pairs
   pub rows : take (needed p) (o .rows) ≡ take (needed p) (u .rows)
 
 -- the sections of the bytes that are meant can be cut, some type has more parts than the limits a let it have, and under b no rule of types is broken

@@ -10,7 +10,7 @@ use Rattle.oat.specs.Syntax.{Expr, size}
 use Rattle.oat.specs.Nodes.{Stands}
 use Rattle.typing_rules.specs.Contexts.{Scope}
 use Rattle.typing_rules.specs.Labels.{Label}
-use Rattle.typing_rules.specs.Judge.{Out, ok, judge, typedAs}
+use Rattle.typing_rules.specs.Judge.{Out, ok, Counted, judging, typedAs}
 use Rattle.file_sections.specs.declared.Sections.{Sections}
 use Rattle.file_sections.specs.Layout.{tablesOf}
 use Rattle.file_sections.specs.Frames.{Same}
@@ -22,7 +22,7 @@ use Rattle.answers.specs.declared.answer.Judgement.the-variants.{Typed}
 use Rattle.answers.specs.declared.answer.At.{At}
 use Rattle.answers.specs.declared.answer.Judged.{Judged}
 use Rattle.answers.specs.Answers.{withRow}
-use Rattle.expressions.specs.Contract.{contextOf, Fine, RowsAt, After, Typing, Meets, accepts, refuses, Ready, Told}
+use Rattle.expressions.specs.Contract.{contextOf, Fine, RowsAt, After, Typing, Meets, accepts, refuses, Few, Ready, exprIn, Told}
 use Rattle.bindings.proofs.LawsBindings.{scope-same, names-same}
 use Rattle.expressions.proofs.LawsLabels.{Closed, rows-append}
 use Rattle.expressions.proofs.LawsShape.{stands-within}
@@ -116,23 +116,27 @@ module _ {F : List ℕ} {S : Sections} {X : List ℕ} {base : ℕ} where
       }
 
   -- an expression that stands in the file, with room for what it binds
-  pub ready : {R W K : List ℕ} {s : ℕ} (n : ℕ) (e : Expr) → Fine F S X R W K base s → Stands (tablesOf F S) n e → s + size e ≤ S .«built_ins» + S .nodes → Ready F S X R W K base n s
-  ready n e f h g =
-      record { fine = f; within = subst (λ k. n < k) (nodes-long F S) (stands-within (tablesOf F S) n e h); tree = e; stands = h; room = g }
+  pub ready : {R W K : List ℕ} {s π : ℕ} (n : ℕ) (e : Expr) → Fine F S X R W K base s → Stands (tablesOf F S) n e → s + size e ≤ S .«built_ins» + S .nodes → Few π (size e)
+      → Ready F S X R W K base n s π
+  ready n e f h g l =
+      record { fine = f; within = subst (λ k. n < k) (nodes-long F S) (stands-within (tablesOf F S) n e h); tree = e; stands = h; room = g; few = l }
 
   -- what an accepted answer says
-  pub typing-of : {n k s t : ℕ} {R W R₁ W₁ K₁ : List ℕ} {r : Judged} (o : Out ℕ) → Meets (Typing F S X base n k s R W R₁ W₁ K₁ r) r o → r .judgement ≡ Typed t
+  pub typing-of : {n k s t π i : ℕ} {R W R₁ W₁ K₁ : List ℕ} {r : Judged} (o : Out ℕ) → Meets (Typing F S X base n k s R W R₁ W₁ K₁ r) r π o i → r .judgement ≡ Typed t
       → (L : List (Label ℕ)) × (o ≡ ok t L) × Typing F S X base n k s R W R₁ W₁ K₁ r t L
-  typing-of {n} {k} {s} {t} {R} {W} {R₁} {W₁} {K₁} {r} o (accepts a L p) y =
+  typing-of {n} {k} {s} {t} {R = R} {W} {R₁} {W₁} {K₁} {r} o (accepts a L i p e) y =
       subst (λ b. (M : List (Label ℕ)) × (ok a L ≡ ok b M) × Typing F S X base n k s R W R₁ W₁ K₁ r b M) (cc) (L, refl, p)
-  typing-of o (refuses p q e) y = absurd (let z : _≡_ {A = ℕ} 0 1 = cc in omega arith)
+  typing-of o (refuses p q i j e) y = absurd (let z : _≡_ {A = ℕ} 0 1 = cc in omega arith)
 
   -- a later part sees the scope and the names of the part before it
-  pub retell : {W R₁ W₁ R₂ W₂ K₂ : List ℕ} {s m i q : ℕ} {r : Judged} → Same (entryOf (tablesOf F S) s) W W₁ → base ≤ s → m ≡ i → q ≡ s → Told F S X R₁ W₁ base m q R₂ W₂ K₂ r
+  pub retell : {W R₁ W₁ R₂ W₂ K₂ : List ℕ} {s m i q π : ℕ} {r : Judged} → Same (entryOf (tablesOf F S) s) W W₁ → base ≤ s → m ≡ i → q ≡ s → Told F S X R₁ W₁ base m q π R₂ W₂ K₂ r
       → (e : Expr) → Stands (tablesOf F S) i e
-      → Meets (Typing F S X base i (size e) s R₁ W₁ R₂ W₂ K₂ r) r (judge (tablesOf F S) (contextOf (tablesOf F S) W base) e i (scopeOf (tablesOf F S) W base s))
-  retell {W} {R₁} {W₁} {R₂} {W₂} {K₂} {s} {m} {i} {q} {r} a l e f told x h =
-      subst (λ Γ. Meets (Typing F S X base i (size x) s R₁ W₁ R₂ W₂ K₂ r) r (judge (tablesOf F S) (contextOf (tablesOf F S) W base) x i Γ)) (scope-same (tablesOf F S) s a base)
-      (subst (λ N. Meets (Typing F S X base i (size x) s R₁ W₁ R₂ W₂ K₂ r) r (judge (tablesOf F S) (record { structs = declared (tablesOf F S); names = N }) x i (scopeOf (tablesOf F S) W₁ base s)))
+      → Meets (Typing F S X base i (size e) s R₁ W₁ R₂ W₂ K₂ r) r π (exprIn F S W base s e i .out) (exprIn F S W base s e i .pairs)
+  retell {W} {R₁} {W₁} {R₂} {W₂} {K₂} {s} {m} {i} {q} {π} {r} a l e f told x h =
+      subst (λ Γ. Answered (judging (tablesOf F S) (contextOf (tablesOf F S) W base) x i Γ)) (scope-same (tablesOf F S) s a base)
+      (subst (λ N. Answered (judging (tablesOf F S) (record { structs = declared (tablesOf F S); names = N }) x i (scopeOf (tablesOf F S) W₁ base s)))
       (names-same (tablesOf F S) s a base l)
-      (subst (λ j. Told F S X R₁ W₁ base j s R₂ W₂ K₂ r) e (subst (λ j. Told F S X R₁ W₁ base m j R₂ W₂ K₂ r) f told) .tells x h))
+      (subst (λ j. Told F S X R₁ W₁ base j s π R₂ W₂ K₂ r) e (subst (λ j. Told F S X R₁ W₁ base m j π R₂ W₂ K₂ r) f told) .tells x h))
+    where
+      Answered : Counted ℕ → Type 0
+      Answered c = Meets (Typing F S X base i (size x) s R₁ W₁ R₂ W₂ K₂ r) r π (c .out) (c .pairs)

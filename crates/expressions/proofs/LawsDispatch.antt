@@ -33,7 +33,7 @@ last-kind k l m f22 f10 r f15 f16 f17 f18 f19 f20 f21 f23 f24 f25 =
     omega (arith, c, m)
 
 -- the kind of an expression that is ready, as the dispatcher reads it
-module _ {F : List ℕ} {S : Sections} {X R W K : List ℕ} {base n s : ℕ} (g : Ready F S X R W K base n s) where
+module _ {F : List ℕ} {S : Sections} {X R W K : List ℕ} {base n s π : ℕ} (g : Ready F S X R W K base n s π) where
   module _ {k : ℕ} (ek : k ≡ nodeAt (tablesOf F S) n .kind) where
     pub kind-at : {i : ℕ} → k ≡ i → nodeAt (tablesOf F S) n .kind ≡ i
     kind-at e = sym ek ∙ e

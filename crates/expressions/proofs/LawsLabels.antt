@@ -14,7 +14,7 @@ use Rattle.typing_rules.specs.Contexts.{Scope, binds, find, Context, findName, 
 use Rattle.typing_rules.specs.Labels.{Result, gives, marks, nothing, Label, unlabelled}
 use Rattle.typing_rules.specs.Operators.{isEquality, operandType, unaryType}
 use Rattle.typing_rules.specs.Rules.{namesFit}
-use Rattle.typing_rules.specs.Judge.{ok, typedAs, markedAs, isKind, referred, isBelow, formed, hasDefault, eachBelow, argumentsBelow, fieldOf, initsBelow, judge, judges, judgeInits}
+use Rattle.typing_rules.specs.Judge.{ok, typedAs, markedAs, isKind, referred, isBelow, formed, hasDefault, eachBelow, argumentsBelow, fieldOf, initsBelow, judge, judges, judgeInits, judging}
 use Rattle.typing_rules.specs.Check.{nextResult, rowResult}
 use Rattle.typing_rules.proofs.LawsOutcome.{ok-is, then-ok, needs-ok, declared-ok, named-ok, field-ok}
 use Rattle.expressions.specs.Contract.{RowsAt}
@@ -101,7 +101,7 @@ run-init {L = L} {M = M} w (typed e r) s = record {
 
 module _ (T : Tables) (C : Context ℕ) where
   mutual
-    unfolding judge
+    unfolding judging
 
     labels : (e : Expr) (n : ℕ) (Γ : Scope ℕ) (t : ℕ) (L : List (Label ℕ)) → judge T C e n Γ ≡ ok t L → Typed (size e) t L
     labels (null u) n Γ t L j = needs-ok (formed T C u) _ _ _ j λ q k. ok-is (Typed 1) k leaf

@@ -6,7 +6,7 @@ pub mod LawsChild
 pub mod LawsRules
 pub mod LawsScope
 pub mod LawsSorts
-pub mod LawsPairs
+pub mod LawsTwo
 pub mod LawsList
 pub mod LawsInits
 pub mod LawsListRules

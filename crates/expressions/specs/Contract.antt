@@ -9,11 +9,12 @@ use lib.ListN.{length, getD}
 use Rattle.oat.specs.Tables.{Tables, nodeAt}
 use Rattle.oat.specs.TableRules.{hasKind}
 use Rattle.oat.specs.Types.{structOf, Field}
+use Rattle.oat.specs.Pairs.{Compared}
 use Rattle.oat.specs.Syntax.{Expr, Exprs, Inits, size, sizes, sizeInits, count, countInits}
 use Rattle.oat.specs.Nodes.{Stands, StandAll, InitsStand}
 use Rattle.typing_rules.specs.Contexts.{Scope, binds, inner, Context}
 use Rattle.typing_rules.specs.Labels.{Label}
-use Rattle.typing_rules.specs.Judge.{Out, ok, no, andThen, needs, referred, isBelow, eachBelow, argumentsBelow, initsBelow, judge, judges, judgeInits}
+use Rattle.typing_rules.specs.Judge.{Out, ok, no, Counted, giving, andCounting, asks, asked, eachAsked, argumentsAsked, initsAsked, referred, judging, judgingAll, judgingInits}
 use Rattle.typing_rules.specs.Check.{rowResult}
 use Rattle.file_sections.specs.declared.Sections.{Sections}
 use Rattle.file_sections.specs.Layout.{tablesOf, GoodTables}
@@ -66,37 +67,50 @@ pub record Listing {A : Type 0} (F : List ℕ) (S : Sections) (X : List ℕ) (ba
   pub scope : r .at .scope ≡ s
   pub after : After F S X base L n k s s R W R′ W′ K′
 
--- the answer r meets an outcome of the definition: P holds where it accepts, and r is its refusal where it refuses
-pub data Meets {A : Type 0} (P : A → List (Label ℕ) → Type 0) (r : Judged) : Out A → Type 0 where
-  accepts : (a : A) (L : List (Label ℕ)) → P a L → Meets P r (ok a L)
-  refuses : (p q : ℕ) → r .judgement ≡ Refused p q → Meets P r (no p q)
+-- the answer r, before which π pairs were compared, meets an outcome of the definition that compares k: P holds where it accepts, r is
+-- its refusal where it refuses, and either way r has the sum of both
+pub data Meets {A : Type 0} (P : A → List (Label ℕ) → Type 0) (r : Judged) (π : ℕ) : Out A → ℕ → Type 0 where
+  accepts : (a : A) (L : List (Label ℕ)) (k : ℕ) → P a L → r .at .pairs ≡ π + k → Meets P r π (ok a L) k
+  refuses : (p q k : ℕ) → r .judgement ≡ Refused p q → r .at .pairs ≡ π + k → Meets P r π (no p q) k
 
--- an expression stands at n, and there is room for what it binds
-pub record Ready (F : List ℕ) (S : Sections) (X R W K : List ℕ) (base n s : ℕ) : Type 0 where
+-- there is room for the sum: the k nodes ahead compare at most 1,200 pairs each
+abbrev pub Few : (π k : ℕ) → Type 0
+Few π k = π + 1200 * k ≤ 4294967295
+
+-- an expression stands at n, and there is room for what it binds and compares, after π pairs
+pub record Ready (F : List ℕ) (S : Sections) (X R W K : List ℕ) (base n s π : ℕ) : Type 0 where
   pub fine : Fine F S X R W K base s
   pub within : n < S .nodes
   pub tree : Expr
   pub stands : Stands (tablesOf F S) n tree
   pub room : s + size tree ≤ S .«built_ins» + S .nodes
+  pub few : Few π (size tree)
+
+-- what the definition says of e at n, in the scope and the context of the buffers
+abbrev pub exprIn : List ℕ → Sections → List ℕ → (base s : ℕ) → Expr → ℕ → Counted ℕ
+exprIn F S W base s e n = judging (tablesOf F S) (contextOf (tablesOf F S) W base) e n (scopeOf (tablesOf F S) W base s)
 
 -- r answers the expression e at n as the definition has it, in the scope and the context of the buffers before
-abbrev pub Answers : List ℕ → Sections → (X R W : List ℕ) → (base n s : ℕ) → (R′ W′ K′ : List ℕ) → Judged → Expr → Type 0
-Answers F S X R W base n s R′ W′ K′ r e =
-    Meets (Typing F S X base n (size e) s R W R′ W′ K′ r) r (judge (tablesOf F S) (contextOf (tablesOf F S) W base) e n (scopeOf (tablesOf F S) W base s))
+abbrev pub Answers : List ℕ → Sections → (X R W : List ℕ) → (base n s π : ℕ) → (R′ W′ K′ : List ℕ) → Judged → Expr → Type 0
+Answers F S X R W base n s π R′ W′ K′ r e =
+    Meets (Typing F S X base n (size e) s R W R′ W′ K′ r) r π (exprIn F S W base s e n .out) (exprIn F S W base s e n .pairs)
 
 -- every expression that stands at n is answered so
-pub record Told (F : List ℕ) (S : Sections) (X R W : List ℕ) (base n s : ℕ) (R′ W′ K′ : List ℕ) (r : Judged) : Type 0 where
-  pub tells : (e : Expr) → Stands (tablesOf F S) n e → Answers F S X R W base n s R′ W′ K′ r e
+pub record Told (F : List ℕ) (S : Sections) (X R W : List ℕ) (base n s π : ℕ) (R′ W′ K′ : List ℕ) (r : Judged) : Type 0 where
+  pub tells : (e : Expr) → Stands (tablesOf F S) n e → Answers F S X R W base n s π R′ W′ K′ r e
 
-unfoldable pub expectedBelow : Tables → Context ℕ → List ℕ → Expected → Bool
-expectedBelow T C ts (Each t) = eachBelow T C ts t
-expectedBelow T C ts (Run p) = argumentsBelow T C ts p
+unfoldable pub expectedAsked : Tables → Context ℕ → List ℕ → Expected → Compared
+expectedAsked T C ts (Each t) = eachAsked T C ts t
+expectedAsked T C ts (Run p) = argumentsAsked T C ts p
 
 -- a list of expressions, then their subtypes, which break at the parent
-abbrev pub listed : Tables → Context ℕ → Exprs → ℕ → Scope ℕ → Expected → ℕ → Out (List ℕ)
-listed T C es n Γ x parent = andThen (judges T C es n Γ) λ ts L. needs (expectedBelow T C ts x) 11 parent (ok ts L)
+abbrev pub listed : Tables → Context ℕ → Exprs → ℕ → Scope ℕ → Expected → ℕ → Counted (List ℕ)
+listed T C es n Γ x parent = andCounting (judgingAll T C es n Γ) λ ts L. asks (expectedAsked T C ts x) 11 parent (giving (ok ts L))
 
-pub record ReadyList (F : List ℕ) (S : Sections) (X R W K : List ℕ) (base n s left : ℕ) (x : Expected) : Type 0 where
+abbrev pub listedIn : List ℕ → Sections → List ℕ → (base s : ℕ) → Exprs → ℕ → Expected → ℕ → Counted (List ℕ)
+listedIn F S W base s es n x parent = listed (tablesOf F S) (contextOf (tablesOf F S) W base) es n (scopeOf (tablesOf F S) W base s) x parent
+
+pub record ReadyList (F : List ℕ) (S : Sections) (X R W K : List ℕ) (base n s π left : ℕ) (x : Expected) : Type 0 where
   pub fine : Fine F S X R W K base s
   pub within : n ≤ S .nodes
   pub expecting : Expecting (tablesOf F S) S x left
@@ -104,16 +118,21 @@ pub record ReadyList (F : List ℕ) (S : Sections) (X R W K : List ℕ) (base n 
   pub stand : StandAll (tablesOf F S) n trees
   pub counted : count trees ≡ left
   pub room : s + sizes trees ≤ S .«built_ins» + S .nodes
+  pub few : Few π (sizes trees)
 
-pub record ToldList (F : List ℕ) (S : Sections) (X R W : List ℕ) (base n s left : ℕ) (x : Expected) (parent : ℕ) (R′ W′ K′ : List ℕ) (r : Judged) : Type 0 where
+pub record ToldList (F : List ℕ) (S : Sections) (X R W : List ℕ) (base n s π left : ℕ) (x : Expected) (parent : ℕ) (R′ W′ K′ : List ℕ) (r : Judged) : Type 0 where
   pub tells : (es : Exprs) → StandAll (tablesOf F S) n es → count es ≡ left
-      → Meets (Listing F S X base n (sizes es) s R W R′ W′ K′ r) r (listed (tablesOf F S) (contextOf (tablesOf F S) W base) es n (scopeOf (tablesOf F S) W base s) x parent)
+      → Meets (Listing F S X base n (sizes es) s R W R′ W′ K′ r) r π (listedIn F S W base s es n x parent .out) (listedIn F S W base s es n x parent .pairs)
 
 -- field initializers of a literal whose struct has these fields, then their subtypes, which break at the parent
-abbrev pub initialized : Tables → Context ℕ → List Field → Inits → ℕ → Scope ℕ → ℕ → Out (List ℕ)
-initialized T C fs is n Γ parent = andThen (judgeInits T C is n Γ) λ ts L. needs (initsBelow T C fs is ts) 11 parent (ok ts L)
+abbrev pub initialized : Tables → Context ℕ → List Field → Inits → ℕ → Scope ℕ → ℕ → Counted (List ℕ)
+initialized T C fs is n Γ parent = andCounting (judgingInits T C is n Γ) λ ts L. asks (initsAsked T C fs is ts) 11 parent (giving (ok ts L))
 
-pub record ReadyInits (F : List ℕ) (S : Sections) (X R W K : List ℕ) (base n s left owner : ℕ) : Type 0 where
+abbrev pub initializedIn : List ℕ → Sections → List ℕ → (base s owner : ℕ) → Inits → ℕ → ℕ → Counted (List ℕ)
+initializedIn F S W base s owner is n parent =
+    initialized (tablesOf F S) (contextOf (tablesOf F S) W base) (structOf (tablesOf F S) owner .fields) is n (scopeOf (tablesOf F S) W base s) parent
+
+pub record ReadyInits (F : List ℕ) (S : Sections) (X R W K : List ℕ) (base n s π left owner : ℕ) : Type 0 where
   pub fine : Fine F S X R W K base s
   pub within : n ≤ S .nodes
   pub declared-there : owner < S .structs
@@ -121,19 +140,23 @@ pub record ReadyInits (F : List ℕ) (S : Sections) (X R W K : List ℕ) (base n
   pub stand : InitsStand (tablesOf F S) n inits
   pub counted : countInits inits ≡ left
   pub room : s + sizeInits inits ≤ S .«built_ins» + S .nodes
+  pub few : Few π (sizeInits inits)
 
-pub record ToldInits (F : List ℕ) (S : Sections) (X R W : List ℕ) (base n s left owner parent : ℕ) (R′ W′ K′ : List ℕ) (r : Judged) : Type 0 where
+pub record ToldInits (F : List ℕ) (S : Sections) (X R W : List ℕ) (base n s π left owner parent : ℕ) (R′ W′ K′ : List ℕ) (r : Judged) : Type 0 where
   pub tells : (is : Inits) → InitsStand (tablesOf F S) n is → countInits is ≡ left
-      → Meets (Listing F S X base n (sizeInits is) s R W R′ W′ K′ r) r
-      (initialized (tablesOf F S) (contextOf (tablesOf F S) W base) (structOf (tablesOf F S) owner .fields) is n (scopeOf (tablesOf F S) W base s) parent)
+      → Meets (Listing F S X base n (sizeInits is) s R W R′ W′ K′ r) r π (initializedIn F S W base s owner is n parent .out) (initializedIn F S W base s owner is n parent .pairs)
 
 -- the value at m of the array with initializer at n, in the block of its index name
-abbrev pub fills : Tables → Context ℕ → Expr → (m n : ℕ) → Scope ℕ → Out ℕ
+abbrev pub fills : Tables → Context ℕ → Expr → (m n : ℕ) → Scope ℕ → Counted ℕ
 fills T C b m n Γ =
-    andThen (judge T C b m (binds (inner Γ) (nodeAt T n .x) 0 n)) λ v L.
-    needs (isBelow T C v (referred T (nodeAt T n .t))) 11 n (ok v L)
+    andCounting (judging T C b m (binds (inner Γ) (nodeAt T n .x) 0 n)) λ v L.
+    asks (asked T C v (referred T (nodeAt T n .t))) 11 n (giving (ok v L))
 
-pub record ReadyFilling (F : List ℕ) (S : Sections) (X R W K : List ℕ) (base n s m : ℕ) : Type 0 where
+abbrev pub fillsIn : List ℕ → Sections → List ℕ → (base s : ℕ) → Expr → (m n : ℕ) → Counted ℕ
+fillsIn F S W base s b m n = fills (tablesOf F S) (contextOf (tablesOf F S) W base) b m n (scopeOf (tablesOf F S) W base s)
+
+-- π pairs were compared before the value
+pub record ReadyFilling (F : List ℕ) (S : Sections) (X R W K : List ℕ) (base n s m π : ℕ) : Type 0 where
   pub fine : Fine F S X R W K base s
   pub after-node : n < m
   pub within : m < S .nodes
@@ -141,7 +164,8 @@ pub record ReadyFilling (F : List ℕ) (S : Sections) (X R W K : List ℕ) (base
   pub tree : Expr
   pub stands : Stands (tablesOf F S) m tree
   pub room : s + 1 + size tree ≤ S .«built_ins» + S .nodes
+  pub few : Few π (size tree)
 
-pub record ToldFilling (F : List ℕ) (S : Sections) (X R W : List ℕ) (base n s m : ℕ) (R′ W′ K′ : List ℕ) (r : Judged) : Type 0 where
+pub record ToldFilling (F : List ℕ) (S : Sections) (X R W : List ℕ) (base n s m π : ℕ) (R′ W′ K′ : List ℕ) (r : Judged) : Type 0 where
   pub tells : (b : Expr) → Stands (tablesOf F S) m b
-      → Meets (Typing F S X base m (size b) s R W R′ W′ K′ r) r (fills (tablesOf F S) (contextOf (tablesOf F S) W base) b m n (scopeOf (tablesOf F S) W base s))
+      → Meets (Typing F S X base m (size b) s R W R′ W′ K′ r) r π (fillsIn F S W base s b m n .out) (fillsIn F S W base s b m n .pairs)

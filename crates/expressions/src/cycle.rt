@@ -4,6 +4,7 @@ use answers::answer::At;
 use answers::answer::Frame;
 use answers::answer::Judged;
 use answers::answer::Judgement;
+use answers::answer::counting;
 use answers::answer::goes_on;
 use answers::answer::refused;
 use answers::answer::row;
@@ -32,6 +33,7 @@ use file_sections::records::type_a;
 use file_sections::records::type_b;
 use file_sections::records::type_c;
 use file_sections::records::type_kind;
+use subtyping::below::Compared;
 use subtyping::below::below;
 use type_index::formed::is_formed;
 use type_index::formed::struct_record;
@@ -53,8 +55,8 @@ pub fn expression(
     chains: &mut Chains,
     at: At,
 ) -> Judged
-    requires { ⌜ Ready (now file) (frame .sections) (now index) (now rows) (now work) (now chains) (frame .base) (at .node) (at .scope) ⌝ }
-    ensures { λ r. ⌜ Told (now (file .entry)) (frame .sections) (now (index .entry)) (now (rows .entry)) (now (work .entry)) (frame .base) (at .node) (at .scope) (now (rows .exit)) (now (work .exit)) (now (chains .exit)) r ⌝ }
+    requires { ⌜ Ready (now file) (frame .sections) (now index) (now rows) (now work) (now chains) (frame .base) (at .node) (at .scope) (at .pairs) ⌝ }
+    ensures { λ r. ⌜ Told (now (file .entry)) (frame .sections) (now (index .entry)) (now (rows .entry)) (now (work .entry)) (frame .base) (at .node) (at .scope) (at .pairs) (now (rows .exit)) (now (work .exit)) (now (chains .exit)) r ⌝ }
 {
     match node_kind(file, frame.sections, at.node) {
         10 => null(file, frame.sections, index, rows, at),
@@ -86,11 +88,14 @@ pub fn list(
     expected: Expected,
     parent: usize,
 ) -> Judged
-    requires { ⌜ ReadyList (now file) (frame .sections) (now index) (now rows) (now work) (now chains) (frame .base) (at .node) (at .scope) count expected ⌝ }
-    ensures { λ r. ⌜ ToldList (now (file .entry)) (frame .sections) (now (index .entry)) (now (rows .entry)) (now (work .entry)) (frame .base) (at .node) (at .scope) count expected parent (now (rows .exit)) (now (work .exit)) (now (chains .exit)) r ⌝ }
+    requires { ⌜ ReadyList (now file) (frame .sections) (now index) (now rows) (now work) (now chains) (frame .base) (at .node) (at .scope) (at .pairs) count expected ⌝ }
+    ensures { λ r. ⌜ ToldList (now (file .entry)) (frame .sections) (now (index .entry)) (now (rows .entry)) (now (work .entry)) (frame .base) (at .node) (at .scope) (at .pairs) count expected parent (now (rows .exit)) (now (work .exit)) (now (chains .exit)) r ⌝ }
 {
     let mut here = at;
-    let mut fits = true;
+    let mut asked = Compared {
+        holds: true,
+        pairs: 0,
+    };
     let mut i = 0;
     while i < count {
         let one = expression(file, frame, index, rows, work, chains, here);
@@ -98,14 +103,15 @@ pub fn list(
         let Judgement::Typed(t) = judgement else {
             return one;
         };
-        fits = still_below(file, frame.sections, index, fits, t, expected, i);
+        asked = still_below(file, frame.sections, index, asked, t, expected, i);
         here = one.at;
         i += 1;
     }
-    if !fits {
-        return refused(11, parent, here);
+    let end = counting(here, asked);
+    if !asked.holds {
+        return refused(11, parent, end);
     }
-    goes_on(here)
+    goes_on(end)
 }
 
 // `count` field initializers from `at` on, of a literal of the record, then their subtypes, which break at the parent.
@@ -121,11 +127,14 @@ fn inits(
     owner: usize,
     parent: usize,
 ) -> Judged
-    requires { ⌜ ReadyInits (now file) (frame .sections) (now index) (now rows) (now work) (now chains) (frame .base) (at .node) (at .scope) count owner ⌝ }
-    ensures { λ r. ⌜ ToldInits (now (file .entry)) (frame .sections) (now (index .entry)) (now (rows .entry)) (now (work .entry)) (frame .base) (at .node) (at .scope) count owner parent (now (rows .exit)) (now (work .exit)) (now (chains .exit)) r ⌝ }
+    requires { ⌜ ReadyInits (now file) (frame .sections) (now index) (now rows) (now work) (now chains) (frame .base) (at .node) (at .scope) (at .pairs) count owner ⌝ }
+    ensures { λ r. ⌜ ToldInits (now (file .entry)) (frame .sections) (now (index .entry)) (now (rows .entry)) (now (work .entry)) (frame .base) (at .node) (at .scope) (at .pairs) count owner parent (now (rows .exit)) (now (work .exit)) (now (chains .exit)) r ⌝ }
 {
     let mut here = at;
-    let mut fits = true;
+    let mut asked = Compared {
+        holds: true,
+        pairs: 0,
+    };
     let mut i = 0;
     while i < count {
         let one = expression(
@@ -145,11 +154,11 @@ fn inits(
             return one;
         };
         row(rows, here.node, t, 65535);
-        fits = still_fits(
+        asked = still_fits(
             file,
             frame.sections,
             index,
-            fits,
+            asked,
             t,
             owner,
             node_x(file, frame.sections, here.node),
@@ -157,10 +166,11 @@ fn inits(
         here = one.at;
         i += 1;
     }
-    if !fits {
-        return refused(11, parent, here);
+    let end = counting(here, asked);
+    if !asked.holds {
+        return refused(11, parent, end);
     }
-    goes_on(here)
+    goes_on(end)
 }
 
 // Array literal: element type, all elements, all subtypes.
@@ -173,9 +183,9 @@ fn array_literal(
     chains: &mut Chains,
     at: At,
 ) -> Judged
-    requires { ⌜ Ready (now file) (frame .sections) (now index) (now rows) (now work) (now chains) (frame .base) (at .node) (at .scope) ⌝ }
+    requires { ⌜ Ready (now file) (frame .sections) (now index) (now rows) (now work) (now chains) (frame .base) (at .node) (at .scope) (at .pairs) ⌝ }
     requires { ⌜ nodeAt (tablesOf (now file) (frame .sections)) (at .node) .kind ≡ 16 ⌝ }
-    ensures { λ r. ⌜ Told (now (file .entry)) (frame .sections) (now (index .entry)) (now (rows .entry)) (now (work .entry)) (frame .base) (at .node) (at .scope) (now (rows .exit)) (now (work .exit)) (now (chains .exit)) r ⌝ }
+    ensures { λ r. ⌜ Told (now (file .entry)) (frame .sections) (now (index .entry)) (now (rows .entry)) (now (work .entry)) (frame .base) (at .node) (at .scope) (at .pairs) (now (rows .exit)) (now (work .exit)) (now (chains .exit)) r ⌝ }
 {
     let t = node_t(file, frame.sections, at.node);
     let element = type_a(file, frame.sections, t);
@@ -214,9 +224,9 @@ fn default_array(
     chains: &mut Chains,
     at: At,
 ) -> Judged
-    requires { ⌜ Ready (now file) (frame .sections) (now index) (now rows) (now work) (now chains) (frame .base) (at .node) (at .scope) ⌝ }
+    requires { ⌜ Ready (now file) (frame .sections) (now index) (now rows) (now work) (now chains) (frame .base) (at .node) (at .scope) (at .pairs) ⌝ }
     requires { ⌜ nodeAt (tablesOf (now file) (frame .sections)) (at .node) .kind ≡ 17 ⌝ }
-    ensures { λ r. ⌜ Told (now (file .entry)) (frame .sections) (now (index .entry)) (now (rows .entry)) (now (work .entry)) (frame .base) (at .node) (at .scope) (now (rows .exit)) (now (work .exit)) (now (chains .exit)) r ⌝ }
+    ensures { λ r. ⌜ Told (now (file .entry)) (frame .sections) (now (index .entry)) (now (rows .entry)) (now (work .entry)) (frame .base) (at .node) (at .scope) (at .pairs) (now (rows .exit)) (now (work .exit)) (now (chains .exit)) r ⌝ }
 {
     let t = node_t(file, frame.sections, at.node);
     let element = type_a(file, frame.sections, t);
@@ -258,9 +268,9 @@ fn array_with(
     chains: &mut Chains,
     at: At,
 ) -> Judged
-    requires { ⌜ Ready (now file) (frame .sections) (now index) (now rows) (now work) (now chains) (frame .base) (at .node) (at .scope) ⌝ }
+    requires { ⌜ Ready (now file) (frame .sections) (now index) (now rows) (now work) (now chains) (frame .base) (at .node) (at .scope) (at .pairs) ⌝ }
     requires { ⌜ nodeAt (tablesOf (now file) (frame .sections)) (at .node) .kind ≡ 18 ⌝ }
-    ensures { λ r. ⌜ Told (now (file .entry)) (frame .sections) (now (index .entry)) (now (rows .entry)) (now (work .entry)) (frame .base) (at .node) (at .scope) (now (rows .exit)) (now (work .exit)) (now (chains .exit)) r ⌝ }
+    ensures { λ r. ⌜ Told (now (file .entry)) (frame .sections) (now (index .entry)) (now (rows .entry)) (now (work .entry)) (frame .base) (at .node) (at .scope) (at .pairs) (now (rows .exit)) (now (work .exit)) (now (chains .exit)) r ⌝ }
 {
     let t = node_t(file, frame.sections, at.node);
     let element = type_a(file, frame.sections, t);
@@ -305,8 +315,8 @@ fn array_value(
     at: At,
     value: At,
 ) -> Judged
-    requires { ⌜ ReadyFilling (now file) (frame .sections) (now index) (now rows) (now work) (now chains) (frame .base) (at .node) (at .scope) (value .node) ⌝ }
-    ensures { λ r. ⌜ ToldFilling (now (file .entry)) (frame .sections) (now (index .entry)) (now (rows .entry)) (now (work .entry)) (frame .base) (at .node) (at .scope) (value .node) (now (rows .exit)) (now (work .exit)) (now (chains .exit)) r ⌝ }
+    requires { ⌜ ReadyFilling (now file) (frame .sections) (now index) (now rows) (now work) (now chains) (frame .base) (at .node) (at .scope) (value .node) (value .pairs) ⌝ }
+    ensures { λ r. ⌜ ToldFilling (now (file .entry)) (frame .sections) (now (index .entry)) (now (rows .entry)) (now (work .entry)) (frame .base) (at .node) (at .scope) (value .node) (value .pairs) (now (rows .exit)) (now (work .exit)) (now (chains .exit)) r ⌝ }
 {
     bind(file, frame.sections, work, chains, at.scope, at.node, 0);
     let one = expression(
@@ -327,14 +337,16 @@ fn array_value(
     };
     leave(file, frame.sections, &*work, chains, at.scope + 1, at.scope);
     let element = type_a(file, frame.sections, node_t(file, frame.sections, at.node));
-    if !below(file, frame.sections, index, v, element) {
-        return refused(11, at.node, one.at);
+    let asked = below(file, frame.sections, index, v, element);
+    let end = counting(one.at, asked);
+    if !asked.holds {
+        return refused(11, at.node, end);
     }
     Judged {
         judgement: judgement,
         at: At {
             scope: at.scope,
-            ..one.at
+            ..end
         },
     }
 }
@@ -349,9 +361,9 @@ fn index_expression(
     chains: &mut Chains,
     at: At,
 ) -> Judged
-    requires { ⌜ Ready (now file) (frame .sections) (now index) (now rows) (now work) (now chains) (frame .base) (at .node) (at .scope) ⌝ }
+    requires { ⌜ Ready (now file) (frame .sections) (now index) (now rows) (now work) (now chains) (frame .base) (at .node) (at .scope) (at .pairs) ⌝ }
     requires { ⌜ nodeAt (tablesOf (now file) (frame .sections)) (at .node) .kind ≡ 19 ⌝ }
-    ensures { λ r. ⌜ Told (now (file .entry)) (frame .sections) (now (index .entry)) (now (rows .entry)) (now (work .entry)) (frame .base) (at .node) (at .scope) (now (rows .exit)) (now (work .exit)) (now (chains .exit)) r ⌝ }
+    ensures { λ r. ⌜ Told (now (file .entry)) (frame .sections) (now (index .entry)) (now (rows .entry)) (now (work .entry)) (frame .base) (at .node) (at .scope) (at .pairs) (now (rows .exit)) (now (work .exit)) (now (chains .exit)) r ⌝ }
 {
     let one = expression(
         file,
@@ -393,9 +405,9 @@ fn length_of(
     chains: &mut Chains,
     at: At,
 ) -> Judged
-    requires { ⌜ Ready (now file) (frame .sections) (now index) (now rows) (now work) (now chains) (frame .base) (at .node) (at .scope) ⌝ }
+    requires { ⌜ Ready (now file) (frame .sections) (now index) (now rows) (now work) (now chains) (frame .base) (at .node) (at .scope) (at .pairs) ⌝ }
     requires { ⌜ nodeAt (tablesOf (now file) (frame .sections)) (at .node) .kind ≡ 20 ⌝ }
-    ensures { λ r. ⌜ Told (now (file .entry)) (frame .sections) (now (index .entry)) (now (rows .entry)) (now (work .entry)) (frame .base) (at .node) (at .scope) (now (rows .exit)) (now (work .exit)) (now (chains .exit)) r ⌝ }
+    ensures { λ r. ⌜ Told (now (file .entry)) (frame .sections) (now (index .entry)) (now (rows .entry)) (now (work .entry)) (frame .base) (at .node) (at .scope) (at .pairs) (now (rows .exit)) (now (work .exit)) (now (chains .exit)) r ⌝ }
 {
     let one = expression(
         file,
@@ -429,9 +441,9 @@ fn struct_literal(
     chains: &mut Chains,
     at: At,
 ) -> Judged
-    requires { ⌜ Ready (now file) (frame .sections) (now index) (now rows) (now work) (now chains) (frame .base) (at .node) (at .scope) ⌝ }
+    requires { ⌜ Ready (now file) (frame .sections) (now index) (now rows) (now work) (now chains) (frame .base) (at .node) (at .scope) (at .pairs) ⌝ }
     requires { ⌜ nodeAt (tablesOf (now file) (frame .sections)) (at .node) .kind ≡ 21 ⌝ }
-    ensures { λ r. ⌜ Told (now (file .entry)) (frame .sections) (now (index .entry)) (now (rows .entry)) (now (work .entry)) (frame .base) (at .node) (at .scope) (now (rows .exit)) (now (work .exit)) (now (chains .exit)) r ⌝ }
+    ensures { λ r. ⌜ Told (now (file .entry)) (frame .sections) (now (index .entry)) (now (rows .entry)) (now (work .entry)) (frame .base) (at .node) (at .scope) (at .pairs) (now (rows .exit)) (now (work .exit)) (now (chains .exit)) r ⌝ }
 {
     let t = node_t(file, frame.sections, at.node);
     let owner = struct_record(index, t);
@@ -473,9 +485,9 @@ fn field(
     chains: &mut Chains,
     at: At,
 ) -> Judged
-    requires { ⌜ Ready (now file) (frame .sections) (now index) (now rows) (now work) (now chains) (frame .base) (at .node) (at .scope) ⌝ }
+    requires { ⌜ Ready (now file) (frame .sections) (now index) (now rows) (now work) (now chains) (frame .base) (at .node) (at .scope) (at .pairs) ⌝ }
     requires { ⌜ nodeAt (tablesOf (now file) (frame .sections)) (at .node) .kind ≡ 23 ⌝ }
-    ensures { λ r. ⌜ Told (now (file .entry)) (frame .sections) (now (index .entry)) (now (rows .entry)) (now (work .entry)) (frame .base) (at .node) (at .scope) (now (rows .exit)) (now (work .exit)) (now (chains .exit)) r ⌝ }
+    ensures { λ r. ⌜ Told (now (file .entry)) (frame .sections) (now (index .entry)) (now (rows .entry)) (now (work .entry)) (frame .base) (at .node) (at .scope) (at .pairs) (now (rows .exit)) (now (work .exit)) (now (chains .exit)) r ⌝ }
 {
     let one = expression(
         file,
@@ -518,9 +530,9 @@ fn call(
     chains: &mut Chains,
     at: At,
 ) -> Judged
-    requires { ⌜ Ready (now file) (frame .sections) (now index) (now rows) (now work) (now chains) (frame .base) (at .node) (at .scope) ⌝ }
+    requires { ⌜ Ready (now file) (frame .sections) (now index) (now rows) (now work) (now chains) (frame .base) (at .node) (at .scope) (at .pairs) ⌝ }
     requires { ⌜ nodeAt (tablesOf (now file) (frame .sections)) (at .node) .kind ≡ 24 ⌝ }
-    ensures { λ r. ⌜ Told (now (file .entry)) (frame .sections) (now (index .entry)) (now (rows .entry)) (now (work .entry)) (frame .base) (at .node) (at .scope) (now (rows .exit)) (now (work .exit)) (now (chains .exit)) r ⌝ }
+    ensures { λ r. ⌜ Told (now (file .entry)) (frame .sections) (now (index .entry)) (now (rows .entry)) (now (work .entry)) (frame .base) (at .node) (at .scope) (at .pairs) (now (rows .exit)) (now (work .exit)) (now (chains .exit)) r ⌝ }
 {
     let one = expression(
         file,
@@ -578,9 +590,9 @@ fn unary(
     chains: &mut Chains,
     at: At,
 ) -> Judged
-    requires { ⌜ Ready (now file) (frame .sections) (now index) (now rows) (now work) (now chains) (frame .base) (at .node) (at .scope) ⌝ }
+    requires { ⌜ Ready (now file) (frame .sections) (now index) (now rows) (now work) (now chains) (frame .base) (at .node) (at .scope) (at .pairs) ⌝ }
     requires { ⌜ nodeAt (tablesOf (now file) (frame .sections)) (at .node) .kind ≡ 25 ⌝ }
-    ensures { λ r. ⌜ Told (now (file .entry)) (frame .sections) (now (index .entry)) (now (rows .entry)) (now (work .entry)) (frame .base) (at .node) (at .scope) (now (rows .exit)) (now (work .exit)) (now (chains .exit)) r ⌝ }
+    ensures { λ r. ⌜ Told (now (file .entry)) (frame .sections) (now (index .entry)) (now (rows .entry)) (now (work .entry)) (frame .base) (at .node) (at .scope) (at .pairs) (now (rows .exit)) (now (work .exit)) (now (chains .exit)) r ⌝ }
 {
     let one = expression(
         file,
@@ -615,9 +627,9 @@ fn binary(
     chains: &mut Chains,
     at: At,
 ) -> Judged
-    requires { ⌜ Ready (now file) (frame .sections) (now index) (now rows) (now work) (now chains) (frame .base) (at .node) (at .scope) ⌝ }
+    requires { ⌜ Ready (now file) (frame .sections) (now index) (now rows) (now work) (now chains) (frame .base) (at .node) (at .scope) (at .pairs) ⌝ }
     requires { ⌜ nodeAt (tablesOf (now file) (frame .sections)) (at .node) .kind ≡ 26 ⌝ }
-    ensures { λ r. ⌜ Told (now (file .entry)) (frame .sections) (now (index .entry)) (now (rows .entry)) (now (work .entry)) (frame .base) (at .node) (at .scope) (now (rows .exit)) (now (work .exit)) (now (chains .exit)) r ⌝ }
+    ensures { λ r. ⌜ Told (now (file .entry)) (frame .sections) (now (index .entry)) (now (rows .entry)) (now (work .entry)) (frame .base) (at .node) (at .scope) (at .pairs) (now (rows .exit)) (now (work .exit)) (now (chains .exit)) r ⌝ }
 {
     let asked = operator_of(node_x(file, frame.sections, at.node));
     match asked {
@@ -640,10 +652,10 @@ fn operator(
     taken: usize,
     given: usize,
 ) -> Judged
-    requires { ⌜ Ready (now file) (frame .sections) (now index) (now rows) (now work) (now chains) (frame .base) (at .node) (at .scope) ⌝ }
+    requires { ⌜ Ready (now file) (frame .sections) (now index) (now rows) (now work) (now chains) (frame .base) (at .node) (at .scope) (at .pairs) ⌝ }
     requires { ⌜ nodeAt (tablesOf (now file) (frame .sections)) (at .node) .kind ≡ 26 ⌝ }
     requires { ⌜ (isEquality (nodeAt (tablesOf (now file) (frame .sections)) (at .node) .x) ≡ false) × (operandType (nodeAt (tablesOf (now file) (frame .sections)) (at .node) .x) ≡ taken) × (resultType (nodeAt (tablesOf (now file) (frame .sections)) (at .node) .x) ≡ given) ⌝ }
-    ensures { λ r. ⌜ Told (now (file .entry)) (frame .sections) (now (index .entry)) (now (rows .entry)) (now (work .entry)) (frame .base) (at .node) (at .scope) (now (rows .exit)) (now (work .exit)) (now (chains .exit)) r ⌝ }
+    ensures { λ r. ⌜ Told (now (file .entry)) (frame .sections) (now (index .entry)) (now (rows .entry)) (now (work .entry)) (frame .base) (at .node) (at .scope) (at .pairs) (now (rows .exit)) (now (work .exit)) (now (chains .exit)) r ⌝ }
 {
     let one = expression(
         file,
@@ -685,10 +697,10 @@ fn equality(
     chains: &mut Chains,
     at: At,
 ) -> Judged
-    requires { ⌜ Ready (now file) (frame .sections) (now index) (now rows) (now work) (now chains) (frame .base) (at .node) (at .scope) ⌝ }
+    requires { ⌜ Ready (now file) (frame .sections) (now index) (now rows) (now work) (now chains) (frame .base) (at .node) (at .scope) (at .pairs) ⌝ }
     requires { ⌜ nodeAt (tablesOf (now file) (frame .sections)) (at .node) .kind ≡ 26 ⌝ }
     requires { ⌜ isEquality (nodeAt (tablesOf (now file) (frame .sections)) (at .node) .x) ≡ true ⌝ }
-    ensures { λ r. ⌜ Told (now (file .entry)) (frame .sections) (now (index .entry)) (now (rows .entry)) (now (work .entry)) (frame .base) (at .node) (at .scope) (now (rows .exit)) (now (work .exit)) (now (chains .exit)) r ⌝ }
+    ensures { λ r. ⌜ Told (now (file .entry)) (frame .sections) (now (index .entry)) (now (rows .entry)) (now (work .entry)) (frame .base) (at .node) (at .scope) (at .pairs) (now (rows .exit)) (now (work .exit)) (now (chains .exit)) r ⌝ }
 {
     let one = expression(
         file,
@@ -711,11 +723,15 @@ fn equality(
     let Judgement::Typed(u) = second else {
         return two;
     };
-    if !below(file, frame.sections, index, t, u) {
-        return refused(11, at.node, two.at);
+    let there = below(file, frame.sections, index, t, u);
+    let half = counting(two.at, there);
+    if !there.holds {
+        return refused(11, at.node, half);
     }
-    if !below(file, frame.sections, index, u, t) {
-        return refused(11, at.node, two.at);
+    let back = below(file, frame.sections, index, u, t);
+    let end = counting(half, back);
+    if !back.holds {
+        return refused(11, at.node, end);
     }
-    typed(rows, at.node, 1, two.at)
+    typed(rows, at.node, 1, end)
 }

@@ -1,7 +1,7 @@
 // Reads packed cases from standard input, each as 4 bytes for the length of a file, 4 for the limit on parts and 4 for the limit on depth, low
-// first, and then the file. It prints for each a line with the number of its reading, a line with the answers to four subtype questions,
-// the check's answer, for an accepted file a line for each node with its number and row, and then a line `--`. The buffers are left as
-// each case leaves them.
+// first, and then the file. It prints for each a line with the number of its reading, a line with the answers to four subtype questions, each
+// with its count of pairs, the check's answer, for an accepted file a line for each node with its number and row, a line `pairs N` with how many
+// pairs of types the check compared, and then a line `--`. The buffers are left as each case leaves them.
 use answer_output::node_count;
 use answer_output::write_answer;
 use program_file::Limits;
@@ -25,19 +25,26 @@ fn print_read(file: &[u8], limits: Limits) {
     io::write_all(1, b"\nsub");
 }
 
-// Prints the answer to a subtype question.
+// Prints an answer and its count.
+fn print_counted(answer: &[u8], pairs: u16) {
+    io::write_all(1, answer);
+    io::print_decimal(1, pairs as u64);
+}
+
+// Prints the answer to a subtype question, and its count.
 fn print_below(file: &[u8], limits: Limits, a: usize, b: usize) {
     let answer = subtyping::question::subtype(file, limits, a, b);
     match answer {
         Answer::Refused(number) => {
             io::write_all(1, b" ");
             io::print_decimal(1, number as u64);
+            print_counted(b" ", 0);
         }
-        Answer::Yes => {
-            io::write_all(1, b" yes");
+        Answer::Yes(pairs) => {
+            print_counted(b" yes ", pairs);
         }
-        Answer::No => {
-            io::write_all(1, b" no");
+        Answer::No(pairs) => {
+            print_counted(b" no ", pairs);
         }
     }
 }
@@ -59,7 +66,9 @@ fn answer(file: &[u8], limits: Limits, rows: &mut [u16], work: &mut [u16], text:
         node_count(file, limits),
         text,
     );
-    io::write_all(1, b"--\n");
+    io::write_all(1, b"pairs ");
+    io::print_decimal(1, answer.pairs as u64);
+    io::write_all(1, b"\n--\n");
 }
 
 // Answers a file of this length.

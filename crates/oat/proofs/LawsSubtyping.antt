@@ -13,7 +13,7 @@ use Rattle.oat.specs.TypeRules.{isReferenceKind}
 use Rattle.oat.specs.Types.{Ty, int, bool, string, void, struct, array, function, nullable, Tys, noTy, andTy, Field, Struct, Lookup, found, missing, lookup}
 use Rattle.oat.specs.Subtyping.{Sub, sub-sub-int, sub-sub-bool, sub-sub-nref, sub-sub-ref, sub-sub-nrref, SubRef, sub-subr-string, sub-subr-array, sub-subr-struct, sub-subr-funt, SubRet, sub-subret-svoid, sub-subret-rttyp, SubAll, sub-none, sub-also}
 use Rattle.oat.specs.Decide.{kindOf, onStruct, onArray, onFunction, onNullable, isNone, sameTy, beginsWith, onFound, structBelow, Tests, baseTests, voidTests, orNullable, refTests, orPlain, nullableTests, tests, allTests, below}
-use Rattle.oat.proofs.LawsSame.{both-true, iff-then, and-says, never, on-int, on-bool, on-string, on-void, on-struct, on-array, on-function, on-nullable, on-none, on-also, same-is, begins-is}
+use Rattle.oat.proofs.LawsSame.{iff-then, and-says, never, on-int, on-bool, on-string, on-void, on-struct, on-array, on-function, on-nullable, on-none, on-also, same-is, begins-is}
 
 -- the kinds of reference types
 abbrev pub isRef : Ty → Bool
@@ -99,10 +99,6 @@ found-is missing m = never λ h. absurd (let p = h .2 in let z : _≡_ {A = ℕ}
 pub struct-is : (H : List Struct) (x y : ℕ) → (structBelow H x y ≡ true) ↔ SubRef H (struct x) (struct y)
 unfolding structBelow
 struct-is H x y = iff-then (found-is (lookup H x) (lookup H y)) (λ h. sub-subr-struct (h .0) (h .1) (h .2) (h .3), λ h. struct-inv h)
-
--- two tests of one statement are equal
-pub same-truth : {a b : Bool} {A : Type 0} → (a ≡ true) ↔ A → (b ≡ true) ↔ A → a ≡ b
-same-truth {a} {b} f g = both-true a b (λ e. g .1 (f .0 e), λ e. f .1 (g .0 e))
 
 or-says : (a b : Bool) {A B : Type 0} → (a ≡ true) ↔ A → (b ≡ true) ↔ B → (a || b ≡ true) ↔ (A ⊎ B)
 or-says true b f g = (λ e. inl (f .0 refl), λ h. refl)
@@ -344,46 +340,7 @@ module _ (H : List Struct) where
         (λ u vs. iff-then (and-says (tests H down t .typ u) (allTests H down ts vs) (decides t down .typ u) (all-decides ts down vs))
         (also-facing down ts vs t u)) us
 
-  -- each judgement, the type on the left
-  pub left-ref : (s t : Ty) → (tests H true s .ref t ≡ true) ↔ SubRef H s t
-  left-ref s t = decides s true .ref t
-
-  pub left-typ : (s t : Ty) → (tests H true s .typ t ≡ true) ↔ Sub H s t
-  left-typ s t = decides s true .typ t
-
-  pub left-ret : (s t : Ty) → (tests H true s .ret t ≡ true) ↔ SubRet H s t
-  left-ret s t = decides s true .ret t
-
-  pub left-all : (ss ts : Tys) → (allTests H true ss ts ≡ true) ↔ SubAll H ss ts
-  left-all ss ts = all-decides ss true ts
-
-  -- and on the right
-  pub right-ref : (s t : Ty) → (tests H false s .ref t ≡ true) ↔ SubRef H t s
-  right-ref s t = decides s false .ref t
-
-  pub right-typ : (s t : Ty) → (tests H false s .typ t ≡ true) ↔ Sub H t s
-  right-typ s t = decides s false .typ t
-
-  pub right-ret : (s t : Ty) → (tests H false s .ret t ≡ true) ↔ SubRet H t s
-  right-ret s t = decides s false .ret t
-
-  pub right-all : (ss ts : Tys) → (allTests H false ss ts ≡ true) ↔ SubAll H ts ss
-  right-all ss ts = all-decides ss false ts
-
   -- the decision is true exactly when the rules derive it
   pub below-is : (s t : Ty) → (below H s t ≡ true) ↔ SubRet H s t
   unfolding below
-  below-is s t = left-ret s t
-
-  -- a test with the type on the right is one with the other on the left
-  pub turn-ref : (s t : Ty) → tests H false s .ref t ≡ tests H true t .ref s
-  turn-ref s t = same-truth (right-ref s t) (left-ref t s)
-
-  pub turn : (s t : Ty) → tests H false s .typ t ≡ tests H true t .typ s
-  turn s t = same-truth (right-typ s t) (left-typ t s)
-
-  pub turn-ret : (s t : Ty) → tests H false s .ret t ≡ tests H true t .ret s
-  turn-ret s t = same-truth (right-ret s t) (left-ret t s)
-
-  pub turn-all : (ss ts : Tys) → allTests H false ss ts ≡ allTests H true ts ss
-  turn-all ss ts = same-truth (right-all ss ts) (left-all ts ss)
+  below-is s t = decides s true .ret t

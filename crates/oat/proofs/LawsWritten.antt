@@ -9,7 +9,8 @@ use lib.ListN.{length, getD, length-append, List·getD-append}
 use lib.Seq.{getD-at}
 use Rattle.oat.specs.Tables.{Tables, typeAt, entryAt}
 use Rattle.oat.specs.TypeRules.{kindAt}
-use Rattle.oat.specs.Types.{int, bool, string, void, struct, array, function, nullable, andTy, writtenParams, written, firstTypes, typeOf}
+use Rattle.oat.specs.Types.{Ty, int, bool, string, void, struct, array, function, nullable, andTy, writtenParams, written, firstTypes, typeOf}
+use Rattle.oat.specs.Pairs.{lengthTys}
 use Rattle.oat.proofs.LawsBasics.{below-or-last}
 
 first-long : (T : Tables) (n : ℕ) → length (firstTypes T n) ≡ n
@@ -75,3 +76,9 @@ module _ (T : Tables) (i : ℕ) where
   pub type-nullable : kindAt T i ≡ 7 → typeAt T i .a < i → typeOf T i ≡ nullable (typeOf T (typeAt T i .a))
   unfolding typeOf written
   type-nullable k h = rw k (ap nullable (first-at T i (typeAt T i .a) h))
+
+-- the parameters of a function type are as many as it names
+pub params-many : (at : ℕ → Ty) (T : Tables) (first count : ℕ) → lengthTys (writtenParams at T first count) ≡ count
+unfolding lengthTys writtenParams
+params-many at T first zero = refl
+params-many at T first (suc count) = omega (arith, params-many at T (suc first) count)

@@ -1,12 +1,15 @@
 pub mod LawsBasics
-pub mod LawsBelow
 pub mod LawsBlank
+pub mod LawsCompare
 pub mod LawsFormed
 pub mod LawsLimits
 pub mod LawsNodes
 pub mod LawsOrder
+pub mod LawsPairs
+pub mod LawsPartsWritten
 pub mod LawsSame
 pub mod LawsSubtyping
 pub mod LawsTables
+pub mod LawsTurned
 pub mod LawsTypes
 pub mod LawsWritten

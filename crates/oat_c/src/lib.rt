@@ -5,7 +5,7 @@ use subtyping::question::Answer;
 ghost use mathlib.Core.Path.{_≡_};
 ghost use Rattle.oat.specs.ProgramFile.{limitsOf};
 ghost use Rattle.program_file.specs.Reading.{readingOf, numberOf, Reads};
-ghost use Rattle.subtyping.specs.Question.{subtypeOf, refusalNumber, yesAfter, Answers};
+ghost use Rattle.subtyping.specs.Question.{subtypeOf, refusalNumber, yesAfter, pairsOf, Answers};
 ghost use Rattle.typing.specs.Check.{Checked, Demands};
 
 // 0 where the file is readable, or the number under which it is refused.
@@ -17,8 +17,8 @@ pub extern "C" fn oat_read(file: &[u8], parts: usize, depth: usize) -> u16
     program_file::number(program_file::read(file, Limits { parts, depth }))
 }
 
-// 0, with 1 in `yes` where the type a is below the type b and else 0; or the number under which the question is refused, and `yes` as it
-// was.
+// 0, with 1 in `yes` where the type a is below the type b and else 0, and in `pairs` how many pairs of types were compared; or the number
+// under which the question is refused, `yes` as it was, and 0 in `pairs`.
 #[no_mangle]
 pub extern "C" fn oat_subtype(
     file: &[u8],
@@ -27,27 +27,34 @@ pub extern "C" fn oat_subtype(
     a: usize,
     b: usize,
     yes: &mut u8,
+    pairs: &mut u16,
 ) -> u16
     ensures { λ r. ⌜ r ≡ refusalNumber (subtypeOf (limitsOf parts depth) (now (file .entry)) a b) ⌝ }
     ensures { λ _. ⌜ now (yes .exit) ≡ yesAfter (now (yes .entry)) (subtypeOf (limitsOf parts depth) (now (file .entry)) a b) ⌝ }
-    ensures { λ r. ⌜ Answers (limitsOf parts depth) (now (file .entry)) a b r (now (yes .entry)) (now (yes .exit)) ⌝ }
+    ensures { λ _. ⌜ now (pairs .exit) ≡ pairsOf (subtypeOf (limitsOf parts depth) (now (file .entry)) a b) ⌝ }
+    ensures { λ r. ⌜ Answers (limitsOf parts depth) (now (file .entry)) a b r (now (yes .entry)) (now (yes .exit)) (now (pairs .exit)) ⌝ }
 {
     let answer = subtyping::question::subtype(file, Limits { parts, depth }, a, b);
     match answer {
-        Answer::Refused(number) => number,
-        Answer::Yes => {
+        Answer::Refused(number) => {
+            *pairs = 0;
+            number
+        }
+        Answer::Yes(compared) => {
             *yes = 1;
+            *pairs = compared;
             0
         }
-        Answer::No => {
+        Answer::No(compared) => {
             *yes = 0;
+            *pairs = compared;
             0
         }
     }
 }
 
-// Checks a file: 0 where it is accepted, or the number under which it is refused, with the step and the place of the answer. `rows` and
-// `work` are as `typing::check::check` leaves them.
+// Checks a file: 0 where it is accepted, or the number under which it is refused, with the step and the place of the answer, and how many
+// pairs of types its subtype questions compared. `rows` and `work` are as `typing::check::check` leaves them.
 #[no_mangle]
 pub extern "C" fn oat_check(
     file: &[u8],
@@ -57,12 +64,14 @@ pub extern "C" fn oat_check(
     work: &mut [u16],
     step: &mut u16,
     place: &mut u16,
+    pairs: &mut u32,
 ) -> u16
-    ensures { λ r. ⌜ Checked (limitsOf parts depth) (now (file .entry)) (now (rows .entry)) (now (work .entry)) (now (rows .exit)) (now (work .exit)) (record { number = r; step = now (step .exit); place = now (place .exit) }) ⌝ }
-    ensures { λ r. ⌜ Demands (limitsOf parts depth) (now (file .entry)) (now (rows .entry)) (now (work .entry)) (now (rows .exit)) (record { number = r; step = now (step .exit); place = now (place .exit) }) ⌝ }
+    ensures { λ r. ⌜ Checked (limitsOf parts depth) (now (file .entry)) (now (rows .entry)) (now (work .entry)) (now (rows .exit)) (now (work .exit)) (record { number = r; step = now (step .exit); place = now (place .exit); pairs = now (pairs .exit) }) ⌝ }
+    ensures { λ r. ⌜ Demands (limitsOf parts depth) (now (file .entry)) (now (rows .entry)) (now (work .entry)) (now (rows .exit)) (record { number = r; step = now (step .exit); place = now (place .exit); pairs = now (pairs .exit) }) ⌝ }
 {
     let answer = typing::check::check(file, Limits { parts, depth }, rows, work);
     *step = answer.step;
     *place = answer.place;
+    *pairs = answer.pairs;
     answer.number
 }

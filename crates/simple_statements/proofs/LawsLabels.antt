@@ -16,7 +16,7 @@ use Rattle.typing_rules.specs.Contexts.{Scope, binds, inner, isFresh, Context}
 use Rattle.typing_rules.specs.Labels.{Result, marks, nothing, Label}
 use Rattle.typing_rules.specs.Rules.{both}
 use Rattle.typing_rules.specs.Derivations.{isEmpty}
-use Rattle.typing_rules.specs.Judge.{ok, markedAs, isKind, referred, isBelow, argumentsBelow, judge, judges, Done, assignsTo, executeVars, judgeCondition, execute, executeStep, executeBlock, executeAll}
+use Rattle.typing_rules.specs.Judge.{ok, markedAs, isKind, referred, isBelow, argumentsBelow, judge, judges, Done, assignsTo, executeVars, judgeCondition, execute, executeStep, executeBlock, executeAll, executing, executingVars, judgingCondition}
 use Rattle.typing_rules.specs.Check.{nextResult}
 use Rattle.typing_rules.proofs.Endless.{while-most}
 use Rattle.typing_rules.proofs.LawsOutcome.{ok-is, then-ok, needs-ok}
@@ -107,7 +107,7 @@ for-run {L = L} {N = N} {O = O} l M m n o =
 
 module _ (T : Tables) (C : Context ℕ) where
   vars-labels : (vs : Vars) (n : ℕ) (Γ Δ : Scope ℕ) (L : List (Label ℕ)) → executeVars T C vs n Γ ≡ ok Δ L → Run (sizeVars vs) L
-  unfolding executeVars
+  unfolding executingVars
   vars-labels noVar n Γ Δ L j = ok-is (λ Δ L. Run 0 L) j run-none
   vars-labels (nextVar x a vs) n Γ Δ L j =
       then-ok (judge T C a (n + 1) Γ) _ j λ t M i k1.
@@ -124,7 +124,7 @@ module _ (T : Tables) (C : Context ℕ) where
 
   pub condition-long : (c : Condition) (m n : ℕ) (Γ Δ : Scope ℕ) (L : List (Label ℕ)) → judgeCondition T C c m n Γ ≡ ok Δ L
       → length L ≡ sizeCondition c
-  unfolding judgeCondition
+  unfolding judgingCondition
   condition-long noCondition m n Γ Δ L j = ok-is (λ Δ L. length L ≡ 1) j refl
   condition-long (condition a) m n Γ Δ L j =
       then-ok (judge T C a m Γ) _ j λ t M i k1.
@@ -133,7 +133,7 @@ module _ (T : Tables) (C : Context ℕ) where
 
   module _ (rt : ℕ) where
     mutual
-      unfolding execute
+      unfolding executing
 
       stmt-labels : (last : Bool) (s : Stmt) (n : ℕ) (Γ : Scope ℕ) (d : Done) (L : List (Label ℕ)) → execute T C rt last s n Γ ≡ ok d L → DoneMarked (sizeStmt s) d L
       stmt-labels last (assign g a) n Γ d L j =

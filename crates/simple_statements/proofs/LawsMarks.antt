@@ -42,8 +42,8 @@ goes-on-marked p h = rw (ne-eqb p 1 h) refl
 pub answer-is : {i j : Judgement} (a : At) → i ≡ j → _≡_ {A = Judged} (record { judgement = i; at = a }) (record { judgement = j; at = a })
 answer-is a e = ap (λ x. record { judgement = x; at = a }) e
 
-pub judged-as : {i j : Judgement} {n s : ℕ} {r : Judged} → i ≡ j → AnswerIs i n s r → AnswerIs j n s r
-judged-as {n = n} {s = s} {r = r} e a = subst (λ x. AnswerIs x n s r) e a
+pub judged-as : {i j : Judgement} {n s k : ℕ} {r : Judged} → i ≡ j → AnswerIs i n s k r → AnswerIs j n s k r
+judged-as {n = n} {s = s} {k = k} {r = r} e a = subst (λ x. AnswerIs x n s k r) e a
 
 -- the node `true`, by its kind
 true-kind : (T : Tables) (n : ℕ) (a : Expr) → Stands T n a → isTrue a ≡ eqb (nodeAt T n .kind) 11
@@ -135,11 +135,11 @@ module _ {F : List ℕ} {S : Sections} {X : List ℕ} {base : ℕ} where
       }
 
   -- an accepted statement with the mark p, the scope Δ of the height h after it
-  pub rule-marked : {L : List (Label ℕ)} {start n k j m s h p : ℕ} {R W R₁ W₁ K₁ R′ : List ℕ} {r : Judged} {Γ Δ : Scope ℕ} → n < S .nodes
-      → After F S X base L (n + 1) k s h R W R₁ W₁ K₁ → AnswerIs (marked p) m h r → m ≡ n + 1 + k → j ≡ 1 + k
+  pub rule-marked : {L : List (Label ℕ)} {start n k j m s h p i : ℕ} {R W R₁ W₁ K₁ R′ : List ℕ} {r : Judged} {Γ Δ : Scope ℕ} → n < S .nodes
+      → After F S X base L (n + 1) k s h R W R₁ W₁ K₁ → AnswerIs (marked p) m h i r → m ≡ n + 1 + k → j ≡ 1 + k
       → R′ ≡ withRow R₁ n p 65535 → s ≤ h → h ≤ s + j → Holds (tablesOf F S) W₁ base start h Δ
       → Marking F S X base start n j s R W R′ W₁ K₁ r (done p Δ) (markedAs p Γ Δ ∷ L)
-  rule-marked {L} {start} {n} {k} {j} {m} {s} {h} {p} {R} {W} {R₁} {W₁} {K₁} {R′} {r} {Γ} {Δ} w a er em ej eR low high scoped =
+  rule-marked {L} {start} {n} {k} {j} {m} {s} {h} {p} {R = R} {W} {R₁} {W₁} {K₁} {R′} {r} {Γ} {Δ} w a er em ej eR low high scoped =
       let eh : r .at .scope ≡ h = er .scope in
       record {
         mark = er .judged;
@@ -153,7 +153,7 @@ module _ {F : List ℕ} {S : Sections} {X : List ℕ} {base : ℕ} where
       }
 
   -- where it binds nothing in the scope after it
-  pub rule-left : {L : List (Label ℕ)} {start n k j m s p : ℕ} {R W R₁ W₁ K₁ R′ : List ℕ} {r : Judged} {Γ Δ : Scope ℕ} → n < S .nodes
-      → After F S X base L (n + 1) k s s R W R₁ W₁ K₁ → AnswerIs (marked p) m s r → m ≡ n + 1 + k → j ≡ 1 + k
+  pub rule-left : {L : List (Label ℕ)} {start n k j m s p i : ℕ} {R W R₁ W₁ K₁ R′ : List ℕ} {r : Judged} {Γ Δ : Scope ℕ} → n < S .nodes
+      → After F S X base L (n + 1) k s s R W R₁ W₁ K₁ → AnswerIs (marked p) m s i r → m ≡ n + 1 + k → j ≡ 1 + k
       → R′ ≡ withRow R₁ n p 65535 → Holds (tablesOf F S) W base start s Δ → Marking F S X base start n j s R W R′ W₁ K₁ r (done p Δ) (markedAs p Γ Δ ∷ L)
   rule-left {s = s} w a er em ej eR d = rule-marked w a er em ej eR (omega arith) (omega arith) (holds-same d (a .same))

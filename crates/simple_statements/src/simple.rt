@@ -4,6 +4,7 @@ use answers::answer::At;
 use answers::answer::Frame;
 use answers::answer::Judged;
 use answers::answer::Judgement;
+use answers::answer::counting;
 use answers::answer::goes_on;
 use answers::answer::refused;
 use answers::leaves::Expected;
@@ -64,9 +65,9 @@ pub fn assignment(
     chains: &mut Chains,
     at: At,
 ) -> Judged
-    requires { ⌜ ReadyStmt (now file) (frame .sections) (now index) (now rows) (now work) (now chains) (frame .base) (at .node) (at .scope) ⌝ }
+    requires { ⌜ ReadyStmt (now file) (frame .sections) (now index) (now rows) (now work) (now chains) (frame .base) (at .node) (at .scope) (at .pairs) ⌝ }
     requires { ⌜ nodeAt (tablesOf (now file) (frame .sections)) (at .node) .kind ≡ 30 ⌝ }
-    ensures { λ r. ⌜ ToldAny (now (file .entry)) (frame .sections) (now (index .entry)) (now (rows .entry)) (now (work .entry)) (frame .base) (at .node) (at .scope) (now (rows .exit)) (now (work .exit)) (now (chains .exit)) r ⌝ }
+    ensures { λ r. ⌜ ToldAny (now (file .entry)) (frame .sections) (now (index .entry)) (now (rows .entry)) (now (work .entry)) (frame .base) (at .node) (at .scope) (at .pairs) (now (rows .exit)) (now (work .exit)) (now (chains .exit)) r ⌝ }
 {
     if !assigns(
         file,
@@ -110,8 +111,10 @@ pub fn assignment(
     let Judgement::Typed(u) = second else {
         return two;
     };
-    if !below(file, frame.sections, index, u, t) {
-        return refused(11, at.node, two.at);
+    let asked = below(file, frame.sections, index, u, t);
+    let end = counting(two.at, asked);
+    if !asked.holds {
+        return refused(11, at.node, end);
     }
     ends(
         rows,
@@ -119,7 +122,7 @@ pub fn assignment(
         0,
         At {
             scope: at.scope,
-            ..two.at
+            ..end
         },
     )
 }
@@ -135,9 +138,9 @@ pub fn variable(
     at: At,
     start: usize,
 ) -> Judged
-    requires { ⌜ ReadyStmt (now file) (frame .sections) (now index) (now rows) (now work) (now chains) (frame .base) (at .node) (at .scope) ⌝ }
+    requires { ⌜ ReadyStmt (now file) (frame .sections) (now index) (now rows) (now work) (now chains) (frame .base) (at .node) (at .scope) (at .pairs) ⌝ }
     requires { ⌜ nodeAt (tablesOf (now file) (frame .sections)) (at .node) .kind ≡ 31 ⌝ }
-    ensures { λ r. ⌜ ToldVar (now (file .entry)) (frame .sections) (now (index .entry)) (now (rows .entry)) (now (work .entry)) (frame .base) start (at .node) (at .scope) (now (rows .exit)) (now (work .exit)) (now (chains .exit)) r ⌝ }
+    ensures { λ r. ⌜ ToldVar (now (file .entry)) (frame .sections) (now (index .entry)) (now (rows .entry)) (now (work .entry)) (frame .base) start (at .node) (at .scope) (at .pairs) (now (rows .exit)) (now (work .exit)) (now (chains .exit)) r ⌝ }
 {
     let one = expression(
         file,
@@ -189,8 +192,8 @@ pub fn variables(
     count: usize,
     start: usize,
 ) -> Judged
-    requires { ⌜ ReadyVars (now file) (frame .sections) (now index) (now rows) (now work) (now chains) (frame .base) start (at .node) (at .scope) count ⌝ }
-    ensures { λ r. ⌜ ToldVars (now (file .entry)) (frame .sections) (now (index .entry)) (now (rows .entry)) (now (work .entry)) (frame .base) start (at .node) (at .scope) count (now (rows .exit)) (now (work .exit)) (now (chains .exit)) r ⌝ }
+    requires { ⌜ ReadyVars (now file) (frame .sections) (now index) (now rows) (now work) (now chains) (frame .base) start (at .node) (at .scope) (at .pairs) count ⌝ }
+    ensures { λ r. ⌜ ToldVars (now (file .entry)) (frame .sections) (now (index .entry)) (now (rows .entry)) (now (work .entry)) (frame .base) start (at .node) (at .scope) (at .pairs) count (now (rows .exit)) (now (work .exit)) (now (chains .exit)) r ⌝ }
 {
     let mut here = at;
     let mut i = 0;
@@ -217,8 +220,8 @@ pub fn condition(
     at: At,
     parent: usize,
 ) -> Judged
-    requires { ⌜ ReadyCondition (now file) (frame .sections) (now index) (now rows) (now work) (now chains) (frame .base) (at .node) (at .scope) ⌝ }
-    ensures { λ r. ⌜ ToldCondition (now (file .entry)) (frame .sections) (now (index .entry)) (now (rows .entry)) (now (work .entry)) (frame .base) (at .node) (at .scope) parent (now (rows .exit)) (now (work .exit)) (now (chains .exit)) r ⌝ }
+    requires { ⌜ ReadyCondition (now file) (frame .sections) (now index) (now rows) (now work) (now chains) (frame .base) (at .node) (at .scope) (at .pairs) ⌝ }
+    ensures { λ r. ⌜ ToldCondition (now (file .entry)) (frame .sections) (now (index .entry)) (now (rows .entry)) (now (work .entry)) (frame .base) (at .node) (at .scope) (at .pairs) parent (now (rows .exit)) (now (work .exit)) (now (chains .exit)) r ⌝ }
 {
     if node_kind(file, frame.sections, at.node) == 40 {
         return ends(
@@ -252,9 +255,9 @@ pub fn return_value(
     chains: &mut Chains,
     at: At,
 ) -> Judged
-    requires { ⌜ ReadyStmt (now file) (frame .sections) (now index) (now rows) (now work) (now chains) (frame .base) (at .node) (at .scope) × ((frame .result) < (frame .sections) .types) ⌝ }
+    requires { ⌜ ReadyStmt (now file) (frame .sections) (now index) (now rows) (now work) (now chains) (frame .base) (at .node) (at .scope) (at .pairs) × ((frame .result) < (frame .sections) .types) ⌝ }
     requires { ⌜ nodeAt (tablesOf (now file) (frame .sections)) (at .node) .kind ≡ 32 ⌝ }
-    ensures { λ r. ⌜ ToldAnywhere (now (file .entry)) (frame .sections) (now (index .entry)) (now (rows .entry)) (now (work .entry)) (frame .base) (frame .result) (at .node) (at .scope) (now (rows .exit)) (now (work .exit)) (now (chains .exit)) r ⌝ }
+    ensures { λ r. ⌜ ToldAnywhere (now (file .entry)) (frame .sections) (now (index .entry)) (now (rows .entry)) (now (work .entry)) (frame .base) (frame .result) (at .node) (at .scope) (at .pairs) (now (rows .exit)) (now (work .exit)) (now (chains .exit)) r ⌝ }
 {
     if type_kind(file, frame.sections, frame.result) == 3 {
         return refused(13, at.node, at);
@@ -275,8 +278,10 @@ pub fn return_value(
     let Judgement::Typed(t) = judgement else {
         return one;
     };
-    if !below(file, frame.sections, index, t, frame.result) {
-        return refused(11, at.node, one.at);
+    let asked = below(file, frame.sections, index, t, frame.result);
+    let end = counting(one.at, asked);
+    if !asked.holds {
+        return refused(11, at.node, end);
     }
     ends(
         rows,
@@ -284,7 +289,7 @@ pub fn return_value(
         1,
         At {
             scope: at.scope,
-            ..one.at
+            ..end
         },
     )
 }
@@ -299,9 +304,9 @@ pub fn return_void(
     chains: &mut Chains,
     at: At,
 ) -> Judged
-    requires { ⌜ ReadyStmt (now file) (frame .sections) (now index) (now rows) (now work) (now chains) (frame .base) (at .node) (at .scope) × ((frame .result) < (frame .sections) .types) ⌝ }
+    requires { ⌜ ReadyStmt (now file) (frame .sections) (now index) (now rows) (now work) (now chains) (frame .base) (at .node) (at .scope) (at .pairs) × ((frame .result) < (frame .sections) .types) ⌝ }
     requires { ⌜ nodeAt (tablesOf (now file) (frame .sections)) (at .node) .kind ≡ 33 ⌝ }
-    ensures { λ r. ⌜ ToldAnywhere (now (file .entry)) (frame .sections) (now (index .entry)) (now (rows .entry)) (now (work .entry)) (frame .base) (frame .result) (at .node) (at .scope) (now (rows .exit)) (now (work .exit)) (now (chains .exit)) r ⌝ }
+    ensures { λ r. ⌜ ToldAnywhere (now (file .entry)) (frame .sections) (now (index .entry)) (now (rows .entry)) (now (work .entry)) (frame .base) (frame .result) (at .node) (at .scope) (at .pairs) (now (rows .exit)) (now (work .exit)) (now (chains .exit)) r ⌝ }
 {
     if type_kind(file, frame.sections, frame.result) != 3 {
         return refused(13, at.node, at);
@@ -327,9 +332,9 @@ pub fn call_statement(
     chains: &mut Chains,
     at: At,
 ) -> Judged
-    requires { ⌜ ReadyStmt (now file) (frame .sections) (now index) (now rows) (now work) (now chains) (frame .base) (at .node) (at .scope) ⌝ }
+    requires { ⌜ ReadyStmt (now file) (frame .sections) (now index) (now rows) (now work) (now chains) (frame .base) (at .node) (at .scope) (at .pairs) ⌝ }
     requires { ⌜ nodeAt (tablesOf (now file) (frame .sections)) (at .node) .kind ≡ 34 ⌝ }
-    ensures { λ r. ⌜ ToldAny (now (file .entry)) (frame .sections) (now (index .entry)) (now (rows .entry)) (now (work .entry)) (frame .base) (at .node) (at .scope) (now (rows .exit)) (now (work .exit)) (now (chains .exit)) r ⌝ }
+    ensures { λ r. ⌜ ToldAny (now (file .entry)) (frame .sections) (now (index .entry)) (now (rows .entry)) (now (work .entry)) (frame .base) (at .node) (at .scope) (at .pairs) (now (rows .exit)) (now (work .exit)) (now (chains .exit)) r ⌝ }
 {
     let one = expression(
         file,

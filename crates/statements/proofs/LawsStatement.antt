@@ -31,7 +31,7 @@ last-kind k l m f30 f31 f32 f33 f34 f35 f36 f37 =
     omega (arith, b, m)
 
 -- the kind of a statement that is ready, as the dispatcher reads it
-module _ {F : List ℕ} {S : Sections} {X R W K : List ℕ} {base n s : ℕ} (g : ReadyStmt F S X R W K base n s) where
+module _ {F : List ℕ} {S : Sections} {X R W K : List ℕ} {base n s π : ℕ} (g : ReadyStmt F S X R W K base n s π) where
   pub stmt-node : Has F S n (S .nodes)
   stmt-node = has-node (g .fine .good-tables) (g .within)
 
@@ -51,15 +51,15 @@ module _ {F : List ℕ} {S : Sections} {X R W K : List ℕ} {base n s : ℕ} (g 
     while-kind f30 f31 f32 f33 f34 f35 f36 f37 = stmt-kind-at (last-kind k stmt-kind-low stmt-kind-high f30 f31 f32 f33 f34 f35 f36 f37)
 
 -- a statement whose answer holds for more than its block, its place or its return type
-module _ {F : List ℕ} {S : Sections} {X R W R₁ W₁ K₁ : List ℕ} {base start rt n s : ℕ} {last : Bool} {r : Judged} where
-  pub var-told : ToldVar F S X R W base start n s R₁ W₁ K₁ r → ToldStmt F S X R W base start rt last n s R₁ W₁ K₁ r
+module _ {F : List ℕ} {S : Sections} {X R W R₁ W₁ K₁ : List ℕ} {base start rt n s π : ℕ} {last : Bool} {r : Judged} where
+  pub var-told : ToldVar F S X R W base start n s π R₁ W₁ K₁ r → ToldStmt F S X R W base start rt last n s π R₁ W₁ K₁ r
   var-told t = record { tells = t .tells rt last }
 
-  pub while-told : ToldWhile F S X R W base rt last n s R₁ W₁ K₁ r → ToldStmt F S X R W base start rt last n s R₁ W₁ K₁ r
+  pub while-told : ToldWhile F S X R W base rt last n s π R₁ W₁ K₁ r → ToldStmt F S X R W base start rt last n s π R₁ W₁ K₁ r
   while-told t = record { tells = t .tells start }
 
-  pub told-anywhere : ToldAnywhere F S X R W base rt n s R₁ W₁ K₁ r → ToldStmt F S X R W base start rt last n s R₁ W₁ K₁ r
+  pub told-anywhere : ToldAnywhere F S X R W base rt n s π R₁ W₁ K₁ r → ToldStmt F S X R W base start rt last n s π R₁ W₁ K₁ r
   told-anywhere t = record { tells = t .tells start last }
 
-  pub any-told : ToldAny F S X R W base n s R₁ W₁ K₁ r → ToldStmt F S X R W base start rt last n s R₁ W₁ K₁ r
+  pub any-told : ToldAny F S X R W base n s π R₁ W₁ K₁ r → ToldStmt F S X R W base start rt last n s π R₁ W₁ K₁ r
   any-told t = told-anywhere (t .tells rt)

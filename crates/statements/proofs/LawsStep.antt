@@ -11,7 +11,7 @@ use Rattle.oat.specs.Syntax.{Stmt, Step, noStep, step, sizeStep}
 use Rattle.oat.specs.Nodes.{Node, StmtStands, StepStands}
 use Rattle.typing_rules.specs.Contexts.{Scope}
 use Rattle.typing_rules.specs.Labels.{unlabelled}
-use Rattle.typing_rules.specs.Judge.{executeStep}
+use Rattle.typing_rules.specs.Judge.{executingStep}
 use Rattle.file_sections.specs.declared.Sections.{Sections}
 use Rattle.file_sections.specs.Layout.{Has, tablesOf}
 use Rattle.file_sections.proofs.LawsFrames.{same-refl}
@@ -19,15 +19,15 @@ use Rattle.bindings.specs.Bindings.{Scoped, Holds}
 use Rattle.bindings.proofs.LawsBindings.{holds-some}
 use Rattle.answers.specs.declared.answer.Judgement.the-variants.{GoesOn, Refused}
 use Rattle.answers.specs.declared.answer.Judged.{Judged}
-use Rattle.answers.specs.Answers.{withRow, AnswerIs}
-use Rattle.expressions.specs.Contract.{contextOf, Fine, RowsAt, After, Meets, accepts}
-use Rattle.expressions.proofs.LawsMeets.{Unrefused, stops, passes, goes-on, part-of}
+use Rattle.answers.specs.Answers.{withRow, Refuses, AnswerIs}
+use Rattle.expressions.specs.Contract.{Fine, RowsAt, After, Meets, Few}
+use Rattle.expressions.proofs.LawsMeets.{Unrefused, accepts-now, stops, passes, goes-on, part-of}
 use Rattle.expressions.proofs.LawsAfter.{row-length, row-other, row-result, row-binder, fine-rows}
 use Rattle.expressions.proofs.LawsChild.{has-node}
 use Rattle.simple_statements.specs.Contract.{markOf, marked, ReadyStmt, ToldStmt}
 use Rattle.simple_statements.proofs.LawsLabels.{stmt-kind, stmt-mark}
 use Rattle.simple_statements.proofs.LawsMarks.{mark-fits}
-use Rattle.statements.specs.Contract.{Blocking, ReadyStep, ToldStep}
+use Rattle.statements.specs.Contract.{Blocking, stepIn, ReadyStep, ToldStep}
 use Rattle.statements.proofs.LawsParts.{mark-is, part-no, after-left}
 
 -- a step by the kind of its node
@@ -57,12 +57,12 @@ after-plain {R = R} {W = W} {n = n} h f =
     }
 
 -- the answer to a step that stands at n, as the definition has it
-abbrev AnswersStep : List ℕ → Sections → (X R W : List ℕ) → (base start rt n s : ℕ) → (R′ W′ K′ : List ℕ) → Judged → Step → Type 0
-AnswersStep F S X R W base start rt n s R′ W′ K′ r z =
+abbrev AnswersStep : List ℕ → Sections → (X R W : List ℕ) → (base start rt n s π : ℕ) → (R′ W′ K′ : List ℕ) → Judged → Step → Type 0
+AnswersStep F S X R W base start rt n s π R′ W′ K′ r z =
     (Γ : Scope ℕ) → Holds (tablesOf F S) W base start s Γ
-    → Meets (Blocking F S X base n (sizeStep z) s R W R′ W′ K′ r) r (executeStep (tablesOf F S) (contextOf (tablesOf F S) W base) rt z n Γ)
+    → Meets (Blocking F S X base n (sizeStep z) s R W R′ W′ K′ r) r π (stepIn F S W base rt z n Γ .out) (stepIn F S W base rt z n Γ .pairs)
 
-module _ {F : List ℕ} {S : Sections} {X R W K : List ℕ} {base start rt n s : ℕ} (g : ReadyStep F S X R W K base start rt n s) where
+module _ {F : List ℕ} {S : Sections} {X R W K : List ℕ} {base start rt n s π : ℕ} (g : ReadyStep F S X R W K base start rt n s π) where
   pub step-node : Has F S n (S .nodes)
   step-node = has-node (g .fine .good-tables) (g .within)
 
@@ -71,19 +71,19 @@ module _ {F : List ℕ} {S : Sections} {X R W K : List ℕ} {base start rt n s :
 
   module _ {k : ℕ} (ek : k ≡ nodeAt (tablesOf F S) n .kind) where
     -- 40
-    pub step-absent : {r : Judged} {R′ : List ℕ} → k ≡ 40 → AnswerIs (marked 0) (n + 1) s r → R′ ≡ withRow R n 0 65535
-        → ToldStep F S X R W base start rt n s R′ W K r
-    unfolding executeStep
+    pub step-absent : {r : Judged} {R′ : List ℕ} → k ≡ 40 → AnswerIs (marked 0) (n + 1) s π r → R′ ≡ withRow R n 0 65535
+        → ToldStep F S X R W base start rt n s π R′ W K r
+    unfolding executingStep
     step-absent {r} {R′} e er eR =
         record {
-          tells = on-no-step (AnswersStep F S X R W base start rt n s R′ W K r)
-              (λ h Γ d. accepts _ _
+          tells = on-no-step (AnswersStep F S X R W base start rt n s π R′ W K r)
+              (λ h Γ d. accepts-now _ _
               (record {
                 mark = er .judged;
                 next = er .next;
                 scope = er .scope;
                 after = subst (λ x. After F S X base (unlabelled ∷ []) n 1 s s R W x W K) (sym eR) (after-plain (g .within) (g .fine));
-              })) (sym ek ∙ e);
+              }) (er .sum)) (sym ek ∙ e);
         }
 
     -- a statement
@@ -91,32 +91,32 @@ module _ {F : List ℕ} {S : Sections} {X R W K : List ℕ} {base start rt n s :
       not-absent : nodeAt (tablesOf F S) n .kind ≡ 40 → ⊥
       not-absent e = f (ek ∙ e)
 
-      pub step-first : ReadyStmt F S X R W K base n s × (rt < S .types)
+      pub step-first : ReadyStmt F S X R W K base n s π × (rt < S .types)
       step-first = (
-        on-step (λ z. s + sizeStep z ≤ S .«built_ins» + S .nodes → ReadyStmt F S X R W K base n s)
-            (λ y h l. record { fine = g .fine; within = g .within; tree = y; stands = h; room = l }) not-absent (g .tree) (g .stands) (g .room),
+        on-step (λ z. s + sizeStep z ≤ S .«built_ins» + S .nodes → Few π (sizeStep z) → ReadyStmt F S X R W K base n s π)
+            (λ y h l few. record { fine = g .fine; within = g .within; tree = y; stands = h; room = l; few = few }) not-absent (g .tree) (g .stands) (g .room) (g .few),
         g .returned,
       )
 
-      module _ {R₁ W₁ K₁ : List ℕ} {r₁ : Judged} (m₁ : ToldStmt F S X R W base start rt false n s R₁ W₁ K₁ r₁) where
-        pub step-no : {p q : ℕ} → r₁ .judgement ≡ Refused p q → ToldStep F S X R W base start rt n s R₁ W₁ K₁ r₁
-        unfolding executeStep
+      module _ {R₁ W₁ K₁ : List ℕ} {r₁ : Judged} (m₁ : ToldStmt F S X R W base start rt false n s π R₁ W₁ K₁ r₁) where
+        pub step-no : {p q : ℕ} → r₁ .judgement ≡ Refused p q → ToldStep F S X R W base start rt n s π R₁ W₁ K₁ r₁
+        unfolding executingStep
         step-no e =
             record {
-              tells = on-step (AnswersStep F S X R W base start rt n s R₁ W₁ K₁ r₁)
-                  (λ y h Γ d. part-no _ _ (λ v L p. (v .mark, p .mark)) e (m₁ .tells y h Γ d)) not-absent;
+              tells = on-step (AnswersStep F S X R W base start rt n s π R₁ W₁ K₁ r₁)
+                  (λ y h Γ d. part-no _ _ _ (λ v L p. (v .mark, p .mark)) e (m₁ .tells y h Γ d)) not-absent;
             }
 
         module _ (u : Unrefused r₁) where
-          pub step-returns : {r : Judged} {m : ℕ} → m ≡ markOf (r₁ .judgement) → (m ≡ 0 → ⊥) → r .judgement ≡ Refused 14 n
-              → ToldStep F S X R W base start rt n s R₁ W₁ K₁ r
-          unfolding executeStep
+          pub step-returns : {r : Judged} {m : ℕ} → m ≡ markOf (r₁ .judgement) → (m ≡ 0 → ⊥) → Refuses r 14 n (r₁ .at .pairs)
+              → ToldStep F S X R W base start rt n s π R₁ W₁ K₁ r
+          unfolding executingStep
           step-returns {r} em z e =
               record {
-                tells = on-step (AnswersStep F S X R W base start rt n s R₁ W₁ K₁ r)
+                tells = on-step (AnswersStep F S X R W base start rt n s π R₁ W₁ K₁ r)
                     (λ y h Γ d.
                     goes-on _ _ u (m₁ .tells y h Γ d) λ v L q p.
-                    stops _ 14 n _ (ne-eqb _ _ (λ i. z (em ∙ mark-is _ _ (stmt-mark _ _ rt false y n _ v L q) (p .mark) ∙ i))) e) not-absent;
+                    stops _ 14 n _ _ (ne-eqb _ _ (λ i. z (em ∙ mark-is _ _ (stmt-mark _ _ rt false y n _ v L q) (p .mark) ∙ i))) e) not-absent;
               }
 
           pub step-leaves : Scoped F S W₁ K₁ (r₁ .at .scope) × (s ≤ r₁ .at .scope)
@@ -128,19 +128,19 @@ module _ {F : List ℕ} {S : Sections} {X R W K : List ℕ} {base start rt n s :
               (p .after .fine .scoped, p .low)) not-absent (g .tree) (g .stands)
 
           pub step-ok : {r : Judged} {K₂ : List ℕ} {m : ℕ} → m ≡ markOf (r₁ .judgement) → m ≡ 0 → Scoped F S W₁ K₂ s
-              → AnswerIs GoesOn (r₁ .at .node) s r → ToldStep F S X R W base start rt n s R₁ W₁ K₂ r
-          unfolding executeStep
+              → AnswerIs GoesOn (r₁ .at .node) s (r₁ .at .pairs) r → ToldStep F S X R W base start rt n s π R₁ W₁ K₂ r
+          unfolding executingStep
           step-ok {r} {K₂} em z c er =
               record {
-                tells = on-step (AnswersStep F S X R W base start rt n s R₁ W₁ K₂ r)
+                tells = on-step (AnswersStep F S X R W base start rt n s π R₁ W₁ K₂ r)
                     (λ y h Γ d.
                     goes-on _ _ u (m₁ .tells y h Γ d) λ v L q p.
                     passes _ 14 n _ (eq-eqb _ _ (sym (mark-is _ _ (stmt-mark _ _ rt false y n _ v L q) (p .mark)) ∙ sym em ∙ z))
-                    (accepts _ _
+                    (accepts-now _ _
                     (record {
                       mark = er .judged;
                       next = er .next ∙ p .next;
                       scope = er .scope;
                       after = after-left (g .fine .above) (p .after) c;
-                    }))) not-absent;
+                    }) (er .sum))) not-absent;
               }

@@ -4,6 +4,7 @@ use answers::answer::At;
 use answers::answer::Frame;
 use answers::answer::Judged;
 use answers::answer::Judgement;
+use answers::answer::counting;
 use answers::answer::goes_on;
 use answers::answer::refused;
 use bindings::Chains;
@@ -46,8 +47,8 @@ fn statement(
     last: bool,
     start: usize,
 ) -> Judged
-    requires { ⌜ ReadyStmt (now file) (frame .sections) (now index) (now rows) (now work) (now chains) (frame .base) (at .node) (at .scope) × ((frame .result) < (frame .sections) .types) ⌝ }
-    ensures { λ r. ⌜ ToldStmt (now (file .entry)) (frame .sections) (now (index .entry)) (now (rows .entry)) (now (work .entry)) (frame .base) start (frame .result) last (at .node) (at .scope) (now (rows .exit)) (now (work .exit)) (now (chains .exit)) r ⌝ }
+    requires { ⌜ ReadyStmt (now file) (frame .sections) (now index) (now rows) (now work) (now chains) (frame .base) (at .node) (at .scope) (at .pairs) × ((frame .result) < (frame .sections) .types) ⌝ }
+    ensures { λ r. ⌜ ToldStmt (now (file .entry)) (frame .sections) (now (index .entry)) (now (rows .entry)) (now (work .entry)) (frame .base) start (frame .result) last (at .node) (at .scope) (at .pairs) (now (rows .exit)) (now (work .exit)) (now (chains .exit)) r ⌝ }
 {
     match node_kind(file, frame.sections, at.node) {
         30 => assignment(file, frame, index, rows, work, chains, at),
@@ -76,8 +77,8 @@ fn statements(
     parent: usize,
     start: usize,
 ) -> Judged
-    requires { ⌜ ReadyStmts (now file) (frame .sections) (now index) (now rows) (now work) (now chains) (frame .base) start (frame .result) (at .node) (at .scope) count ⌝ }
-    ensures { λ r. ⌜ ToldStmts (now (file .entry)) (frame .sections) (now (index .entry)) (now (rows .entry)) (now (work .entry)) (frame .base) start (frame .result) (at .node) (at .scope) count parent (now (rows .exit)) (now (work .exit)) (now (chains .exit)) r ⌝ }
+    requires { ⌜ ReadyStmts (now file) (frame .sections) (now index) (now rows) (now work) (now chains) (frame .base) start (frame .result) (at .node) (at .scope) (at .pairs) count ⌝ }
+    ensures { λ r. ⌜ ToldStmts (now (file .entry)) (frame .sections) (now (index .entry)) (now (rows .entry)) (now (work .entry)) (frame .base) start (frame .result) (at .node) (at .scope) (at .pairs) count parent (now (rows .exit)) (now (work .exit)) (now (chains .exit)) r ⌝ }
 {
     let mut here = at;
     let mut previous = parent;
@@ -112,8 +113,8 @@ pub fn block(
     at: At,
     start: usize,
 ) -> Judged
-    requires { ⌜ ReadyBlock (now file) (frame .sections) (now index) (now rows) (now work) (now chains) (frame .base) start (frame .result) (at .node) (at .scope) ⌝ }
-    ensures { λ r. ⌜ ToldBlock (now (file .entry)) (frame .sections) (now (index .entry)) (now (rows .entry)) (now (work .entry)) (frame .base) start (frame .result) (at .node) (at .scope) (now (rows .exit)) (now (work .exit)) (now (chains .exit)) r ⌝ }
+    requires { ⌜ ReadyBlock (now file) (frame .sections) (now index) (now rows) (now work) (now chains) (frame .base) start (frame .result) (at .node) (at .scope) (at .pairs) ⌝ }
+    ensures { λ r. ⌜ ToldBlock (now (file .entry)) (frame .sections) (now (index .entry)) (now (rows .entry)) (now (work .entry)) (frame .base) start (frame .result) (at .node) (at .scope) (at .pairs) (now (rows .exit)) (now (work .exit)) (now (chains .exit)) r ⌝ }
 {
     let all = statements(
         file,
@@ -157,8 +158,8 @@ fn arms(
     at: At,
     top: usize,
 ) -> Judged
-    requires { ⌜ ReadyArms (now file) (frame .sections) (now index) (now rows) (now work) (now chains) (frame .base) (frame .result) (at .node) (at .scope) top ⌝ }
-    ensures { λ r. ⌜ ToldArms (now (file .entry)) (frame .sections) (now (index .entry)) (now (rows .entry)) (now (work .entry)) (frame .base) (frame .result) (at .node) (at .scope) top (now (rows .exit)) (now (work .exit)) (now (chains .exit)) r ⌝ }
+    requires { ⌜ ReadyArms (now file) (frame .sections) (now index) (now rows) (now work) (now chains) (frame .base) (frame .result) (at .node) (at .scope) top (at .pairs) ⌝ }
+    ensures { λ r. ⌜ ToldArms (now (file .entry)) (frame .sections) (now (index .entry)) (now (rows .entry)) (now (work .entry)) (frame .base) (frame .result) (at .node) (at .scope) top (at .pairs) (now (rows .exit)) (now (work .exit)) (now (chains .exit)) r ⌝ }
 {
     let one = block(
         file,
@@ -208,9 +209,9 @@ fn if_else(
     chains: &mut Chains,
     at: At,
 ) -> Judged
-    requires { ⌜ ReadyStmt (now file) (frame .sections) (now index) (now rows) (now work) (now chains) (frame .base) (at .node) (at .scope) × ((frame .result) < (frame .sections) .types) ⌝ }
+    requires { ⌜ ReadyStmt (now file) (frame .sections) (now index) (now rows) (now work) (now chains) (frame .base) (at .node) (at .scope) (at .pairs) × ((frame .result) < (frame .sections) .types) ⌝ }
     requires { ⌜ nodeAt (tablesOf (now file) (frame .sections)) (at .node) .kind ≡ 35 ⌝ }
-    ensures { λ r. ⌜ ToldAnywhere (now (file .entry)) (frame .sections) (now (index .entry)) (now (rows .entry)) (now (work .entry)) (frame .base) (frame .result) (at .node) (at .scope) (now (rows .exit)) (now (work .exit)) (now (chains .exit)) r ⌝ }
+    ensures { λ r. ⌜ ToldAnywhere (now (file .entry)) (frame .sections) (now (index .entry)) (now (rows .entry)) (now (work .entry)) (frame .base) (frame .result) (at .node) (at .scope) (at .pairs) (now (rows .exit)) (now (work .exit)) (now (chains .exit)) r ⌝ }
 {
     let one = expression(
         file,
@@ -269,9 +270,9 @@ fn if_null(
     chains: &mut Chains,
     at: At,
 ) -> Judged
-    requires { ⌜ ReadyStmt (now file) (frame .sections) (now index) (now rows) (now work) (now chains) (frame .base) (at .node) (at .scope) × ((frame .result) < (frame .sections) .types) ⌝ }
+    requires { ⌜ ReadyStmt (now file) (frame .sections) (now index) (now rows) (now work) (now chains) (frame .base) (at .node) (at .scope) (at .pairs) × ((frame .result) < (frame .sections) .types) ⌝ }
     requires { ⌜ nodeAt (tablesOf (now file) (frame .sections)) (at .node) .kind ≡ 36 ⌝ }
-    ensures { λ r. ⌜ ToldAnywhere (now (file .entry)) (frame .sections) (now (index .entry)) (now (rows .entry)) (now (work .entry)) (frame .base) (frame .result) (at .node) (at .scope) (now (rows .exit)) (now (work .exit)) (now (chains .exit)) r ⌝ }
+    ensures { λ r. ⌜ ToldAnywhere (now (file .entry)) (frame .sections) (now (index .entry)) (now (rows .entry)) (now (work .entry)) (frame .base) (frame .result) (at .node) (at .scope) (at .pairs) (now (rows .exit)) (now (work .exit)) (now (chains .exit)) r ⌝ }
 {
     let one = expression(
         file,
@@ -293,14 +294,11 @@ fn if_null(
         return refused(10, at.node, one.at);
     }
     let t = node_t(file, frame.sections, at.node);
-    if !below(
-        file,
-        frame.sections,
-        index,
-        type_a(file, frame.sections, u),
-        t,
-    ) {
-        return refused(11, at.node, one.at);
+    let referred = type_a(file, frame.sections, u);
+    let asked = below(file, frame.sections, index, referred, t);
+    let tested = counting(one.at, asked);
+    if !asked.holds {
+        return refused(11, at.node, tested);
     }
     bind(file, frame.sections, work, chains, at.scope, at.node, t);
     let both = arms(
@@ -312,7 +310,7 @@ fn if_null(
         chains,
         At {
             scope: at.scope,
-            ..one.at
+            ..tested
         },
         at.scope + 1,
     );
@@ -341,9 +339,9 @@ fn for_loop(
     chains: &mut Chains,
     at: At,
 ) -> Judged
-    requires { ⌜ ReadyStmt (now file) (frame .sections) (now index) (now rows) (now work) (now chains) (frame .base) (at .node) (at .scope) × ((frame .result) < (frame .sections) .types) ⌝ }
+    requires { ⌜ ReadyStmt (now file) (frame .sections) (now index) (now rows) (now work) (now chains) (frame .base) (at .node) (at .scope) (at .pairs) × ((frame .result) < (frame .sections) .types) ⌝ }
     requires { ⌜ nodeAt (tablesOf (now file) (frame .sections)) (at .node) .kind ≡ 37 ⌝ }
-    ensures { λ r. ⌜ ToldAnywhere (now (file .entry)) (frame .sections) (now (index .entry)) (now (rows .entry)) (now (work .entry)) (frame .base) (frame .result) (at .node) (at .scope) (now (rows .exit)) (now (work .exit)) (now (chains .exit)) r ⌝ }
+    ensures { λ r. ⌜ ToldAnywhere (now (file .entry)) (frame .sections) (now (index .entry)) (now (rows .entry)) (now (work .entry)) (frame .base) (frame .result) (at .node) (at .scope) (at .pairs) (now (rows .exit)) (now (work .exit)) (now (chains .exit)) r ⌝ }
 {
     let one = variables(
         file,
@@ -421,8 +419,8 @@ fn turn(
     at: At,
     start: usize,
 ) -> Judged
-    requires { ⌜ ReadyTurn (now file) (frame .sections) (now index) (now rows) (now work) (now chains) (frame .base) start (frame .result) (at .node) (at .scope) ⌝ }
-    ensures { λ r. ⌜ ToldTurn (now (file .entry)) (frame .sections) (now (index .entry)) (now (rows .entry)) (now (work .entry)) (frame .base) start (frame .result) (at .node) (at .scope) (now (rows .exit)) (now (work .exit)) (now (chains .exit)) r ⌝ }
+    requires { ⌜ ReadyTurn (now file) (frame .sections) (now index) (now rows) (now work) (now chains) (frame .base) start (frame .result) (at .node) (at .scope) (at .pairs) ⌝ }
+    ensures { λ r. ⌜ ToldTurn (now (file .entry)) (frame .sections) (now (index .entry)) (now (rows .entry)) (now (work .entry)) (frame .base) start (frame .result) (at .node) (at .scope) (at .pairs) (now (rows .exit)) (now (work .exit)) (now (chains .exit)) r ⌝ }
 {
     let one = step(file, frame, index, rows, work, chains, at, start);
     let judgement = one.judgement;
@@ -455,8 +453,8 @@ fn step(
     at: At,
     start: usize,
 ) -> Judged
-    requires { ⌜ ReadyStep (now file) (frame .sections) (now index) (now rows) (now work) (now chains) (frame .base) start (frame .result) (at .node) (at .scope) ⌝ }
-    ensures { λ r. ⌜ ToldStep (now (file .entry)) (frame .sections) (now (index .entry)) (now (rows .entry)) (now (work .entry)) (frame .base) start (frame .result) (at .node) (at .scope) (now (rows .exit)) (now (work .exit)) (now (chains .exit)) r ⌝ }
+    requires { ⌜ ReadyStep (now file) (frame .sections) (now index) (now rows) (now work) (now chains) (frame .base) start (frame .result) (at .node) (at .scope) (at .pairs) ⌝ }
+    ensures { λ r. ⌜ ToldStep (now (file .entry)) (frame .sections) (now (index .entry)) (now (rows .entry)) (now (work .entry)) (frame .base) start (frame .result) (at .node) (at .scope) (at .pairs) (now (rows .exit)) (now (work .exit)) (now (chains .exit)) r ⌝ }
 {
     if node_kind(file, frame.sections, at.node) == 40 {
         return ends(
@@ -495,9 +493,9 @@ fn while_loop(
     at: At,
     last: bool,
 ) -> Judged
-    requires { ⌜ ReadyStmt (now file) (frame .sections) (now index) (now rows) (now work) (now chains) (frame .base) (at .node) (at .scope) × ((frame .result) < (frame .sections) .types) ⌝ }
+    requires { ⌜ ReadyStmt (now file) (frame .sections) (now index) (now rows) (now work) (now chains) (frame .base) (at .node) (at .scope) (at .pairs) × ((frame .result) < (frame .sections) .types) ⌝ }
     requires { ⌜ nodeAt (tablesOf (now file) (frame .sections)) (at .node) .kind ≡ 38 ⌝ }
-    ensures { λ r. ⌜ ToldWhile (now (file .entry)) (frame .sections) (now (index .entry)) (now (rows .entry)) (now (work .entry)) (frame .base) (frame .result) last (at .node) (at .scope) (now (rows .exit)) (now (work .exit)) (now (chains .exit)) r ⌝ }
+    ensures { λ r. ⌜ ToldWhile (now (file .entry)) (frame .sections) (now (index .entry)) (now (rows .entry)) (now (work .entry)) (frame .base) (frame .result) last (at .node) (at .scope) (at .pairs) (now (rows .exit)) (now (work .exit)) (now (chains .exit)) r ⌝ }
 {
     let test = at.node + 1;
     let one = expression(

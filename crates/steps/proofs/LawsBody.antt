@@ -19,9 +19,9 @@ use Rattle.oat.specs.Nodes.{ParametersStand, BlockStands, DeclStands}
 use Rattle.typing_rules.specs.Contexts as Contexts
 use Rattle.typing_rules.specs.Contexts.{Scope, empty}
 use Rattle.typing_rules.specs.Labels.{Label, unlabelled}
-use Rattle.typing_rules.specs.Judge.{referred, executeBlock}
+use Rattle.typing_rules.specs.Judge.{Counted, referred, executingBlock}
 use Rattle.typing_rules.specs.Steps.{body, distinctNames, parameters}
-use Rattle.typing_rules.specs.Check.{runStep, rowsBegin, stepRows, rowsOf, parameterRows}
+use Rattle.typing_rules.specs.Check.{rowsBegin, stepRows, rowsOf, parameterRows, stepping}
 use Rattle.file_sections.specs.declared.Sections.{Sections}
 use Rattle.file_sections.specs.Layout.{Has, tablesOf}
 use Rattle.file_sections.specs.Frames.{ListAt}
@@ -47,8 +47,8 @@ use Rattle.statements.proofs.LawsBlock.{ready-block}
 use Rattle.steps.specs.declared.context.Context.{Context}
 use Rattle.steps.specs.declared.context.Stepped.{Stepped}
 use Rattle.steps.specs.declared.context.Stepped.the-variants.{Next, Refused}
-use Rattle.steps.specs.Contract.{contextAt, withStep, handedUp, Accepted, accepts, ReadyParameters, BoundAll, ToldParameters, ReadyBody, ToldBody}
-use Rattle.steps.proofs.LawsStepping.{stops, passes, hands-up, goes-on, whole-context}
+use Rattle.steps.specs.Contract.{contextAt, withStep, summing, handedUp, Accepted, ReadyParameters, BoundAll, ToldParameters, ReadyBody, ToldBody}
+use Rattle.steps.proofs.LawsStepping.{accepts-with, stops, passes, hands-up, goes-on, whole-context}
 use Rattle.steps.proofs.LawsRows.{rows-count, rows-list, parameters-count}
 
 -- the answer is no return
@@ -156,9 +156,9 @@ module _ {F : List ℕ} {S : Sections} {X R W K : List ℕ} {c : Context} {n : �
           )
 
       module _ {R₁ W₁ K₁ : List ℕ} {b₁ : Bool} (p₁ : ToldParameters F S X (c .names) n first count R W R₁ W₁ K₁ b₁) where
-        pub body-taken : not b₁ ≡ true → ToldBody F S X R W c n R₁ W₁ K₁ (Refused 7 (c .steps) n)
-        unfolding runStep
-        body-taken f = record { tells = λ x u ps b h. stops (distinctNames ps) 7 n _ (sym (p₁ .distinct ps (h .3) (counted x u ps b h)) ∙ not-true b₁ f) refl }
+        pub body-taken : not b₁ ≡ true → ToldBody F S X R W c n R₁ W₁ K₁ (Refused 7 (c .steps) n (c .pairs))
+        unfolding stepping
+        body-taken f = record { tells = λ x u ps b h. stops (distinctNames ps) 7 n _ _ (sym (p₁ .distinct ps (h .3) (counted x u ps b h)) ∙ not-true b₁ f) refl }
 
         module _ (f : not b₁ ≡ false) where
           bound : (ps : List ℕ) → ParametersStand (tablesOf F S) (n + 1) ps → length ps ≡ count → BoundAll F S X (c .names) n first ps R W R₁ W₁ K₁
@@ -166,19 +166,20 @@ module _ {F : List ℕ} {S : Sections} {X R W K : List ℕ} {c : Context} {n : �
 
           module _ {result : ℕ} (ea : result ≡ typeAt (tablesOf F S) t .a) where
             -- for `block`
-            pub body-block : ReadyBlock F S X R₁ W₁ K₁ (c .names) (c .names) result (n + 1 + count) (c .names + count)
+            pub body-block : ReadyBlock F S X R₁ W₁ K₁ (c .names) (c .names) result (n + 1 + count) (c .names + count) (c .pairs)
             body-block =
                 ready-block (n + 1 + count) (g .block)
                 (subst (λ k. Fine F S X R₁ W₁ K₁ (c .names) (c .names + k)) own-count (bound (g .parameters) (g .stands .3) own-count .fine))
                 (omega arith, omega arith)
                 (subst (λ k. k < S .types) (sym ea) (returned-within (g .held .good-tables) within (kind-of (tablesOf F S) t 6 kind)))
-                (subst (λ k. BlockStands (tablesOf F S) (n + 1 + k) (g .block)) own-count (g .stands .4)) (omega (arith, g .room, own-count))
+                (subst (λ k. BlockStands (tablesOf F S) (n + 1 + k) (g .block)) own-count (g .stands .4)) (omega (arith, g .room, own-count)) (g .sums)
 
-            module _ {R₂ W₂ K₂ : List ℕ} {r₂ : Judged} (m₂ : ToldBlock F S X R₁ W₁ (c .names) (c .names) result (n + 1 + count) (c .names + count) R₂ W₂ K₂ r₂) where
+            module _ {R₂ W₂ K₂ : List ℕ} {r₂ : Judged} (m₂ : ToldBlock F S X R₁ W₁ (c .names) (c .names) result (n + 1 + count) (c .names + count) (c .pairs) R₂ W₂ K₂ r₂) where
               -- the parameters and the block as the step has them
               abbrev Ran : ℕ → List ℕ → Block → Contexts.Context ℕ → Scope ℕ → Type 0
               Ran u ps b C Γ =
-                  Meets (Blocking F S X (c .names) (n + 1 + length ps) (sizeBlock b) (c .names + length ps) R₁ W₁ R₂ W₂ K₂ r₂) r₂ (executeBlock (tablesOf F S) C (referred (tablesOf F S) u) b (n + 1 + length ps) Γ)
+                  let x : Counted ℕ = executingBlock (tablesOf F S) C (referred (tablesOf F S) u) b (n + 1 + length ps) Γ in
+                  Meets (Blocking F S X (c .names) (n + 1 + length ps) (sizeBlock b) (c .names + length ps) R₁ W₁ R₂ W₂ K₂ r₂) r₂ (c .pairs) (x .out) (x .pairs)
 
               bound-at : (x u : ℕ) (ps : List ℕ) (b : Block) → DeclStands (tablesOf F S) n (function x u ps b) → BoundAll F S X (c .names) n (typeAt (tablesOf F S) u .b) ps R W R₁ W₁ K₁
               bound-at x u ps b h =
@@ -192,32 +193,32 @@ module _ {F : List ℕ} {S : Sections} {X R W K : List ℕ} {c : Context} {n : �
                   subst (λ C. Ran u ps b C (parameters (λ a. a) T empty (typeAt T u .b) (n + 1) ps)) (sym (whole-context F S W c (g .whole)))
                   (subst (λ N. Ran u ps b (record { structs = declared T; names = N }) (parameters (λ a. a) T empty (typeAt T u .b) (n + 1) ps))
                   (names-same T (c .names) (p .same) (c .names) (omega arith))
-                  (subst (λ k. ToldBlock F S X R₁ W₁ (c .names) (c .names) k (n + 1 + length ps) (c .names + length ps) R₂ W₂ K₂ r₂) (ea ∙ ap (λ k. typeAt T k .a) (et ∙ h .0 .t-is))
-                  (subst (λ k. ToldBlock F S X R₁ W₁ (c .names) (c .names) result (n + 1 + k) (c .names + k) R₂ W₂ K₂ r₂) (sym (counted x u ps b h)) m₂) .tells b (h .4)
+                  (subst (λ k. ToldBlock F S X R₁ W₁ (c .names) (c .names) k (n + 1 + length ps) (c .names + length ps) (c .pairs) R₂ W₂ K₂ r₂) (ea ∙ ap (λ k. typeAt T k .a) (et ∙ h .0 .t-is))
+                  (subst (λ k. ToldBlock F S X R₁ W₁ (c .names) (c .names) result (n + 1 + k) (c .names + k) (c .pairs) R₂ W₂ K₂ r₂) (sym (counted x u ps b h)) m₂) .tells b (h .4)
                   (parameters (λ a. a) T empty (typeAt T u .b) (n + 1) ps)
                   (subst (Holds T W₁ (c .names) (c .names) (c .names + length ps)) (p .scope) (holds-own T W₁ (c .names) (c .names + length ps) (omega arith)))))
 
               distinct : (x u : ℕ) (ps : List ℕ) (b : Block) → DeclStands (tablesOf F S) n (function x u ps b) → distinctNames ps ≡ true
               distinct x u ps b h = sym (p₁ .distinct ps (h .3) (counted x u ps b h)) ∙ not-false b₁ f
 
-              pub body-no : {p q : ℕ} {r : Stepped} → r₂ .judgement ≡ judgement.Refused p q → r ≡ handedUp (r₂ .judgement) (c .steps) → ToldBody F S X R W c n R₂ W₂ K₂ r
-              unfolding runStep
+              pub body-no : {p q : ℕ} {r : Stepped} → r₂ .judgement ≡ judgement.Refused p q → r ≡ handedUp (r₂ .judgement) (c .steps) (r₂ .at .pairs) → ToldBody F S X R W c n R₂ W₂ K₂ r
+              unfolding stepping
               body-no {p} {q} j e =
                   record {
                     tells = λ x u ps b h.
                         passes (distinctNames ps) 7 n _ (distinct x u ps b h)
-                        (hands-up _ _ (λ i L d. marked-no i p q (sym (d .mark) ∙ j)) e (ran x u ps b h));
+                        (hands-up _ _ _ (λ i L d. marked-no i p q (sym (d .mark) ∙ j)) e (ran x u ps b h));
                   }
 
               module _ (v : Unrefused r₂) where
-                pub body-open : Unreturned r₂ → ToldBody F S X R W c n R₂ W₂ K₂ (Refused 14 (c .steps) n)
-                unfolding runStep
+                pub body-open : Unreturned r₂ → ToldBody F S X R W c n R₂ W₂ K₂ (Refused 14 (c .steps) n (r₂ .at .pairs))
+                unfolding stepping
                 body-open o =
                     record {
                       tells = λ x u ps b h.
                           passes (distinctNames ps) 7 n _ (distinct x u ps b h)
                           (goes-on _ _ v (ran x u ps b h) λ i L q d.
-                          stops (eqb i 1) 14 n _ (ne-eqb i 1 (λ z. o .never (d .mark ∙ sym (returns-marked i z)))) refl);
+                          stops (eqb i 1) 14 n _ _ (ne-eqb i 1 (λ z. o .never (d .mark ∙ sym (returns-marked i z)))) refl);
                     }
 
                 fine-now : Fine F S X R₂ W₂ K₂ (c .names) (c .names + count)
@@ -233,16 +234,16 @@ module _ {F : List ℕ} {S : Sections} {X R W K : List ℕ} {c : Context} {n : �
                 pub body-fits : (n * 2 + 1 < length R₂) × (n < 65536) × (1 < 65536) × (65535 < 65536)
                 body-fits = (omega (arith, fine-now .rows-long, there), omega (arith, there, g .held .good-tables .laid .nodes-most), omega arith, omega arith)
 
-                pub body-ok : {K₃ R′ : List ℕ} {e : Context} → r₂ .judgement ≡ Returns → Scoped F S W₂ K₃ (c .names) → R′ ≡ withRow R₂ n 1 65535 → e ≡ withStep c
-                    → ToldBody F S X R W c n R′ W₂ K₃ (Next e)
-                unfolding runStep
-                body-ok {K₃} {R′} {e} y k eR ee =
+                pub body-ok : {K₃ R′ : List ℕ} {e f : Context} → r₂ .judgement ≡ Returns → Scoped F S W₂ K₃ (c .names) → R′ ≡ withRow R₂ n 1 65535 → e ≡ withStep c
+                    → f ≡ summing (r₂ .at .pairs) e → ToldBody F S X R W c n R′ W₂ K₃ (Next f)
+                unfolding stepping
+                body-ok {K₃} {R′} y k eR ee ef =
                     record {
                       tells = λ x u ps b h.
                           passes (distinctNames ps) 7 n _ (distinct x u ps b h)
                           (goes-on _ _ v (ran x u ps b h) λ i L q d.
                           passes (eqb i 1) 14 n _ (eq-eqb i 1 (sym (mark-is Returns i (block-mark _ _ _ b _ _ i L q) (sym y ∙ d .mark))))
-                          (accepts _ _ (ap Next ee)
+                          (accepts-with _ _ (r₂ .at .pairs) 0 (omega arith) (ap Next (ef ∙ ap (summing (r₂ .at .pairs)) ee))
                           (subst (λ Q. Accepted F S X c (body n u ps b) R Q W₂ K₃ (contextAt (tablesOf F S) W c) (replicate (1 + length ps) unlabelled ++ L)) (sym eR)
                           (written (bound-at x u ps b h) (d .after) (block-long _ _ _ b _ _ i L q) there k))));
                     }

@@ -20,7 +20,7 @@ use Rattle.oat.proofs.LawsTables.{tables-formed}
 use Rattle.typing_rules.specs.Contexts.{findName, isMiss}
 use Rattle.typing_rules.specs.Judge.{formed}
 use Rattle.typing_rules.specs.Steps.{builtIn, heading, structFields, distinctFields, addName, addStruct}
-use Rattle.typing_rules.specs.Check.{isMissing, fieldsFormed, runStep, stepRows}
+use Rattle.typing_rules.specs.Check.{isMissing, fieldsFormed, stepRows, stepping}
 use Rattle.typing_rules.proofs.LawsSteps.{tabulate-more}
 use Rattle.file_sections.specs.declared.Sections.{Sections}
 use Rattle.file_sections.specs.Layout.{Has, tablesOf}
@@ -42,17 +42,17 @@ use Rattle.steps.proofs.LawsStepping.{stops, passes, answer-stops, answ
 use Rattle.steps.proofs.LawsNames.{times-none-of, times-absent, types-formed-are}
 
 -- the refusal of a judgement
-module _ (j : Judgement) (step : ℕ) where
-  pub refused-up : (p q : ℕ) → j ≡ judgement.Refused p q → Refused p step q ≡ handedUp j step
+module _ (j : Judgement) (step pairs : ℕ) where
+  pub refused-up : (p q : ℕ) → j ≡ judgement.Refused p q → Refused p step q pairs ≡ handedUp j step pairs
   refused-up p q e = rw e
 
-  pub typed-up : (t : ℕ) → j ≡ Typed t → Refused 0 step 0 ≡ handedUp j step
+  pub typed-up : (t : ℕ) → j ≡ Typed t → Refused 0 step 0 pairs ≡ handedUp j step pairs
   typed-up t e = rw e
 
-  pub goes-up : j ≡ GoesOn → Refused 0 step 0 ≡ handedUp j step
+  pub goes-up : j ≡ GoesOn → Refused 0 step 0 pairs ≡ handedUp j step pairs
   goes-up e = rw e
 
-  pub returns-up : j ≡ Returns → Refused 0 step 0 ≡ handedUp j step
+  pub returns-up : j ≡ Returns → Refused 0 step 0 pairs ≡ handedUp j step pairs
   returns-up e = rw e
 
 -- structs without a name
@@ -94,8 +94,8 @@ module _ {F : List ℕ} {S : Sections} {N : List ℕ} {c : Context} {i : ℕ} (r
       ap (λ k. isMissing (lookup (structsOf (tablesOf F S) k) (structAt (tablesOf F S) i .name))) (ready .next)
       ∙ struct-new-is F S N i x n (ready .copied) ex en
 
-  pub struct-known : (n ≡ 0 → ⊥) → ToldStruct F S c i N (Refused 7 (c .steps) i)
-  unfolding runStep
+  pub struct-known : (n ≡ 0 → ⊥) → ToldStruct F S c i N (Refused 7 (c .steps) i (c .pairs))
+  unfolding stepping
   struct-known f = record {
     answered = record { tells = λ W. answer-stops _ 7 i _ (struct-tested ∙ ne-eqb n 0 f) refl };
     copied = λ e. absurd (let z : _≡_ {A = ℕ} 0 1 = cc in omega arith);
@@ -119,7 +119,7 @@ module _ {F : List ℕ} {S : Sections} {N : List ℕ} {c : Context} {i : ℕ} (r
   }
 
   pub struct-new : (d : Context) → n ≡ 0 → d ≡ withStruct c → ToldStruct F S c i (set N i x) (Next d)
-  unfolding runStep
+  unfolding stepping
   struct-new d z e = record {
     answered = record { tells = λ W. answer-passes _ 7 i _ (struct-tested ∙ eq-eqb n 0 z) (answers-next _ (ap Next e) (struct-added W)) };
     copied = λ _. struct-copied;
@@ -146,18 +146,18 @@ module _ {F : List ℕ} {S : Sections} {X W K : List ℕ} {c : Context} {i : ℕ
       built-in-tested : formed (tablesOf F S) (contextAt (tablesOf F S) W c) (builtInAt (tablesOf F S) i .type) ≡ b
       built-in-tested = formed-whole F S X W c _ b (ready .held .indexed) (ready .whole) built-in-within (eb ∙ ap (formedEntry X) et)
 
-      pub built-in-unformed : not b ≡ true → Rowless F S X c (builtIn i) W W K (Refused 9 (c .steps) i)
-      unfolding runStep
-      built-in-unformed f = record { tells = λ R. stops _ 9 i _ (built-in-tested ∙ not-true b f) refl }
+      pub built-in-unformed : not b ≡ true → Rowless F S X c (builtIn i) W W K (Refused 9 (c .steps) i (c .pairs))
+      unfolding stepping
+      built-in-unformed f = record { tells = λ R. stops _ 9 i _ _ (built-in-tested ∙ not-true b f) refl }
 
       module _ (f : not b ≡ false) (x : ℕ) (ex : x ≡ builtInAt (tablesOf F S) i .name) (n : Bool) (new : Newness F S W K x n) where
         built-in-asked : isMiss (findName (builtInAt (tablesOf F S) i .name) (namesOf (tablesOf F S) W (c .names))) ≡ n
         built-in-asked = sym (new .tells (c .names) (ready .held .scoped) ∙ ap (λ y. isMiss (findName y (namesOf (tablesOf F S) W (c .names)))) ex)
 
-        pub built-in-known : not n ≡ true → Rowless F S X c (builtIn i) W W K (Refused 7 (c .steps) i)
-        unfolding runStep
+        pub built-in-known : not n ≡ true → Rowless F S X c (builtIn i) W W K (Refused 7 (c .steps) i (c .pairs))
+        unfolding stepping
         built-in-known g = record {
-          tells = λ R. passes _ 9 i _ (built-in-tested ∙ not-false b f) (stops _ 7 i _ (built-in-asked ∙ not-true n g) refl);
+          tells = λ R. passes _ 9 i _ (built-in-tested ∙ not-false b f) (stops _ 7 i _ _ (built-in-asked ∙ not-true n g) refl);
         }
 
         built-in-low : c .names < S .«built_ins»
@@ -184,7 +184,7 @@ module _ {F : List ℕ} {S : Sections} {X W K : List ℕ} {c : Context} {i : ℕ
 
         pub built-in-new : (K′ : List ℕ) (d : Context) → not n ≡ false → K′ ≡ set (set K (512 + i) (getD K (x % 512) 0)) (x % 512) (i + 1) → d ≡ withName c
             → Rowless F S X c (builtIn i) W W K′ (Next d)
-        unfolding runStep stepRows
+        unfolding stepping stepRows
         built-in-new K′ d g eK e = record {
           tells = λ R. passes _ 9 i _ (built-in-tested ∙ not-false b f)
               (passes _ 7 i _ (built-in-asked ∙ not-false n g) (rowless R _ refl refl (ap Next e) (built-in-held K′ eK) built-in-added));
@@ -221,18 +221,18 @@ module _ {F : List ℕ} {S : Sections} {X W K : List ℕ} {c : Context} {n : ℕ
       heading-tested : formed (tablesOf F S) (contextAt (tablesOf F S) W c) (nodeAt (tablesOf F S) n .t) ≡ b
       heading-tested = subst (λ u. formed (tablesOf F S) (contextAt (tablesOf F S) W c) u ≡ b) et (formed-whole F S X W c t b (ready .held .indexed) (ready .whole) heading-within eb)
 
-      pub heading-unformed : not b ≡ true → ToldHeading F S X W c n W K (Refused 9 (c .steps) n)
-      unfolding runStep
-      heading-unformed f = heading-told W K _ (record { tells = λ R. stops _ 9 n _ (heading-tested ∙ not-true b f) refl })
+      pub heading-unformed : not b ≡ true → ToldHeading F S X W c n W K (Refused 9 (c .steps) n (c .pairs))
+      unfolding stepping
+      heading-unformed f = heading-told W K _ (record { tells = λ R. stops _ 9 n _ _ (heading-tested ∙ not-true b f) refl })
 
       module _ (f : not b ≡ false) (x : ℕ) (ex : x ≡ nodeAt (tablesOf F S) n .x) (m : Bool) (new : Newness F S W K x m) where
         heading-asked : isMiss (findName (nodeAt (tablesOf F S) n .x) (namesOf (tablesOf F S) W (c .names))) ≡ m
         heading-asked = sym (new .tells (c .names) (ready .held .scoped) ∙ ap (λ y. isMiss (findName y (namesOf (tablesOf F S) W (c .names)))) ex)
 
-        pub heading-known : not m ≡ true → ToldHeading F S X W c n W K (Refused 7 (c .steps) n)
-        unfolding runStep
+        pub heading-known : not m ≡ true → ToldHeading F S X W c n W K (Refused 7 (c .steps) n (c .pairs))
+        unfolding stepping
         heading-known g = heading-told W K _ (record {
-          tells = λ R. passes _ 9 n _ (heading-tested ∙ not-false b f) (stops _ 7 n _ (heading-asked ∙ not-true m g) refl);
+          tells = λ R. passes _ 9 n _ (heading-tested ∙ not-false b f) (stops _ 7 n _ _ (heading-asked ∙ not-true m g) refl);
         })
 
         module _ {W′ K′ : List ℕ} (bound : Bound F S W K (c .names) n t W′ K′) where
@@ -245,7 +245,7 @@ module _ {F : List ℕ} {S : Sections} {X W K : List ℕ} {c : Context} {n : ℕ
               (ap (λ k. eqb k 1) (ready .stands .0 .kind-is) ∙ ne-eqb 2 1 (λ z. omega arith))
 
           pub heading-new : (d : Context) → not m ≡ false → d ≡ withName c → ToldHeading F S X W c n W′ K′ (Next d)
-          unfolding runStep stepRows
+          unfolding stepping stepRows
           heading-new d g e = heading-told W′ K′ _ (record {
             tells = λ R. passes _ 9 n _ (heading-tested ∙ not-false b f)
                 (passes _ 7 n _ (heading-asked ∙ not-false m g)
@@ -274,19 +274,19 @@ module _ {F : List ℕ} {S : Sections} {X : List ℕ} {c : Context} {i : ℕ} (r
         (ap (λ k. structsOf (tablesOf F S) k) (ready .whole .structs ∙ sym (structs-long F S)))
         (record-fields F S (ready .good-tables) i (ready .there)))
 
-    pub fields-unformed : not b ≡ true → Answered F S c (structFields i) (Refused 9 (c .steps) i)
-    unfolding runStep
+    pub fields-unformed : not b ≡ true → Answered F S c (structFields i) (Refused 9 (c .steps) i (c .pairs))
+    unfolding stepping
     fields-unformed f = record { tells = λ W. answer-stops _ 9 i _ (fields-tested W ∙ not-true b f) refl }
 
     module _ (f : not b ≡ false) (n : Bool) (en : n ≡ distinctFields (structOf (tablesOf F S) i .fields)) where
-      pub fields-again : not n ≡ true → Answered F S c (structFields i) (Refused 7 (c .steps) i)
-      unfolding runStep
+      pub fields-again : not n ≡ true → Answered F S c (structFields i) (Refused 7 (c .steps) i (c .pairs))
+      unfolding stepping
       fields-again g = record {
         tells = λ W. answer-passes _ 9 i _ (fields-tested W ∙ not-false b f) (answer-stops _ 7 i _ (sym en ∙ not-true n g) refl);
       }
 
       pub fields-distinct : (d : Context) → not n ≡ false → d ≡ withStep c → Answered F S c (structFields i) (Next d)
-      unfolding runStep
+      unfolding stepping
       fields-distinct d g e = record {
         tells = λ W. answer-passes _ 9 i _ (fields-tested W ∙ not-false b f)
             (answer-passes _ 7 i _ (sym en ∙ not-false n g) (answers-next _ (ap Next e) refl));

@@ -17,7 +17,7 @@ use Rattle.typing_rules.specs.Contexts.{empty, findName, isMiss}
 use Rattle.typing_rules.specs.Labels.{Label}
 use Rattle.typing_rules.specs.Judge.{Out, ok, no}
 use Rattle.typing_rules.specs.Steps.{Step, structName, builtIn, heading, globalValue, structFields, body, distinctNames, parameters}
-use Rattle.typing_rules.specs.Check.{runStep, rowsBegin, nodeCount, stepRows, parameterRows}
+use Rattle.typing_rules.specs.Check.{stepping, runStep, rowsBegin, nodeCount, stepRows, parameterRows}
 use Rattle.file_sections.specs.declared.Sections.{Sections}
 use Rattle.file_sections.specs.Layout.{Laid, tablesOf, GoodTables}
 use Rattle.file_sections.specs.Frames.{Same, Kept, ListAt}
@@ -26,7 +26,7 @@ use Rattle.bindings.specs.Bindings.{entryOf, namesOf, scopeOf, Scoped}
 use Rattle.answers.specs.declared.answer.Judgement.{Judgement}
 use Rattle.answers.specs.declared.answer.Judgement.the-variants.{Typed, GoesOn, Returns}
 use Rattle.answers.specs.declared.answer.Judgement.the-variants as judgement
-use Rattle.expressions.specs.Contract.{Fine}
+use Rattle.expressions.specs.Contract.{Fine, Few}
 use Rattle.steps.specs.declared.context.Context.{Context}
 use Rattle.steps.specs.declared.context.Stepped.{Stepped}
 use Rattle.steps.specs.declared.context.Stepped.the-variants.{Next, Refused}
@@ -37,13 +37,17 @@ contextAt T W c = record { structs = structsOf T (c .structs); names = namesOf T
 
 -- after a step that adds a struct, a name, or nothing
 abbrev pub withStruct : Context → Context
-withStruct c = record { structs = c .structs + 1; names = c .names; steps = c .steps + 1 }
+withStruct c = record { structs = c .structs + 1; names = c .names; steps = c .steps + 1; pairs = c .pairs }
 
 abbrev pub withName : Context → Context
-withName c = record { structs = c .structs; names = c .names + 1; steps = c .steps + 1 }
+withName c = record { structs = c .structs; names = c .names + 1; steps = c .steps + 1; pairs = c .pairs }
 
 abbrev pub withStep : Context → Context
-withStep c = record { structs = c .structs; names = c .names; steps = c .steps + 1 }
+withStep c = record { structs = c .structs; names = c .names; steps = c .steps + 1; pairs = c .pairs }
+
+-- with another sum of pairs
+abbrev pub summing : ℕ → Context → Context
+summing k c = record { structs = c .structs; names = c .names; steps = c .steps; pairs = k }
 
 abbrev pub afterStep : Step → Context → Context
 afterStep (structName i) c = withStruct c
@@ -68,31 +72,33 @@ pub record Accepted (F : List ℕ) (S : Sections) (X : List ℕ) (c : Context) (
   pub rows : ListAt R′ (rowsBegin s * 2) (stepRows (tablesOf F S) s L)
   pub kept : Kept (rowsBegin s * 2) ((rowsBegin s + nodeCount s) * 2) R R′
 
--- the answer r of the step s in the context c meets the outcome of the definition
-pub data Stepping (F : List ℕ) (S : Sections) (X : List ℕ) (c : Context) (s : Step) (R R′ W′ K′ : List ℕ) (r : Stepped) : Out (Contexts.Context ℕ) → Type 0 where
-  accepts : (C : Contexts.Context ℕ) (L : List (Label ℕ)) → r ≡ Next (afterStep s c) → Accepted F S X c s R R′ W′ K′ C L → Stepping F S X c s R R′ W′ K′ r (ok C L)
-  refuses : (p q : ℕ) → r ≡ Refused p (c .steps) q → Stepping F S X c s R R′ W′ K′ r (no p q)
+-- the answer r of the step s in the context c, up to which π pairs were compared, meets an outcome of the definition that compares k
+pub data Stepping (F : List ℕ) (S : Sections) (X : List ℕ) (c : Context) (s : Step) (R R′ W′ K′ : List ℕ) (r : Stepped) (π : ℕ) : Out (Contexts.Context ℕ) → ℕ → Type 0 where
+  accepts : (C : Contexts.Context ℕ) (L : List (Label ℕ)) (k : ℕ) → r ≡ Next (summing (π + k) (afterStep s c)) → Accepted F S X c s R R′ W′ K′ C L
+      → Stepping F S X c s R R′ W′ K′ r π (ok C L) k
+  refuses : (p q k : ℕ) → r ≡ Refused p (c .steps) q (π + k) → Stepping F S X c s R R′ W′ K′ r π (no p q) k
 
 -- r answers the step as the definition has it, in the context of the buffers before
 abbrev pub Steps : List ℕ → Sections → (X : List ℕ) → Context → Step → (R W R′ W′ K′ : List ℕ) → Stepped → Type 0
-Steps F S X c s R W R′ W′ K′ r = Stepping F S X c s R R′ W′ K′ r (runStep (tablesOf F S) (contextAt (tablesOf F S) W c) s)
+Steps F S X c s R W R′ W′ K′ r =
+    Stepping F S X c s R R′ W′ K′ r (c .pairs) (runStep (tablesOf F S) (contextAt (tablesOf F S) W c) s) (stepping (tablesOf F S) (contextAt (tablesOf F S) W c) s .pairs)
 
--- a step that binds no name and writes no rows, on a struct's name or on its fields: the answer r meets the outcome of the definition in the
--- context of c and the stack W
+-- a step that binds no name, writes no rows and compares nothing, on a struct's name or on its fields: the answer r meets the outcome
+-- of the definition in the context of c and the stack W
 pub data Answering (T : Tables) (W : List ℕ) (c : Context) (s : Step) (r : Stepped) : Out (Contexts.Context ℕ) → Type 0 where
   answers-next : (C : Contexts.Context ℕ) → r ≡ Next (afterStep s c) → contextAt T W (afterStep s c) ≡ C → Answering T W c s r (ok C [])
-  answers-refused : (p q : ℕ) → r ≡ Refused p (c .steps) q → Answering T W c s r (no p q)
+  answers-refused : (p q : ℕ) → r ≡ Refused p (c .steps) q (c .pairs) → Answering T W c s r (no p q)
 
 -- r answers the step as the definition has it, whatever the stack holds: it depends on the file alone
 pub record Answered (F : List ℕ) (S : Sections) (c : Context) (s : Step) (r : Stepped) : Type 0 where
   pub tells : (W : List ℕ) → Answering (tablesOf F S) W c s r (runStep (tablesOf F S) (contextAt (tablesOf F S) W c) s)
 
--- the refusal of a judgement, at a step; it is asked of refusals alone
-abbrev pub handedUp : Judgement → ℕ → Stepped
-handedUp (Typed t) step = Refused 0 step 0
-handedUp GoesOn step = Refused 0 step 0
-handedUp Returns step = Refused 0 step 0
-handedUp (judgement.Refused p q) step = Refused p step q
+-- the refusal of a judgement, at a step, where so many pairs were compared; it is asked of refusals alone
+abbrev pub handedUp : Judgement → (step pairs : ℕ) → Stepped
+handedUp (Typed t) step pairs = Refused 0 step 0 pairs
+handedUp GoesOn step pairs = Refused 0 step 0 pairs
+handedUp Returns step pairs = Refused 0 step 0 pairs
+handedUp (judgement.Refused p q) step pairs = Refused p step q pairs
 
 -- what `is_new` answers: in the scope that the buffers hold, the name is nowhere
 pub record Newness (F : List ℕ) (S : Sections) (W K : List ℕ) (x : ℕ) (r : Bool) : Type 0 where
@@ -159,6 +165,7 @@ pub record ReadyGlobal (F : List ℕ) (S : Sections) (X R W K : List ℕ) (c : C
   pub initializer : Expr
   pub stands : DeclStands (tablesOf F S) n (global name initializer)
   pub room : c .names + size initializer ≤ S .«built_ins» + S .nodes
+  pub sums : Few (c .pairs) (size initializer)
 
 pub record ToldGlobal (F : List ℕ) (S : Sections) (X R W : List ℕ) (c : Context) (n : ℕ) (R′ W′ K′ : List ℕ) (r : Stepped) : Type 0 where
   pub tells : (x : ℕ) (a : Expr) → DeclStands (tablesOf F S) n (global x a) → Steps F S X c (globalValue n x a) R W R′ W′ K′ r
@@ -208,6 +215,7 @@ pub record ReadyBody (F : List ℕ) (S : Sections) (X R W K : List ℕ) (c : Con
   pub block : Block
   pub stands : DeclStands (tablesOf F S) n (function name type parameters block)
   pub room : c .names + (length parameters + sizeBlock block) ≤ S .«built_ins» + S .nodes
+  pub sums : Few (c .pairs) (sizeBlock block)
 
 pub record ToldBody (F : List ℕ) (S : Sections) (X R W : List ℕ) (c : Context) (n : ℕ) (R′ W′ K′ : List ℕ) (r : Stepped) : Type 0 where
   pub tells : (x t : ℕ) (ps : List ℕ) (b : Block) → DeclStands (tablesOf F S) n (function x t ps b) → Steps F S X c (body n t ps b) R W R′ W′ K′ r

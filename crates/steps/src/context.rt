@@ -29,42 +29,46 @@ use type_index::formed::is_formed;
 ghost use mathlib.Core.Path.{_≡_};
 ghost use Prim.Native.Nat.{_+_, _<_};
 ghost use Rattle.typing_rules.specs.Steps.{builtIn, structFields};
-ghost use Rattle.steps.specs.Contract.{withStruct, withName, withStep, handedUp, Answered, Rowless, ReadyStruct, ToldStruct, ReadyBuiltIn, ReadyHeading, ToldHeading, ReadyGlobal, ToldGlobal, ReadyFields, ReadyBody, ToldBody};
+ghost use Rattle.steps.specs.Contract.{withStruct, withName, withStep, summing, handedUp, Answered, Rowless, ReadyStruct, ToldStruct, ReadyBuiltIn, ReadyHeading, ToldHeading, ReadyGlobal, ToldGlobal, ReadyFields, ReadyBody, ToldBody};
 
-// How many structs are declared, how many names of built-ins, functions and globals, and how many steps are done.
+// How many structs are declared, how many names of built-ins, functions and globals, how many steps are done, and how many pairs of types
+// were compared.
 pub struct Context {
     pub structs: usize,
     pub names: usize,
     pub steps: usize,
+    pub pairs: usize,
 }
 
-// The context after a step, or the number, the step and the place of a refusal.
+// The context after a step, or the number, the step and the place of a refusal, and how many pairs of types were compared up to it.
 pub enum Stepped {
     Next(Context),
-    Refused(usize, usize, usize),
+    Refused(usize, usize, usize, usize),
 }
 
-// The refusal of a judgement, at a step; it is called with refusals alone, and numbers any other judgement 0.
-fn refusal(judgement: Judgement, step: usize) -> Stepped
-    ensures { λ r. ⌜ r ≡ handedUp judgement step ⌝ }
+// The refusal of a judgement, at a step, where so many pairs were compared; it is called with refusals alone, and numbers any other
+// judgement 0.
+fn refusal(judgement: Judgement, step: usize, pairs: usize) -> Stepped
+    ensures { λ r. ⌜ r ≡ handedUp judgement step pairs ⌝ }
 {
     match judgement {
-        Judgement::Refused(number, place) => Stepped::Refused(number, step, place),
-        Judgement::Typed(_) => Stepped::Refused(0, step, 0),
-        Judgement::GoesOn => Stepped::Refused(0, step, 0),
-        Judgement::Returns => Stepped::Refused(0, step, 0),
+        Judgement::Refused(number, place) => Stepped::Refused(number, step, place, pairs),
+        Judgement::Typed(_) => Stepped::Refused(0, step, 0, pairs),
+        Judgement::GoesOn => Stepped::Refused(0, step, 0, pairs),
+        Judgement::Returns => Stepped::Refused(0, step, 0, pairs),
     }
 }
 
 impl Context {
     // The context before the first step.
     pub fn empty() -> Context
-        ensures { λ r. ⌜ r ≡ record { structs = 0; names = 0; steps = 0 } ⌝ }
+        ensures { λ r. ⌜ r ≡ record { structs = 0; names = 0; steps = 0; pairs = 0 } ⌝ }
     {
         Context {
             structs: 0,
             names: 0,
             steps: 0,
+            pairs: 0,
         }
     }
 
@@ -74,8 +78,8 @@ impl Context {
     {
         Context {
             structs: self.structs + 1,
-            names: self.names,
             steps: self.steps + 1,
+            ..self
         }
     }
 
@@ -84,9 +88,9 @@ impl Context {
         ensures { λ r. ⌜ r ≡ withName self ⌝ }
     {
         Context {
-            structs: self.structs,
             names: self.names + 1,
             steps: self.steps + 1,
+            ..self
         }
     }
 
@@ -95,9 +99,18 @@ impl Context {
         ensures { λ r. ⌜ r ≡ withStep self ⌝ }
     {
         Context {
-            structs: self.structs,
-            names: self.names,
             steps: self.steps + 1,
+            ..self
+        }
+    }
+
+    // With another sum of pairs.
+    fn summing(self, pairs: usize) -> Context
+        ensures { λ r. ⌜ r ≡ summing pairs self ⌝ }
+    {
+        Context {
+            pairs: pairs,
+            ..self
         }
     }
 
@@ -114,7 +127,7 @@ impl Context {
     {
         let name = struct_name(file, sections, i) as u16;
         if times(&*names, i, name) != 0 {
-            return Stepped::Refused(7, self.steps, i);
+            return Stepped::Refused(7, self.steps, i, self.pairs);
         }
         names[i] = name;
         Stepped::Next(self.with_struct())
@@ -134,11 +147,11 @@ impl Context {
         ensures { λ r. ⌜ Rowless (now (file .entry)) sections (now (index .entry)) self (builtIn i) (now (work .entry)) (now (work .entry)) (now (chains .exit)) r ⌝ }
     {
         if !is_formed(index, built_in_type(file, sections, i)) {
-            return Stepped::Refused(9, self.steps, i);
+            return Stepped::Refused(9, self.steps, i, self.pairs);
         }
         let name = built_in_name(file, sections, i);
         if !is_new(file, sections, work, &*chains, name) {
-            return Stepped::Refused(7, self.steps, i);
+            return Stepped::Refused(7, self.steps, i, self.pairs);
         }
         link(chains, i, name);
         Stepped::Next(self.with_name())
@@ -159,11 +172,11 @@ impl Context {
     {
         let t = node_t(file, sections, node);
         if !is_formed(index, t) {
-            return Stepped::Refused(9, self.steps, node);
+            return Stepped::Refused(9, self.steps, node, self.pairs);
         }
         let name = node_x(file, sections, node);
         if !is_new(file, sections, &*work, &*chains, name) {
-            return Stepped::Refused(7, self.steps, node);
+            return Stepped::Refused(7, self.steps, node, self.pairs);
         }
         bind(file, sections, work, chains, self.names, node, t);
         Stepped::Next(self.with_name())
@@ -197,19 +210,20 @@ impl Context {
             At {
                 node: node + 1,
                 scope: self.names,
+                pairs: self.pairs,
             },
         );
         let judgement = value.judgement;
         let Judgement::Typed(t) = judgement else {
-            return refusal(judgement, self.steps);
+            return refusal(judgement, self.steps, value.at.pairs);
         };
         let name = node_x(file, sections, node);
         if !is_new(file, sections, &*work, &*chains, name) {
-            return Stepped::Refused(7, self.steps, node);
+            return Stepped::Refused(7, self.steps, node, value.at.pairs);
         }
         bind(file, sections, work, chains, self.names, node, t);
         row(rows, node, t, 65535);
-        Stepped::Next(self.with_name())
+        Stepped::Next(self.with_name().summing(value.at.pairs))
     }
 
     // The fields of the struct i.
@@ -220,10 +234,10 @@ impl Context {
         let first = struct_first(file, sections, i);
         let count = struct_count(file, sections, i);
         if !types_formed(file, sections, index, first, count) {
-            return Stepped::Refused(9, self.steps, i);
+            return Stepped::Refused(9, self.steps, i, self.pairs);
         }
         if !are_distinct(file, sections, i) {
-            return Stepped::Refused(7, self.steps, i);
+            return Stepped::Refused(7, self.steps, i, self.pairs);
         }
         Stepped::Next(self.with_step())
     }
@@ -257,7 +271,7 @@ impl Context {
             first,
             count,
         ) {
-            return Stepped::Refused(7, self.steps, node);
+            return Stepped::Refused(7, self.steps, node, self.pairs);
         }
         let scope = self.names + count;
         let result = type_a(file, sections, t);
@@ -275,18 +289,19 @@ impl Context {
             At {
                 node: node + 1 + count,
                 scope: scope,
+                pairs: self.pairs,
             },
             self.names,
         );
         let judgement = body.judgement;
         if let Judgement::Refused(_, _) = judgement {
-            return refusal(judgement, self.steps);
+            return refusal(judgement, self.steps, body.at.pairs);
         }
         let Judgement::Returns = judgement else {
-            return Stepped::Refused(14, self.steps, node);
+            return Stepped::Refused(14, self.steps, node, body.at.pairs);
         };
         leave(file, sections, &*work, chains, scope, self.names);
         row(rows, node, 1, 65535);
-        Stepped::Next(self.with_step())
+        Stepped::Next(self.with_step().summing(body.at.pairs))
     }
 }

@@ -1,6 +1,7 @@
 // Reads packed files from standard input, each as 4 length bytes, low first, and then the file, and asks for every pair of its types
-// whether the first is below the second. It prints for each file a line for each type, with 1 for yes and 0 for no, and then a
-// line `--`. The types end where the question is refused under 17; of any other refusal the number is a line.
+// whether the first is below the second. It prints for each file two lines for each type, one with 1 for yes and 0 for no and one with
+// the counts of the pairs of types compared, and then a line `--`. The types end where the question is refused under 17; of any other
+// refusal the number is a line.
 use subtyping::question::Answer;
 use vector_input::next_length;
 use vector_input::read_one;
@@ -16,18 +17,41 @@ fn pair(file: &[u8], a: usize, b: usize) -> bool {
             }
             false
         }
-        Answer::Yes => {
+        Answer::Yes(_) => {
             io::write_all(1, b"1");
             true
         }
-        Answer::No => {
+        Answer::No(_) => {
             io::write_all(1, b"0");
             true
         }
     }
 }
 
-// Prints the line of the type a; false where the file has no such type.
+// How many pairs of types a question compared.
+fn pairs(file: &[u8], a: usize, b: usize) -> u16 {
+    let answer = subtyping::question::subtype(file, program_file::widest(), a, b);
+    match answer {
+        Answer::Refused(_) => 0,
+        Answer::Yes(count) => count,
+        Answer::No(count) => count,
+    }
+}
+
+// Prints the line of counts of the type a with each of the first `types` types.
+fn counts(file: &[u8], a: usize, types: usize) {
+    let mut b = 0;
+    while b < types {
+        if 0 < b {
+            io::write_all(1, b" ");
+        }
+        io::print_decimal(1, pairs(file, a, b) as u64);
+        b += 1;
+    }
+    io::write_all(1, b"\n");
+}
+
+// Prints the lines of the type a; false where the file has no such type.
 fn row(file: &[u8], a: usize) -> bool {
     let mut b = 0;
     while b < 600 {
@@ -40,6 +64,7 @@ fn row(file: &[u8], a: usize) -> bool {
         return false;
     }
     io::write_all(1, b"\n");
+    counts(file, a, b);
     true
 }
 

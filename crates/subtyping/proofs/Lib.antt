@@ -2,3 +2,4 @@ pub mod Blank
 pub mod LawsQuestion
 pub mod LawsStructs
 pub mod LawsTypesBelow
+pub mod LawsUnequal

@@ -1,4 +1,4 @@
-// The subtype question on a file: refused under 25, 1 to 5 or 17, or yes or no.
+// The subtype question on a file: refused under 25, 1 to 5 or 17, or yes or no, with the count of the pairs of types compared.
 use crate::below::below;
 use file_sections::Reading;
 use file_sections::Sections;
@@ -10,12 +10,12 @@ ghost use mathlib.Core.Path.{_≡_};
 ghost use Prim.Native.Nat.{ℕ, _<_};
 ghost use Rattle.file_sections.specs.Layout.{tablesOf, GoodTables};
 ghost use Rattle.program_file.specs.Reading.{settingOf};
-ghost use Rattle.subtyping.specs.Question.{askOf, subtypeOf, refusalNumber, yesAfter, Answers};
+ghost use Rattle.subtyping.specs.Question.{askOf, subtypeOf, refusalNumber, yesAfter, pairsOf, Answers};
 
 pub enum Answer {
     Refused(u16),
-    Yes,
-    No,
+    Yes(u16),
+    No(u16),
 }
 
 // The question on a file that was read and has both types.
@@ -23,18 +23,21 @@ fn ask(file: &[u8], sections: Sections, a: usize, b: usize) -> Answer
     requires { ⌜ GoodTables (now file) sections × (a < sections .types) × (b < sections .types) ⌝ }
     ensures { λ r. ⌜ r ≡ askOf (tablesOf (now (file .entry)) sections) a b ⌝ }
 {
-    let mut index = [0u16; 2112];
+    let mut index = [0u16; 2624];
     index_types(file, sections, &mut index);
-    if below(file, sections, &index, a, b) {
-        return Answer::Yes;
+    let compared = below(file, sections, &index, a, b);
+    let pairs = compared.pairs as u16;
+    if compared.holds {
+        return Answer::Yes(pairs);
     }
-    Answer::No
+    Answer::No(pairs)
 }
 
-// Is the type a below the type b? Whatever value a caller holds before, the answer's number and `yesAfter` give what `Answers` says.
+// Is the type a below the type b? Whatever value a caller holds before, the answer's number, `yesAfter` and its count give what `Answers`
+// says.
 pub fn subtype(file: &[u8], limits: Limits, a: usize, b: usize) -> Answer
     ensures { λ r. ⌜ r ≡ subtypeOf (settingOf limits) (now (file .entry)) a b ⌝ }
-    ensures { λ r. ⌜ ((old : ℕ) → Answers (settingOf limits) (now (file .entry)) a b (refusalNumber r) old (yesAfter old r)) ⌝ }
+    ensures { λ r. ⌜ ((old : ℕ) → Answers (settingOf limits) (now (file .entry)) a b (refusalNumber r) old (yesAfter old r) (pairsOf r)) ⌝ }
 {
     let read = program_file::read(file, limits);
     let Reading::Good(sections) = read else {

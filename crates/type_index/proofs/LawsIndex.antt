@@ -17,12 +17,13 @@ use Rattle.oat.specs.Tables.{Tables, typeAt, structAt}
 use Rattle.oat.specs.TypeRules.{kindAt}
 use Rattle.oat.specs.Types.{Ty, Struct, found, missing, lookup, typeOf, structOf, structsOf}
 use Rattle.oat.specs.Decide.{sameTy, isFormed}
+use Rattle.oat.specs.Pairs.{partsTy}
 use Rattle.oat.proofs.LawsBasics.{below-or-last, all-more, all-false}
 use Rattle.oat.proofs.LawsSame.{both-true, same-is, same-sound}
 use Rattle.file_sections.specs.declared.Sections.{Sections}
 use Rattle.file_sections.specs.Layout.{tablesOf, GoodTables}
 use Rattle.file_sections.proofs.LawsRecords.{structs-long}
-use Rattle.type_index.specs.Index.{declared, firstBelow, recordOf, structNamed, lowestEntry, structEntry, formedEntry, Entered, Indexed}
+use Rattle.type_index.specs.Index.{declared, firstBelow, recordOf, structNamed, lowestEntry, structEntry, formedEntry, partsEntry, Entered, Indexed}
 
 -- a loop that tests the numbers below n, one after another
 module _ (n : ℕ) (p : ℕ → Bool) (i : ℕ) where
@@ -174,6 +175,10 @@ module _ (index : List ℕ) where
   unfolding formedEntry
   formed-read i x e = ap (λ y. eqb y 1) e
 
+  pub parts-read : (i x : ℕ) → x ≡ getD index (2112 + i) 0 → x ≡ partsEntry index i
+  unfolding partsEntry
+  parts-read i x e = e
+
 -- the index of a file has places for the entries of its types
 pub entered : {s : List ℕ} {S : Sections} {index : List ℕ} {n i : ℕ} → GoodTables s S → Indexed index (tablesOf s S) n → i < S .types → Entered index i
 entered R I h = record { low = omega (arith, R .laid .types-most); long = I .long }
@@ -199,75 +204,100 @@ module _ (s : List ℕ) (S : Sections) (i : ℕ) where
   function-names-none k = names-none (λ e. omega arith)
 
 -- the entries of the type i, stored
-module _ (index : List ℕ) (i e r m : ℕ) (long : 1536 ≤ length index) (low : i < 512) where
+module _ (index : List ℕ) (i e r m w : ℕ) where
   abbrev one : List ℕ
   one = set index i e
 
   abbrev two : List ℕ
   two = set one (512 + i) r
 
-  abbrev stored : List ℕ
-  stored = set two (1024 + i) m
+  abbrev three : List ℕ
+  three = set two (1024 + i) m
 
-  elsewhere : (j : ℕ) → (j ≡ i → ⊥) → (j ≡ 512 + i → ⊥) → (j ≡ 1024 + i → ⊥) → getD stored j 0 ≡ getD index j 0
-  elsewhere j x y z = getD-set-other two (1024 + i) j m 0 z ∙ getD-set-other one (512 + i) j r 0 y ∙ getD-set-other index i j e 0 x
+  abbrev pub stored : List ℕ
+  stored = set three (2112 + i) w
 
-  module _ (k : ℕ) (l : k < i) where
-    kept-first : getD stored k 0 ≡ getD index k 0
-    kept-first = elsewhere k (λ x. omega arith) (λ x. omega arith) (λ x. omega arith)
+  pub elsewhere : (j : ℕ) → (j ≡ i → ⊥) → (j ≡ 512 + i → ⊥) → (j ≡ 1024 + i → ⊥) → (j ≡ 2112 + i → ⊥) → getD stored j 0 ≡ getD index j 0
+  elsewhere j x y z q =
+      getD-set-other three (2112 + i) j w 0 q ∙ getD-set-other two (1024 + i) j m 0 z ∙ getD-set-other one (512 + i) j r 0 y ∙ getD-set-other index i j e 0 x
 
-    kept-named : getD stored (512 + k) 0 ≡ getD index (512 + k) 0
-    kept-named = elsewhere (512 + k) (λ x. omega arith) (λ x. omega arith) (λ x. omega arith)
+  module _ (long : 2624 ≤ length index) (low : i < 512) where
+    module _ (k : ℕ) (l : k < i) where
+      kept-first : getD stored k 0 ≡ getD index k 0
+      kept-first = elsewhere k (λ x. omega arith) (λ x. omega arith) (λ x. omega arith) (λ x. omega arith)
 
-    kept-formed : getD stored (1024 + k) 0 ≡ getD index (1024 + k) 0
-    kept-formed = elsewhere (1024 + k) (λ x. omega arith) (λ x. omega arith) (λ x. omega arith)
+      kept-named : getD stored (512 + k) 0 ≡ getD index (512 + k) 0
+      kept-named = elsewhere (512 + k) (λ x. omega arith) (λ x. omega arith) (λ x. omega arith) (λ x. omega arith)
 
-  own-first : getD stored i 0 ≡ e
-  own-first = getD-set-other two (1024 + i) i m 0 (λ x. omega arith) ∙ getD-set-other one (512 + i) i r 0 (λ x. omega arith) ∙ getD-set-same index i e 0 (omega arith)
+      kept-formed : getD stored (1024 + k) 0 ≡ getD index (1024 + k) 0
+      kept-formed = elsewhere (1024 + k) (λ x. omega arith) (λ x. omega arith) (λ x. omega arith) (λ x. omega arith)
 
-  own-named : getD stored (512 + i) 0 ≡ r
-  own-named = getD-set-other two (1024 + i) (512 + i) m 0 (λ x. omega arith) ∙ getD-set-same one (512 + i) r 0 (simp length-set (omega arith))
+      kept-parts : getD stored (2112 + k) 0 ≡ getD index (2112 + k) 0
+      kept-parts = elsewhere (2112 + k) (λ x. omega arith) (λ x. omega arith) (λ x. omega arith) (λ x. omega arith)
 
-  own-formed : getD stored (1024 + i) 0 ≡ m
-  own-formed = getD-set-same two (1024 + i) m 0 (simp length-set (omega arith))
+    own-first : getD stored i 0 ≡ e
+    own-first =
+        getD-set-other three (2112 + i) i w 0 (λ x. omega arith)
+        ∙ getD-set-other two (1024 + i) i m 0 (λ x. omega arith)
+        ∙ getD-set-other one (512 + i) i r 0 (λ x. omega arith)
+        ∙ getD-set-same index i e 0 (omega arith)
+
+    own-named : getD stored (512 + i) 0 ≡ r
+    own-named =
+        getD-set-other three (2112 + i) (512 + i) w 0 (λ x. omega arith)
+        ∙ getD-set-other two (1024 + i) (512 + i) m 0 (λ x. omega arith)
+        ∙ getD-set-same one (512 + i) r 0 (simp length-set (omega arith))
+
+    own-formed : getD stored (1024 + i) 0 ≡ m
+    own-formed =
+        getD-set-other three (2112 + i) (1024 + i) w 0 (λ x. omega arith) ∙ getD-set-same two (1024 + i) m 0 (simp length-set (omega arith))
+
+    own-parts : getD stored (2112 + i) 0 ≡ w
+    own-parts = getD-set-same three (2112 + i) w 0 (simp length-set (omega arith))
 
 marked : (b : Bool) → eqb (pick b 1 0) 1 ≡ b
 marked true = refl
 marked false = refl
 
 -- one type more
-module _ (s : List ℕ) (S : Sections) (index : List ℕ) (i e r m : ℕ) (R : GoodTables s S) (h : i < S .types) (I : Indexed index (tablesOf s S) i) where
+module _ (s : List ℕ) (S : Sections) (index : List ℕ) (i e r m w : ℕ) (R : GoodTables s S) (h : i < S .types) (I : Indexed index (tablesOf s S) i) where
   below-512 : i < 512
   below-512 = omega (arith, R .laid .types-most)
 
-  pub indexed-more : (f : Bool) → e ≡ firstBelow i (λ j. sameTy (typeOf (tablesOf s S) j) (typeOf (tablesOf s S) i)) → r ≡ structNamed (tablesOf s S) i → f ≡ isFormed (declared (tablesOf s S)) (typeOf (tablesOf s S) i) → m ≡ pick f 1 0 → Indexed (set (set (set index i e) (512 + i) r) (1024 + i) m) (tablesOf s S) (i + 1)
-  unfolding lowestEntry structEntry formedEntry
-  indexed-more f ee er ef em = record {
+  pub indexed-more : (f : Bool) → e ≡ firstBelow i (λ j. sameTy (typeOf (tablesOf s S) j) (typeOf (tablesOf s S) i)) → r ≡ structNamed (tablesOf s S) i → f ≡ isFormed (declared (tablesOf s S)) (typeOf (tablesOf s S) i) → m ≡ pick f 1 0 → w ≡ partsTy (typeOf (tablesOf s S) i) → Indexed (stored index i e r m w) (tablesOf s S) (i + 1)
+  unfolding lowestEntry structEntry formedEntry partsEntry
+  indexed-more f ee er ef em ew = record {
     long = simp length-set (I .long);
     lowest = below-more
-        (λ k. getD (set (set (set index i e) (512 + i) r) (1024 + i) m) k 0 ≡ firstOf (typeOf (tablesOf s S)) k)
+        (λ k. getD (stored index i e r m w) k 0 ≡ firstOf (typeOf (tablesOf s S)) k)
         i
-        (λ k l. kept-first index i e r m (I .long) below-512 k l ∙ I .lowest k l)
-        (own-first index i e r m (I .long) below-512 ∙ ee);
+        (λ k l. kept-first index i e r m w (I .long) below-512 k l ∙ I .lowest k l)
+        (own-first index i e r m w (I .long) below-512 ∙ ee);
     named = below-more
-        (λ k. getD (set (set (set index i e) (512 + i) r) (1024 + i) m) (512 + k) 0 ≡ structNamed (tablesOf s S) k)
+        (λ k. getD (stored index i e r m w) (512 + k) 0 ≡ structNamed (tablesOf s S) k)
         i
-        (λ k l. kept-named index i e r m (I .long) below-512 k l ∙ I .named k l)
-        (own-named index i e r m (I .long) below-512 ∙ er);
+        (λ k l. kept-named index i e r m w (I .long) below-512 k l ∙ I .named k l)
+        (own-named index i e r m w (I .long) below-512 ∙ er);
     formed = below-more
-        (λ k. eqb (getD (set (set (set index i e) (512 + i) r) (1024 + i) m) (1024 + k) 0) 1 ≡ isFormed (declared (tablesOf s S)) (typeOf (tablesOf s S) k))
+        (λ k. eqb (getD (stored index i e r m w) (1024 + k) 0) 1 ≡ isFormed (declared (tablesOf s S)) (typeOf (tablesOf s S) k))
         i
-        (λ k l. ap (λ x. eqb x 1) (kept-formed index i e r m (I .long) below-512 k l) ∙ I .formed k l)
-        (ap (λ x. eqb x 1) (own-formed index i e r m (I .long) below-512 ∙ em) ∙ marked f ∙ ef);
+        (λ k l. ap (λ x. eqb x 1) (kept-formed index i e r m w (I .long) below-512 k l) ∙ I .formed k l)
+        (ap (λ x. eqb x 1) (own-formed index i e r m w (I .long) below-512 ∙ em) ∙ marked f ∙ ef);
+    parts = below-more
+        (λ k. getD (stored index i e r m w) (2112 + k) 0 ≡ partsTy (typeOf (tablesOf s S) k))
+        i
+        (λ k l. kept-parts index i e r m w (I .long) below-512 k l ∙ I .parts k l)
+        (own-parts index i e r m w (I .long) below-512 ∙ ew);
   }
 
 -- no type yet
-pub indexed-none : (index : List ℕ) (T : Tables) → 1536 ≤ length index → Indexed index T 0
+pub indexed-none : (index : List ℕ) (T : Tables) → 2624 ≤ length index → Indexed index T 0
 indexed-none index T h = record {
   long = h;
   lowest = λ i l. absurd (not-suc-le-zero l);
   named = λ i l. absurd (not-suc-le-zero l);
   formed = λ i l. absurd (not-suc-le-zero l);
+  parts = λ i l. absurd (not-suc-le-zero l);
 }
 
 -- every type

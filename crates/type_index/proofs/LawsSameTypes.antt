@@ -109,7 +109,7 @@ module _ (s : List ℕ) (S : Sections) (R : GoodTables s S) where
     pub nullable-kept : kindAt (tablesOf s S) i ≡ 7 → NullableType (tablesOf s S) i
     nullable-kept = kept .nullable i there
 
-    kind-most : kindAt (tablesOf s S) i ≤ 7
+    pub kind-most : kindAt (tablesOf s S) i ≤ 7
     kind-most = go (ltb i 4) refl
       where
         go : (b : Bool) → ltb i 4 ≡ b → kindAt (tablesOf s S) i ≤ 7
@@ -197,7 +197,7 @@ module _ (index : List ℕ) (T : Tables) (p q : ℕ) where
     params-more a f = loop-goes 0 _ j t a f (et ∙ rw (ex, ey))
 
 -- the index has places for the entries of a parameter
-pub listed-in : (s : List ℕ) (S : Sections) (index : List ℕ) (first count j x : ℕ) → Listed s S first count → j < count → x ≡ entryAt (tablesOf s S) (first + j) → 1536 ≤ length index → Entered index x
+pub listed-in : (s : List ℕ) (S : Sections) (index : List ℕ) (first count j x : ℕ) → Listed s S first count → j < count → x ≡ entryAt (tablesOf s S) (first + j) → 2624 ≤ length index → Entered index x
 listed-in s S index first count j x L h e l = record { low = omega (arith, L .below j h); long = l }
 
 -- parameters are equal where their entries in the index are
@@ -244,7 +244,7 @@ module _ (s : List ℕ) (S : Sections) (i first count : ℕ) where
   params-listed eb ec R h k = parameters-listed eb (parameters-in s S i count R h k ec)
 
 -- the index has places for the entries of what a type refers to
-module _ (s : List ℕ) (S : Sections) (index : List ℕ) (i : ℕ) (R : GoodTables s S) (h : i < S .types) (long : 1536 ≤ length index) where
+module _ (s : List ℕ) (S : Sections) (index : List ℕ) (i : ℕ) (R : GoodTables s S) (h : i < S .types) (long : 2624 ≤ length index) where
   module _ (x : ℕ) (ex : x ≡ typeAt (tablesOf s S) i .a) where
     pub held-entered : (k : ℕ) → kindAt (tablesOf s S) i ≡ k → (k ≡ 5) ⊎ (k ≡ 7) → Entered index x
     held-entered k ek d = record { low = omega (arith, holder-lower s S i x R h ex k ek d, R .laid .types-most); long = long }

@@ -33,7 +33,7 @@ pub fn is_formed(index: &[u16], i: usize) -> bool
 
 // `count` parameters from the entry `first` of the type list on are well-formed.
 fn params_formed(file: &[u8], sections: Sections, index: &[u16], first: usize, count: usize) -> bool
-    requires { ⌜ Listed (now file) sections first count × (1536 ≤ length (now index)) ⌝ }
+    requires { ⌜ Listed (now file) sections first count × (2624 ≤ length (now index)) ⌝ }
     ensures { λ r. ⌜ r ≡ paramsFormed (now (index .entry)) (tablesOf (now (file .entry)) sections) first count ⌝ }
 {
     let mut j = 0;

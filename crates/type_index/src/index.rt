@@ -1,9 +1,11 @@
-// The index of a file's types: four numbers for each type i, at i, 512 + i, 1024 + i and 1536 + i, and from 2048 on the heads of 64
-// chains. A chain leads from its head through the types of one bucket, the latest first: the head, and the number 1536 + j of each type
+// The index of a file's types: five numbers for each type i, at i, 512 + i, 1024 + i, 1536 + i and 2112 + i, and from 2048 on the heads
+// of 64 chains. A chain leads from its head through the types of one bucket, the latest first: the head, and the number 1536 + j of each type
 // j on it, is one higher than the type that it leads to, 0 for none.
 use crate::entries::entry;
 use crate::formed::function_formed;
 use crate::formed::is_formed;
+use crate::parts::function_parts;
+use crate::parts::parts_of;
 use crate::records::chain_records;
 use crate::records::record_of;
 use crate::same::function_bucket;
@@ -35,20 +37,29 @@ fn mark(test: bool) -> u16
 
 // Puts the type i first in its chain.
 fn link(index: &mut [u16], i: usize, bucket: usize)
-    requires { ⌜ (2112 ≤ length (now index)) × (i < 512) × (bucket < 64) ⌝ }
+    requires { ⌜ (2624 ≤ length (now index)) × (i < 512) × (bucket < 64) ⌝ }
     ensures { λ _. ⌜ now (index .exit) ≡ linking (now (index .entry)) i bucket ⌝ }
 {
     chains::link(index, 2048 + bucket, 1536 + i, i + 1);
 }
 
-// Stores the three entries of the type i and puts it first in its chain.
-fn enter(index: &mut [u16], i: usize, lowest: usize, named: usize, formed: bool, bucket: usize)
-    requires { ⌜ (2112 ≤ length (now index)) × (i < 512) × (lowest < 65536) × (named < 65536) × (bucket < 64) ⌝ }
-    ensures { λ _. ⌜ now (index .exit) ≡ entering (now (index .entry)) i lowest named formed bucket ⌝ }
+// Stores the four entries of the type i and puts it first in its chain.
+fn enter(
+    index: &mut [u16],
+    i: usize,
+    lowest: usize,
+    named: usize,
+    formed: bool,
+    parts: usize,
+    bucket: usize,
+)
+    requires { ⌜ (2624 ≤ length (now index)) × (i < 512) × (lowest < 65536) × (named < 65536) × (parts < 65536) × (bucket < 64) ⌝ }
+    ensures { λ _. ⌜ now (index .exit) ≡ entering (now (index .entry)) i lowest named formed parts bucket ⌝ }
 {
     index[i] = lowest as u16;
     index[512 + i] = named as u16;
     index[1024 + i] = mark(formed);
+    index[2112 + i] = parts as u16;
     link(index, i, bucket);
 }
 
@@ -65,7 +76,7 @@ fn index_struct(file: &[u8], sections: Sections, records: &[u16], index: &mut [u
     let bucket = name % 64;
     let lowest = lowest_struct(file, sections, &*index, i, bucket);
     let named = record_of(file, sections, records, name);
-    enter(index, i, lowest, named, named < sections.structs, bucket);
+    enter(index, i, lowest, named, named < sections.structs, 1, bucket);
 }
 
 // The entries of the array or nullable type i, of this kind, and its place in its chain, where lower types are indexed.
@@ -81,7 +92,8 @@ fn index_holder(file: &[u8], sections: Sections, index: &mut [u16], i: usize, ki
     let bucket = (first + kind) % 64;
     let lowest = lowest_holder(file, sections, &*index, i, kind, bucket);
     let formed = is_formed(&*index, a);
-    enter(index, i, lowest, sections.structs, formed, bucket);
+    let parts = 1 + parts_of(&*index, a);
+    enter(index, i, lowest, sections.structs, formed, parts, bucket);
 }
 
 // The entries of the function type i and its place in its chain, where lower types are indexed.
@@ -95,7 +107,8 @@ fn index_function(file: &[u8], sections: Sections, index: &mut [u16], i: usize)
     let bucket = function_bucket(file, sections, &*index, i);
     let lowest = lowest_function(file, sections, &*index, i, bucket);
     let formed = function_formed(file, sections, &*index, i);
-    enter(index, i, lowest, sections.structs, formed, bucket);
+    let parts = function_parts(file, sections, &*index, i);
+    enter(index, i, lowest, sections.structs, formed, parts, bucket);
 }
 
 // The entries of the type i and its place in its chain, where lower types are indexed and the struct records are chained. A base type
@@ -112,13 +125,13 @@ fn index_one(file: &[u8], sections: Sections, records: &[u16], index: &mut [u16]
         4 => index_struct(file, sections, records, index, i),
         5 | 7 => index_holder(file, sections, index, i, kind),
         6 => index_function(file, sections, index, i),
-        _ => enter(index, i, i, sections.structs, true, kind),
+        _ => enter(index, i, i, sections.structs, true, 1, kind),
     }
 }
 
 // Empties the chains.
 fn clear(index: &mut [u16])
-    requires { ⌜ 2112 ≤ length (now index) ⌝ }
+    requires { ⌜ 2624 ≤ length (now index) ⌝ }
     ensures { λ _. ⌜ Cleared (now (index .exit)) 64 ⌝ }
 {
     let mut h = 0;
@@ -130,7 +143,7 @@ fn clear(index: &mut [u16])
 
 // The entries of every type, where the struct records are chained.
 fn index_each(file: &[u8], sections: Sections, records: &[u16], index: &mut [u16])
-    requires { ⌜ GoodTables (now file) sections × (2112 ≤ length (now index)) × Recorded (now records) (tablesOf (now file) sections) (sections .structs) ⌝ }
+    requires { ⌜ GoodTables (now file) sections × (2624 ≤ length (now index)) × Recorded (now records) (tablesOf (now file) sections) (sections .structs) ⌝ }
     ensures { λ _. ⌜ Indexed (now (index .exit)) (tablesOf (now (file .entry)) sections) (sections .types) ⌝ }
 {
     clear(&mut *index);
@@ -143,7 +156,7 @@ fn index_each(file: &[u8], sections: Sections, records: &[u16], index: &mut [u16
 
 // The entries of every type.
 pub fn index_types(file: &[u8], sections: Sections, index: &mut [u16])
-    requires { ⌜ GoodTables (now file) sections × (2112 ≤ length (now index)) ⌝ }
+    requires { ⌜ GoodTables (now file) sections × (2624 ≤ length (now index)) ⌝ }
     ensures { λ _. ⌜ Indexed (now (index .exit)) (tablesOf (now (file .entry)) sections) (sections .types) ⌝ }
 {
     let mut records = [0u16; 320];

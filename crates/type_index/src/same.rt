@@ -37,7 +37,7 @@ fn same_params(
     q: usize,
     count: usize,
 ) -> bool
-    requires { ⌜ Listed (now file) sections p count × Listed (now file) sections q count × (1536 ≤ length (now index)) ⌝ }
+    requires { ⌜ Listed (now file) sections p count × Listed (now file) sections q count × (2624 ≤ length (now index)) ⌝ }
     ensures { λ r. ⌜ r ≡ sameParams (now (index .entry)) (tablesOf (now (file .entry)) sections) p q count ⌝ }
 {
     let mut j = 0;
@@ -63,7 +63,7 @@ fn same_parameters(
     b: usize,
     count: usize,
 ) -> bool
-    requires { ⌜ Parameters (now file) sections a count × Parameters (now file) sections b count × (1536 ≤ length (now index)) ⌝ }
+    requires { ⌜ Parameters (now file) sections a count × Parameters (now file) sections b count × (2624 ≤ length (now index)) ⌝ }
     ensures { λ r. ⌜ r ≡ sameParams (now (index .entry)) (tablesOf (now (file .entry)) sections) (typeAt (tablesOf (now (file .entry)) sections) a .b) (typeAt (tablesOf (now (file .entry)) sections) b .b) count ⌝ }
 {
     let p = type_b(file, sections, a);

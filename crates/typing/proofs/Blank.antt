@@ -1,4 +1,4 @@
--- A call of `check` on zero bytes, and on one byte, with limits in range (document 02, (v)): the answer is 0 0 0, or 1 0 0, and no buffer changes
+-- A call of `check` on zero bytes, and on one byte, with limits in range (document 02, (v)): the answer is 0 0 0, or 1 0 0, no pairs are compared, and no buffer changes
 -- (`check-blank`, `check-one-byte`). Assumes nothing.
 use mathlib.Core.Path.{_≡_, ap}
 use mathlib.Core.Bool.{true}
@@ -15,16 +15,16 @@ use Rattle.typing.specs.Check.{outcomeOf, Checked}
 
 -- the answer in an outcome
 answerIn : Outcome → Answer
-answerIn o = record { number = o .number; step = o .step; place = o .place }
+answerIn o = record { number = o .number; step = o .step; place = o .place; pairs = o .pairs }
 
 module _ (limits : Limits) (range : inRange limits ≡ true) {R W R′ W′ : List ℕ} {r : Answer} where
-  pub check-blank : Checked limits [] R W R′ W′ r → (r ≡ record { number = 0; step = 0; place = 0 }) × (R′ ≡ R) × (W′ ≡ W)
+  pub check-blank : Checked limits [] R W R′ W′ r → (r ≡ record { number = 0; step = 0; place = 0; pairs = 0 }) × (R′ ≡ R) × (W′ ≡ W)
   unfolding answerIn
   check-blank c =
       let is = blank-only limits range R W (outcomeOf r R′) (c .checks) in
       (ap answerIn is, ap (λ o. o .rows) is, c .rest blankProgram (blank-is-file limits range))
 
-  pub check-one-byte : (b : ℕ) → Checked limits (b ∷ []) R W R′ W′ r → (r ≡ record { number = 1; step = 0; place = 0 }) × (R′ ≡ R) × (W′ ≡ W)
+  pub check-one-byte : (b : ℕ) → Checked limits (b ∷ []) R W R′ W′ r → (r ≡ record { number = 1; step = 0; place = 0; pairs = 0 }) × (R′ ≡ R) × (W′ ≡ W)
   unfolding answerIn
   check-one-byte b c =
       let is = one-byte-only limits range b R W (outcomeOf r R′) (c .checks) in

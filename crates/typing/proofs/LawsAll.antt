@@ -1,7 +1,7 @@
 -- All steps of a file, group after group. Assumes nothing.
 use mathlib.Core.Path.{_≡_, refl, ap, ap₂, sym, subst, _∙_}
 use mathlib.Core.List.{List, [], _∷_, _++_, append-assoc}
-use Prim.Native.Nat.{ℕ, _+_, _≤_}
+use Prim.Native.Nat.{ℕ, _+_, _*_, _≤_}
 use native.Mathlib.Omega.{arith}
 use lib.ListN.{length}
 use Rattle.oat.specs.Basics.{tabulate}
@@ -15,11 +15,12 @@ use Rattle.file_sections.proofs.LawsRecords.{structs-long, built-ins-long}
 use Rattle.steps.specs.declared.context.Context.{Context}
 use Rattle.steps.specs.declared.context.Stepped.{Stepped}
 use Rattle.steps.specs.declared.context.Stepped.the-variants.{Next}
-use Rattle.steps.specs.Contract.{Held}
+use Rattle.steps.specs.Contract.{summing, Held}
 use Rattle.typing.specs.Runs.{start, afterSteps, Touched, touched-first, touched-later, Runs, AnsweredAll, ReadyBuiltIns, ToldBuiltIns, ReadyStructs, Declares, ReadyDecls, ToldDecls, HeadingsTold, ReadyRun, firstSteps, ToldFirst, programOf, ToldRun}
 use Rattle.typing.proofs.LawsRuns.{Stopped, after-append, touched-either, Apart, runs-then, runs-stop, runs-next}
 use Rattle.typing.proofs.LawsCounts.{More, after-counted, structs-alike, built-ins-alike, fields-alike, Bare, bare-none, bare-next, structs-bare, built-ins-bare, fields-bare, bare-untouched, headings-group, globals-group, bodies-group}
-use Rattle.typing.proofs.LawsGroups.{decls-some, group-alike, group-few, group-within}
+use Rattle.typing.proofs.LawsGroups.{decls-some, group-alike, group-few, group-within, group-sum}
+use Rattle.typing.proofs.LawsSums.{bare-sum}
 use Rattle.typing.proofs.LawsAnswers.{answers-run}
 use Rattle.typing.proofs.LawsLoops.{apart-bare}
 
@@ -130,6 +131,7 @@ module _ {F : List ℕ} {S : Sections} {X W K : List ℕ} (z : ReadyRun F S X W 
               declares = z .declares;
               room = omega (arith, m .names-are, structs-counted .names-are, built-ins-counted .names-are, group-few headings-group 0 (z .declarations));
               few = omega (arith, structs-counted .steps-are, built-ins-counted .steps-are, z .held .good-tables .laid .structs-most, z .held .good-tables .laid .built-ins-most);
+              sums = omega (arith, bare-sum e₁ (structs-run told₁ []) (structs-bare (S .structs)), bare-sum e₂ (told₂ .tells []) (built-ins-bare (S .«built_ins»)), z .held .good-tables .laid .nodes-most);
             }
 
         pub first-done : {r : Stepped} {W′ K′ : List ℕ} → HeadingsTold F S X d W W′ K′ r → ToldFirst F S X W W′ K′ r
@@ -157,7 +159,8 @@ module _ {F : List ℕ} {S : Sections} {X W K : List ℕ} (z : ReadyRun F S X W 
         let a = after-counted 1 0 A start (structs-alike (S .structs)) in
         let b = after-counted 0 1 B (afterSteps A start) (built-ins-alike (S .«built_ins»)) in
         let h = after-counted 0 1 H (afterSteps B (afterSteps A start)) (group-alike headings-group 0 ds) in
-        let e : c ≡ afterSteps H (afterSteps B (afterSteps A start)) = runs-next e₁ (told₁ .tells [] ds D) .0 ∙ after-append A (B ++ H) start ∙ after-append B H (afterSteps A start) in
+        let e : c ≡ summing (c .pairs) (afterSteps H (afterSteps B (afterSteps A start))) =
+        runs-next e₁ (told₁ .tells [] ds D) .0 ∙ ap (summing (c .pairs)) (after-append A (B ++ H) start ∙ after-append B H (afterSteps A start)) in
         let n = tabulate-long (S .structs) structName in
         let m = tabulate-long (S .«built_ins») builtIn in
         record {
@@ -165,6 +168,9 @@ module _ {F : List ℕ} {S : Sections} {X W K : List ℕ} (z : ReadyRun F S X W 
           names-are = ap (λ x. x .names) e ∙ omega (arith, a .names-are, b .names-are, h .names-are, m);
           steps-are = ap (λ x. x .steps) e ∙ omega (arith, a .steps-are, b .steps-are, h .steps-are, n, m);
         }
+
+    first-sum : c .pairs ≡ 0
+    first-sum = bare-sum e₁ (told₁ .tells [] (z .declarations) (z .declares)) (first-bare S (z .declarations))
 
     few-headings : (ds : List Decl) → Declares F S ds → length (headings 0 ds) + length (globals 0 ds) ≤ 4096
     few-headings ds D = omega (arith, each-one 0 ds, decls-some ds, D .used-up, z .held .good-tables .laid .nodes-most)
@@ -182,6 +188,7 @@ module _ {F : List ℕ} {S : Sections} {X W K : List ℕ} (z : ReadyRun F S X W 
           declares = D;
           room = omega (arith, m .names-are, first-counted ds D .names-are, each-one 0 ds);
           few = omega (arith, first-counted ds D .steps-are, few-headings ds D, z .held .good-tables .laid .structs-most, z .held .good-tables .laid .built-ins-most);
+          sums = omega (arith, first-sum, z .held .good-tables .laid .nodes-most);
         }
 
     module _ {R R₂ W₂ K₂ : List ℕ} {r₂ : Stepped} (told₂ : ToldDecls globals F S X c R W₁ R₂ W₂ K₂ r₂) where
@@ -203,6 +210,9 @@ module _ {F : List ℕ} {S : Sections} {X W K : List ℕ} (z : ReadyRun F S X W 
               names-are = ap (λ x. x .names) e ∙ omega (arith, m .names-are);
               steps-are = ap (λ x. x .steps) e ∙ m .steps-are;
             }
+
+        second-sum : d .pairs ≤ c .pairs + 1200 * S .nodes
+        second-sum = omega (arith, group-sum globals-group 0 (z .declarations) (z .held .good-tables) e₂ (told₂ .tells (z .declarations) (z .declares)), z .declares .used-up)
 
         pub all-fields : ReadyStructs F S X d
         all-fields =
@@ -257,6 +267,7 @@ module _ {F : List ℕ} {S : Sections} {X W K : List ℕ} (z : ReadyRun F S X W 
                   declares = D;
                   room = omega (arith, m .names-are, f .names-are, s .names-are, third-counted .names-are, each-one 0 ds);
                   few = omega (arith, f .steps-are, s .steps-are, third-counted .steps-are, few-headings ds D, z .held .good-tables .laid .structs-most, z .held .good-tables .laid .built-ins-most);
+                  sums = omega (arith, first-sum, second-sum, bare-sum e₃ fields-run (fields-bare (S .structs)), z .held .good-tables .laid .nodes-most);
                 }
 
             pub all-done : {R′ W′ K′ : List ℕ} {r : Stepped} → ToldDecls bodies F S X b R₂ W₂ R′ W′ K′ r → ToldRun F S X R W R′ W′ K′ r

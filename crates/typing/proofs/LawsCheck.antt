@@ -4,6 +4,7 @@ use mathlib.Core.Bool.{true}
 use mathlib.Core.List.{List, [], _∷_, _++_, append-nil}
 use mathlib.Core.Logic.{_⊎_, ⊎-elim}
 use Prim.Native.Nat.{ℕ, _+_, _*_, _≤_, _<_}
+use native.Mathlib.Nat.{zero-add, add-zero}
 use native.Mathlib.Omega.{arith}
 use lib.ListN.{length, getD, take, drop, replicate}
 use lib.Seq.{drop-at, length-take-le}
@@ -16,8 +17,9 @@ use Rattle.oat.specs.ProgramFile.{Limits, inRange, widest, Program, meant, IsFi
 use Rattle.oat.proofs.LawsBlank.{meant-is-file}
 use Rattle.oat.proofs.LawsLimits.{widest-in-range, within-widest, wider}
 use Rattle.typing_rules.specs.Steps.{Step, stepsOf, emptyContext}
-use Rattle.typing_rules.specs.Check.{Segment, Ran, accepted, refused, withSegment, run, answerOf as programAnswer, checkOf}
+use Rattle.typing_rules.specs.Check.{Segment, Ran, accepted, refused, withSegment, run, runPairs, answerOf as programAnswer, checkOf}
 use Rattle.typing_rules.proofs.Theorem.{runOf}
+use Rattle.typing_rules.proofs.LawsPairs.{check-pairs, sum-most}
 use Rattle.typing_rules.proofs.RowsTheorem.{segments-long}
 use Rattle.file_sections.specs.declared.Sections.{Sections}
 use Rattle.file_sections.specs.declared.Reading.{Reading}
@@ -31,12 +33,12 @@ use Rattle.type_index.specs.Index.{Indexed}
 use Rattle.bindings.specs.Bindings.{namesOf}
 use Rattle.bindings.proofs.LawsBindings.{scoped-none}
 use Rattle.demand3.specs.CheckFile.{needed, outcome, Checks, unreadable, rows-short, work-short, checked}
-use Rattle.demand3.proofs.Theorem.{fits, demand3, check-numbers}
+use Rattle.demand3.proofs.Theorem.{fits, sumOf, demand3, check-numbers}
 use Rattle.demand3.proofs.LawsPlaces.{refused-fits, accepted-fits}
 use Rattle.steps.specs.declared.context.Context.{Context}
 use Rattle.steps.specs.declared.context.Stepped.{Stepped}
 use Rattle.steps.specs.declared.context.Stepped.the-variants.{Next, Refused}
-use Rattle.steps.specs.Contract.{contextAt}
+use Rattle.steps.specs.Contract.{contextAt, summing}
 use Rattle.typing.specs.declared.check.Answer.{Answer}
 use Rattle.typing.specs.Runs.{start, afterSteps, withSegments, Written, Runs, goes, stops, Declares, ReadyRun, programOf, ToldRun}
 use Rattle.typing.specs.Check.{outcomeOf, Checked, Demands, answerOf, rowsAfter, Small, ReadyCheck, AnswersAs, ToldCheck}
@@ -71,55 +73,79 @@ module _ {F : List ℕ} {S : Sections} (p : Program) (f : IsFile widest F p) (e 
       ap runOf program-is
       ∙ ap₂ (λ C ss. run (tablesOf F S) C ss 0) (sym (empty-start (tablesOf F S) W)) (sym (append-nil (stepsOf (programOf F S (p .declarations)))))
 
+  sum-is : (W : List ℕ) → sumOf p ≡ runPairs (tablesOf F S) (contextAt (tablesOf F S) W start) (stepsOf (programOf F S (p .declarations)) ++ [])
+  sum-is W =
+      ap sumOf program-is
+      ∙ ap₂ (runPairs (tablesOf F S)) (sym (empty-start (tablesOf F S) W)) (sym (append-nil (stepsOf (programOf F S (p .declarations)))))
+
 -- what a run of all steps of the program p says
 pub data Ends (p : Program) (R′ : List ℕ) (r : Stepped) : Type 0 where
-  ends-next : (c : Context) (ss : List Step) (gs : List Segment) → r ≡ Next c → runOf p ≡ accepted gs (c .steps) → Written R′ ss gs → Ends p R′ r
-  ends-refused : (n s q : ℕ) → r ≡ Refused n s q → runOf p ≡ refused n s q → Ends p R′ r
+  ends-next : (c : Context) (ss : List Step) (gs : List Segment) → r ≡ Next c → runOf p ≡ accepted gs (c .steps) → sumOf p ≡ c .pairs → Written R′ ss gs → Ends p R′ r
+  ends-refused : (n s q k : ℕ) → r ≡ Refused n s q k → runOf p ≡ refused n s q → sumOf p ≡ k → Ends p R′ r
 
 run-ends : {F : List ℕ} {S : Sections} {X R W R′ W′ K′ : List ℕ} {r : Stepped} (p : Program) → IsFile widest F p → readingWithin widest F ≡ Good S
     → Runs F S X start (stepsOf (programOf F S (p .declarations))) R W R′ W′ K′ r → Ends p R′ r
-unfolding run
-run-ends {F} {S} {W = W} p f e (goes gs q m) = ends-next (afterSteps (stepsOf (programOf F S (p .declarations))) start) _ gs q (run-is p f e W ∙ m .on [] ∙ segments-all gs _) (m .written)
-run-ends {F} {S} {W = W} p f e (stops n s u q m) = ends-refused n s u q (run-is p f e W ∙ m [])
+unfolding run runPairs
+run-ends {F} {S} {W = W} p f e (goes gs k q m) =
+    ends-next (summing (0 + k) (afterSteps (stepsOf (programOf F S (p .declarations))) start)) _ gs q
+    (run-is p f e W ∙ m .on [] ∙ segments-all gs _)
+    (sum-is p f e W ∙ m .counts [] ∙ add-zero k ∙ sym (zero-add k))
+    (m .written)
+run-ends {F} {S} {W = W} p f e (stops n s u k q m o) = ends-refused n s u (0 + k) q (run-is p f e W ∙ m []) (sum-is p f e W ∙ o [] ∙ sym (zero-add k))
+
+-- a file has few nodes, so the sum has 32 bits
+sum-fits : {F : List ℕ} {S : Sections} (p : Program) → IsFile widest F p → readingWithin widest F ≡ Good S → sumOf p ≤ 4294967295
+sum-fits {F} {S} p f e =
+    omega (
+      arith,
+      sum-most p (fits F p f) (f .used-up),
+      check-pairs p,
+      nodes-are p f e,
+      within-tables widest F S (omega arith) e .laid .nodes-most,
+    )
 
 -- the numbers of the answer
-ends-small : {F : List ℕ} {R′ : List ℕ} {r : Stepped} (p : Program) → IsFile widest F p → Ends p R′ r → Small r
-ends-small {F} p f (ends-next c ss gs q e w) = record {
-  next = λ d i. let same : c ≡ d = cc in subst (λ x. x .steps < 65535) same (accepted-fits F p f gs (c .steps) e);
-  refused = λ n s u i. absurd (let z : _≡_ {A = ℕ} 0 1 = cc in omega arith);
+ends-small : {F : List ℕ} {S : Sections} {R′ : List ℕ} {r : Stepped} (p : Program) → IsFile widest F p → readingWithin widest F ≡ Good S → Ends p R′ r → Small r
+ends-small {F} p f h (ends-next c ss gs q e o w) = record {
+  next = λ d i.
+      let same : c ≡ d = cc in
+      subst (λ x. (x .steps < 65535) × (x .pairs ≤ 4294967295)) same (accepted-fits F p f gs (c .steps) e, omega (arith, o, sum-fits p f h));
+  refused = λ n s u k i. absurd (let z : _≡_ {A = ℕ} 0 1 = cc in omega arith);
 }
-ends-small {F} {r = r} p f (ends-refused n s u q e) = record {
+ends-small {F} {r = r} p f h (ends-refused n s u k q e o) = record {
   next = λ d i. absurd (let z : _≡_ {A = ℕ} 0 1 = cc in omega arith);
-  refused = λ n′ s′ u′ i.
-      let same : Refused n s u ≡ Refused n′ s′ u′ = sym q ∙ i in
+  refused = λ n′ s′ u′ k′ i.
+      let same : Refused n s u k ≡ Refused n′ s′ u′ k′ = sym q ∙ i in
       let (a, b, c) = refused-fits F p f n s u e in
       let first : n ≡ n′ = cc in
       let second : s ≡ s′ = cc in
       let third : u ≡ u′ = cc in
-      (omega arith, omega arith, omega arith);
+      let fourth : k ≡ k′ = cc in
+      (omega arith, omega arith, omega arith, omega (arith, fourth, o, sum-fits p f h));
 }
 
 -- the answer and the rows
-check-is : (p : Program) (a : Ran) → runOf p ≡ a → checkOf p ≡ programAnswer p a
+check-is : (p : Program) (a : Ran) (k : ℕ) → runOf p ≡ a → sumOf p ≡ k → checkOf p ≡ programAnswer p k a
 unfolding checkOf
-check-is p a e = ap (programAnswer p) e
+check-is p a k e f = ap₂ (programAnswer p) f e
 
 ends-answer : {F : List ℕ} {S : Sections} {R′ : List ℕ} {r : Stepped} (p : Program) → IsFile widest F p → readingWithin widest F ≡ Good S → length R′ ≡ S .nodes * 2
     → Ends p R′ r → AnswersAs p (rowsAfter r R′) (answerOf r)
-ends-answer {F} {S} {R′} p f e l (ends-next c ss gs q h w) =
+ends-answer {F} {S} {R′} p f e l (ends-next c ss gs q h o w) =
     let long : length R′ ≡ 2 * sizeDecls (p .declarations) = omega (arith, nodes-are p f e, f .used-up) in
     let rows = rows-are (p .declarations) (segments-long p (fits F p f) gs (c .steps) h) w long in
-    let is = sym (check-is p (accepted gs (c .steps)) h) in
+    let is = sym (check-is p (accepted gs (c .steps)) (c .pairs) h o) in
     subst (λ x. AnswersAs p (rowsAfter x R′) (answerOf x)) (sym q)
-    (record { number = ap (λ a. a .number) is; step = ap (λ a. a .step) is; place = ap (λ a. a .place) is; rows = rows ∙ ap (λ a. a .rows) is })
-ends-answer {F} {S} {R′} p f e l (ends-refused n s u q h) =
+    (record { number = ap (λ a. a .number) is; step = ap (λ a. a .step) is; place = ap (λ a. a .place) is; pairs = ap (λ a. a .pairs) is; rows = rows ∙ ap (λ a. a .rows) is })
+ends-answer {F} {S} {R′} p f e l (ends-refused n s u k q h o) =
     let long : length R′ ≡ 2 * length (p .tables .nodes) = omega (arith, nodes-are p f e) in
-    let is = sym (check-is p (refused n s u) h) in
+    let is = sym (check-is p (refused n s u) k h o) in
     subst (λ x. AnswersAs p (rowsAfter x R′) (answerOf x)) (sym q)
     (record {
       number = ap (λ a. a .number) is;
       step = ap (λ a. a .step) is;
       place = ap (λ a. a .place) is;
+      pairs = ap (λ a. a .pairs) is;
       rows = ap (λ k. replicate k 65535) long ∙ ap (λ a. a .rows) is;
     })
 
@@ -139,7 +165,7 @@ module _ {F : List ℕ} {S : Sections} {R W : List ℕ} (z : ReadyCheck F S R W)
     pub check-small : Small r
     check-small =
         let p = z .program in
-        ends-small p (z .file) (run-ends p (z .file) (z .reads) (m .tells (p .declarations) (declares p (z .file) (z .reads))))
+        ends-small p (z .file) (z .reads) (run-ends p (z .file) (z .reads) (m .tells (p .declarations) (declares p (z .file) (z .reads))))
 
     pub check-told : {R′ : List ℕ} {a : Answer} → length R₁ ≡ length R → length W₁ ≡ length W → a ≡ answerOf r → R′ ≡ rowsAfter r R₁ → ToldCheck F S R′ W₁ a
     check-told {R′} {a} l w ea eR = record {
@@ -179,17 +205,17 @@ needed-is p f e = omega (arith, nodes-are p f e)
 
 -- the check on bytes and buffers: 25 and 1 to 5
 module _ {l : Limits} {F R W : List ℕ} where
-  pub check-unread : {a : Answer} {r : Reading} {n m : ℕ} → r ≡ readingOf l F → r ≡ Unread n → m ≡ numberOf r → a ≡ record { number = m; step = 0; place = 0 } → Checked l F R W R W a
+  pub check-unread : {a : Answer} {r : Reading} {n m : ℕ} → r ≡ readingOf l F → r ≡ Unread n → m ≡ numberOf r → a ≡ record { number = m; step = 0; place = 0; pairs = 0 } → Checked l F R W R W a
   check-unread {a} {r} {n} {m} e h k q =
       let same : m ≡ n = k ∙ ap numberOf h in
       record {
-        checks = subst (λ x. Checks l F R W (outcomeOf x R)) (sym q) (subst (λ k. Checks l F R W (outcome k 0 0 R)) (sym same) (unreadable n (sym e ∙ h)));
+        checks = subst (λ x. Checks l F R W (outcomeOf x R)) (sym q) (subst (λ k. Checks l F R W (outcome k 0 0 0 R)) (sym same) (unreadable n (sym e ∙ h)));
         unchanged = λ a. refl;
         rest = λ p f. refl;
       }
 
   -- 6
-  pub check-rows-short : {S : Sections} {r : Answer} {g : Reading} → Bytes F → g ≡ readingOf l F → g ≡ Good S → length R < S .nodes * 2 → r ≡ record { number = 6; step = 0; place = 0 } → Checked l F R W R W r
+  pub check-rows-short : {S : Sections} {r : Answer} {g : Reading} → Bytes F → g ≡ readingOf l F → g ≡ Good S → length R < S .nodes * 2 → r ≡ record { number = 6; step = 0; place = 0; pairs = 0 } → Checked l F R W R W r
   check-rows-short {S} {r} b i j h q =
       let d = door l F S b (sym i ∙ j) in
       record {
@@ -198,7 +224,7 @@ module _ {l : Limits} {F R W : List ℕ} where
         rest = λ p f. refl;
       }
 
-  pub check-work-short : {S : Sections} {r : Answer} {g : Reading} → Bytes F → g ≡ readingOf l F → g ≡ Good S → S .nodes * 2 ≤ length R → length W < S .nodes * 2 → r ≡ record { number = 6; step = 0; place = 0 } → Checked l F R W R W r
+  pub check-work-short : {S : Sections} {r : Answer} {g : Reading} → Bytes F → g ≡ readingOf l F → g ≡ Good S → S .nodes * 2 ≤ length R → length W < S .nodes * 2 → r ≡ record { number = 6; step = 0; place = 0; pairs = 0 } → Checked l F R W R W r
   check-work-short {S} {r} b i j k h q =
       let d = door l F S b (sym i ∙ j) in
       let n = needed-is (d .program) (d .wide) (d .reads) in
@@ -222,15 +248,15 @@ module _ (l : Limits) (F R W : List ℕ) where
         let p = d .program in
         let n : needed p ≡ S .nodes * 2 = needed-is p (d .wide) (d .reads) in
         let t = subst (λ x. ToldCheck x S R₁ W₁ a) is told .tells p (d .wide) in
-        let c : Checks l F R W (outcome (checkOf p .number) (checkOf p .step) (checkOf p .place) (checkOf p .rows ++ drop (needed p) R)) = checked (d .range) p (d .file) (omega arith) (omega arith) in
+        let c : Checks l F R W (outcome (checkOf p .number) (checkOf p .step) (checkOf p .place) (checkOf p .pairs) (checkOf p .rows ++ drop (needed p) R)) = checked (d .range) p (d .file) (omega arith) (omega arith) in
         record {
-          checks = same-checks (t .number) (t .step) (t .place) (ap₂ (λ x m. x ++ drop m R) (t .rows) (sym n)) c;
+          checks = same-checks (t .number) (t .step) (t .place) (t .pairs) (ap₂ (λ x m. x ++ drop m R) (t .rows) (sym n)) c;
           unchanged = λ low. absurd (not-low p t low);
           rest = λ q h. rest-stays (needed q) (needed-is q (meant-is-file F (wider (within-widest l (d .range)) h)) (d .reads) ∙ sym (told .work-long));
         }
       where
-        same-checks : {n s q n′ s′ q′ : ℕ} {A B : List ℕ} → n ≡ n′ → s ≡ s′ → q ≡ q′ → A ≡ B → Checks l F R W (outcome n′ s′ q′ B) → Checks l F R W (outcome n s q A)
-        same-checks e f g h c = rw (e, f, g, h) c
+        same-checks : {n s q k n′ s′ q′ k′ : ℕ} {A B : List ℕ} → n ≡ n′ → s ≡ s′ → q ≡ q′ → k ≡ k′ → A ≡ B → Checks l F R W (outcome n′ s′ q′ k′ B) → Checks l F R W (outcome n s q k A)
+        same-checks e f g i h c = rw (e, f, g, i, h) c
 
         rest-stays : (m : ℕ) → m ≡ length W₁ → drop m (W₁ ++ drop (S .nodes * 2) W) ≡ drop m W
         rest-stays m e = drop-at W₁ (drop (S .nodes * 2) W) m (sym e) ∙ ap (λ x. drop x W) (sym (e ∙ told .work-long))

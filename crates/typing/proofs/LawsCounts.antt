@@ -8,12 +8,13 @@ use Rattle.oat.specs.Basics.{tabulate}
 use Rattle.oat.specs.Syntax.{Decl, global, function, sizeDecl}
 use Rattle.typing_rules.specs.Steps.{Step, structName, builtIn, heading, globalValue, structFields, body, headings, globals, bodies}
 use Rattle.typing_rules.specs.Check.{rowsBegin, nodeCount}
+use Rattle.typing_rules.proofs.LawsPairs.{stepNodes}
 use Rattle.steps.specs.declared.context.Context.{Context}
 use Rattle.steps.specs.Contract.{afterStep}
 use Rattle.typing.specs.Runs.{afterSteps, Touched, touched-first, touched-later}
 
 -- how many structs and names a step adds
-abbrev structsOfStep : Step → ℕ
+abbrev pub structsOfStep : Step → ℕ
 structsOfStep (structName i) = 1
 structsOfStep (builtIn i) = 0
 structsOfStep (heading n x t) = 0
@@ -117,17 +118,18 @@ tabulate-rest zero m f h = (tabulate m f, refl)
 tabulate-rest (suc n) zero f h = absurd (omega arith)
 tabulate-rest (suc n) (suc m) f h = let (rest, e) = tabulate-rest n m (λ i. f (suc i)) (omega arith) in (rest, ap (λ l. f 0 ∷ l) e)
 
--- a group of steps of declarations, each of which has one or none, which adds k names
+-- a group of steps of declarations, each of which has one or none, which adds k names and has nodes of the declaration alone
 pub record Group (steps : ℕ → List Decl → List Step) (k : ℕ) : Type 0 where
   pub none : (n : ℕ) → steps n [] ≡ []
   pub more : (n : ℕ) (d : Decl) (ds : List Decl) → steps n (d ∷ ds) ≡ steps n (d ∷ []) ++ steps (n + sizeDecl d) ds
   pub few : (n : ℕ) (d : Decl) → length (steps n (d ∷ [])) ≤ 1
   pub alike : (n : ℕ) (d : Decl) → Alike 0 k (steps n (d ∷ []))
+  pub nodes : (n : ℕ) (d : Decl) → stepNodes (steps n (d ∷ [])) ≤ sizeDecl d
   pub within : (n : ℕ) (d : Decl) (i : ℕ) → Touched i (steps n (d ∷ [])) → (n * 2 ≤ i) × (i < (n + sizeDecl d) * 2)
 
 pub headings-group : Group headings 1
 unfolding headings
-headings-group = record { none = λ n. refl; more = more; few = few; alike = alike; within = within }
+headings-group = record { none = λ n. refl; more = more; few = few; alike = alike; nodes = nodes; within = within }
   where
     more : (n : ℕ) (d : Decl) (ds : List Decl) → headings n (d ∷ ds) ≡ headings n (d ∷ []) ++ headings (n + sizeDecl d) ds
     more n (global x a) ds = refl
@@ -141,12 +143,16 @@ headings-group = record { none = λ n. refl; more = more; few = few; alike = ali
     alike n (global x a) = alike-none
     alike n (function x t ps b) = alike-next refl refl alike-none
 
+    nodes : (n : ℕ) (d : Decl) → stepNodes (headings n (d ∷ [])) ≤ sizeDecl d
+    nodes n (global x a) = omega arith
+    nodes n (function x t ps b) = omega arith
+
     within : (n : ℕ) (d : Decl) (i : ℕ) → Touched i (headings n (d ∷ [])) → (n * 2 ≤ i) × (i < (n + sizeDecl d) * 2)
     within n (function x t ps b) i (touched-first l h) = absurd (omega arith)
 
 pub globals-group : Group globals 1
 unfolding globals rowsBegin
-globals-group = record { none = λ n. refl; more = more; few = few; alike = alike; within = within }
+globals-group = record { none = λ n. refl; more = more; few = few; alike = alike; nodes = nodes; within = within }
   where
     more : (n : ℕ) (d : Decl) (ds : List Decl) → globals n (d ∷ ds) ≡ globals n (d ∷ []) ++ globals (n + sizeDecl d) ds
     more n (global x a) ds = refl
@@ -160,12 +166,16 @@ globals-group = record { none = λ n. refl; more = more; few = few; alike = alik
     alike n (global x a) = alike-next refl refl alike-none
     alike n (function x t ps b) = alike-none
 
+    nodes : (n : ℕ) (d : Decl) → stepNodes (globals n (d ∷ [])) ≤ sizeDecl d
+    nodes n (global x a) = omega arith
+    nodes n (function x t ps b) = omega arith
+
     within : (n : ℕ) (d : Decl) (i : ℕ) → Touched i (globals n (d ∷ [])) → (n * 2 ≤ i) × (i < (n + sizeDecl d) * 2)
     within n (global x a) i (touched-first l h) = (l, h)
 
 pub bodies-group : Group bodies 0
 unfolding bodies rowsBegin
-bodies-group = record { none = λ n. refl; more = more; few = few; alike = alike; within = within }
+bodies-group = record { none = λ n. refl; more = more; few = few; alike = alike; nodes = nodes; within = within }
   where
     more : (n : ℕ) (d : Decl) (ds : List Decl) → bodies n (d ∷ ds) ≡ bodies n (d ∷ []) ++ bodies (n + sizeDecl d) ds
     more n (global x a) ds = refl
@@ -178,6 +188,10 @@ bodies-group = record { none = λ n. refl; more = more; few = few; alike = alike
     alike : (n : ℕ) (d : Decl) → Alike 0 0 (bodies n (d ∷ []))
     alike n (global x a) = alike-none
     alike n (function x t ps b) = alike-next refl refl alike-none
+
+    nodes : (n : ℕ) (d : Decl) → stepNodes (bodies n (d ∷ [])) ≤ sizeDecl d
+    nodes n (global x a) = omega arith
+    nodes n (function x t ps b) = omega arith
 
     within : (n : ℕ) (d : Decl) (i : ℕ) → Touched i (bodies n (d ∷ [])) → (n * 2 ≤ i) × (i < (n + sizeDecl d) * 2)
     within n (function x t ps b) i (touched-first l h) = (l, h)

@@ -11,6 +11,7 @@ use Rattle.typing_rules.specs.Steps.{headings, globals, bodies}
 use Rattle.file_sections.specs.declared.Sections.{Sections}
 use Rattle.file_sections.specs.Layout.{Has, tablesOf}
 use Rattle.file_sections.proofs.LawsRecords.{nodes-long}
+use Rattle.expressions.specs.Contract.{Few}
 use Rattle.steps.specs.declared.context.Context.{Context}
 use Rattle.steps.specs.declared.context.Stepped.{Stepped}
 use Rattle.steps.specs.declared.context.Stepped.the-variants.{Next}
@@ -87,8 +88,8 @@ module _ {F : List ℕ} {S : Sections} {X W K : List ℕ} {c : Context} {n : ℕ
 
     pub global-ready : {R : List ℕ} → S .nodes * 2 ≤ length R → k ≡ 1 → ReadyGlobal F S X R W K c n
     global-ready {R} long one =
-        on-global (tablesOf F S) n k (λ d. c .names + sizeDecl d ≤ S .«built_ins» + S .nodes + 1 → ReadyGlobal F S X R W K c n) e one
-        (λ x a h l. record {
+        on-global (tablesOf F S) n k (λ d. c .names + sizeDecl d ≤ S .«built_ins» + S .nodes + 1 → Few (c .pairs) (sizeDecl d) → ReadyGlobal F S X R W K c n) e one
+        (λ x a h l f. record {
           held = z .held;
           whole = z .whole;
           rows-long = long;
@@ -97,7 +98,8 @@ module _ {F : List ℕ} {S : Sections} {X W K : List ℕ} {c : Context} {n : ℕ
           initializer = a;
           stands = h;
           room = omega arith;
-        }) (z .declaration) (z .stands) (z .room)
+          sums = omega arith;
+        }) (z .declaration) (z .stands) (z .room) (z .sums)
 
     pub global-told : {R R′ W′ K′ : List ℕ} {r : Stepped} → k ≡ 1 → ToldGlobal F S X R W c n R′ W′ K′ r → ToldDecl globals F S X c n R W R′ W′ K′ r
     unfolding globals
@@ -112,8 +114,8 @@ module _ {F : List ℕ} {S : Sections} {X W K : List ℕ} {c : Context} {n : ℕ
 
     pub body-ready : {R : List ℕ} → S .nodes * 2 ≤ length R → k ≡ 2 → ReadyBody F S X R W K c n
     body-ready {R} long two =
-        on-function (tablesOf F S) n k (λ d. c .names + sizeDecl d ≤ S .«built_ins» + S .nodes + 1 → ReadyBody F S X R W K c n) e two
-        (λ x t ps b h l. record {
+        on-function (tablesOf F S) n k (λ d. c .names + sizeDecl d ≤ S .«built_ins» + S .nodes + 1 → Few (c .pairs) (sizeDecl d) → ReadyBody F S X R W K c n) e two
+        (λ x t ps b h l f. record {
           held = z .held;
           whole = z .whole;
           rows-long = long;
@@ -124,7 +126,8 @@ module _ {F : List ℕ} {S : Sections} {X W K : List ℕ} {c : Context} {n : ℕ
           block = b;
           stands = h;
           room = omega arith;
-        }) (z .declaration) (z .stands) (z .room)
+          sums = omega arith;
+        }) (z .declaration) (z .stands) (z .room) (z .sums)
 
     pub body-told : {R R′ W′ K′ : List ℕ} {r : Stepped} → k ≡ 2 → ToldBody F S X R W c n R′ W′ K′ r → ToldDecl bodies F S X c n R W R′ W′ K′ r
     unfolding bodies

@@ -27,27 +27,33 @@ fill-done R R₀ i e l h g =
 
 -- the answer
 module _ {r : Stepped} (h : Small r) where
-  pub next-small : {c : Context} → r ≡ Next c → c .steps < 65535
-  next-small {c} e = h .next c e
+  pub steps-small : {c : Context} → r ≡ Next c → c .steps < 65535
+  steps-small {c} e = h .next c e .0
 
-  pub number-small : {n s q : ℕ} → r ≡ Refused n s q → n ≤ 16
-  number-small {n} {s} {q} e = h .refused n s q e .0
+  pub sum-small : {c : Context} → r ≡ Next c → c .pairs ≤ 4294967295
+  sum-small {c} e = h .next c e .1
 
-  pub step-small : {n s q : ℕ} → r ≡ Refused n s q → s < 65535
-  step-small {n} {s} {q} e = h .refused n s q e .1
+  pub number-small : {n s q k : ℕ} → r ≡ Refused n s q k → n ≤ 16
+  number-small {n} {s} {q} {k} e = h .refused n s q k e .0
 
-  pub place-small : {n s q : ℕ} → r ≡ Refused n s q → q < 65535
-  place-small {n} {s} {q} e = h .refused n s q e .2
+  pub step-small : {n s q k : ℕ} → r ≡ Refused n s q k → s < 65535
+  step-small {n} {s} {q} {k} e = h .refused n s q k e .1
+
+  pub place-small : {n s q k : ℕ} → r ≡ Refused n s q k → q < 65535
+  place-small {n} {s} {q} {k} e = h .refused n s q k e .2
+
+  pub pairs-small : {n s q k : ℕ} → r ≡ Refused n s q k → k ≤ 4294967295
+  pairs-small {n} {s} {q} {k} e = h .refused n s q k e .3
 
 module _ {r : Stepped} where
-  pub next-answer : {c : Context} {a : Answer} → r ≡ Next c → a ≡ record { number = 0; step = c .steps; place = 0 } → a ≡ answerOf r
+  pub next-answer : {c : Context} {a : Answer} → r ≡ Next c → a ≡ record { number = 0; step = c .steps; place = 0; pairs = c .pairs } → a ≡ answerOf r
   next-answer e f = f ∙ sym (ap answerOf e)
 
   pub next-rows : {c : Context} (R : List ℕ) → r ≡ Next c → R ≡ rowsAfter r R
   next-rows R e = sym (ap (λ x. rowsAfter x R) e)
 
-  pub refused-answer : {n s q : ℕ} {a : Answer} → r ≡ Refused n s q → a ≡ record { number = n; step = s; place = q } → a ≡ answerOf r
+  pub refused-answer : {n s q k : ℕ} {a : Answer} → r ≡ Refused n s q k → a ≡ record { number = n; step = s; place = q; pairs = k } → a ≡ answerOf r
   refused-answer e f = f ∙ sym (ap answerOf e)
 
-  pub refused-rows : {n s q : ℕ} {R′ : List ℕ} (R : List ℕ) → r ≡ Refused n s q → R′ ≡ replicate (length R) 65535 → R′ ≡ rowsAfter r R
+  pub refused-rows : {n s q k : ℕ} {R′ : List ℕ} (R : List ℕ) → r ≡ Refused n s q k → R′ ≡ replicate (length R) 65535 → R′ ≡ rowsAfter r R
   refused-rows R e f = f ∙ sym (ap (λ x. rowsAfter x R) e)

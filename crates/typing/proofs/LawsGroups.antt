@@ -9,8 +9,9 @@ use Rattle.oat.specs.Tables.{Tables}
 use Rattle.oat.specs.Syntax.{Decl, global, function, sizeDecl, sizeDecls}
 use Rattle.oat.specs.Nodes.{DeclStands, DeclsStand}
 use Rattle.typing_rules.specs.Steps.{Step}
+use Rattle.typing_rules.proofs.LawsPairs.{stepNodes}
 use Rattle.file_sections.specs.declared.Sections.{Sections}
-use Rattle.file_sections.specs.Layout.{tablesOf}
+use Rattle.file_sections.specs.Layout.{tablesOf, GoodTables}
 use Rattle.file_sections.specs.Trees.{Tree, Past}
 use Rattle.file_sections.proofs.LawsTrees.{decl-tree}
 use Rattle.steps.specs.declared.context.Context.{Context}
@@ -20,6 +21,7 @@ use Rattle.steps.specs.Contract.{Held}
 use Rattle.typing.specs.Runs.{Touched, Runs, Declares, ReadyDecl, ToldDecl, ReadyDecls, ToldDecls}
 use Rattle.typing.proofs.LawsRuns.{Stopped, touched-either, Apart, runs-none, runs-then, runs-stop, runs-next}
 use Rattle.typing.proofs.LawsCounts.{Alike, alike-none, alike-append, More, after-counted, bare-none, bare-untouched, Group}
+use Rattle.typing.proofs.LawsSums.{alike-sum}
 
 -- lists of declarations
 pub sizes-append : (xs ys : List Decl) → sizeDecls (xs ++ ys) ≡ sizeDecls xs + sizeDecls ys
@@ -39,6 +41,10 @@ stand-after : (T : Tables) (n : ℕ) (xs ys : List Decl) → DeclsStand T n (xs 
 stand-after T n [] ys h = subst (λ m. DeclsStand T m ys) (omega arith) h
 stand-after T n (d ∷ xs) ys h = subst (λ m. DeclsStand T m ys) (omega arith) (stand-after T (n + sizeDecl d) xs ys (h .1))
 
+nodes-append : (xs ys : List Step) → stepNodes (xs ++ ys) ≡ stepNodes xs + stepNodes ys
+nodes-append [] ys = omega arith
+nodes-append (x ∷ xs) ys = omega (arith, nodes-append xs ys)
+
 module _ {steps : ℕ → List Decl → List Step} {k : ℕ} (g : Group steps k) where
   pub group-append : (n : ℕ) (xs ys : List Decl) → steps n (xs ++ ys) ≡ steps n xs ++ steps (n + sizeDecls xs) ys
   group-append n [] ys = ap (λ m. steps m ys) (omega arith) ∙ ap (λ l. l ++ steps (n + 0) ys) (sym (g .none n))
@@ -57,6 +63,16 @@ module _ {steps : ℕ → List Decl → List Step} {k : ℕ} (g : Group steps k)
   group-few n [] = omega (arith, ap length (g .none n))
   group-few n (d ∷ ds) =
       omega (arith, ap length (g .more n d ds), length-append (steps n (d ∷ [])) (steps (n + sizeDecl d) ds), g .few n d, group-few (n + sizeDecl d) ds)
+
+  group-nodes : (n : ℕ) (ds : List Decl) → stepNodes (steps n ds) ≤ sizeDecls ds
+  group-nodes n [] = omega (arith, ap stepNodes (g .none n))
+  group-nodes n (d ∷ ds) =
+      omega (arith, ap stepNodes (g .more n d ds), nodes-append (steps n (d ∷ [])) (steps (n + sizeDecl d) ds), g .nodes n d, group-nodes (n + sizeDecl d) ds)
+
+  -- the sum of pairs after them
+  pub group-sum : {F : List ℕ} {S : Sections} {X : List ℕ} {c e : Context} {R W R₁ W₁ K₁ : List ℕ} {r : Stepped} (n : ℕ) (ds : List Decl) → GoodTables F S → r ≡ Next e
+      → Runs F S X c (steps n ds) R W R₁ W₁ K₁ r → e .pairs ≤ c .pairs + 1200 * sizeDecls ds
+  group-sum n ds tables i h = omega (arith, alike-sum i h tables (group-alike n ds), group-nodes n ds)
 
   pub group-within : (n : ℕ) (ds : List Decl) (i : ℕ) → Touched i (steps n ds) → (n * 2 ≤ i) × (i < (n + sizeDecls ds) * 2)
   group-within n [] i t = absurd (bare-untouched bare-none (subst (Touched i) (g .none n) t))
@@ -169,6 +185,7 @@ module _ {steps : ℕ → List Decl → List Step} {k : ℕ} (g : Group steps k)
               declaration = d;
               stands = s;
               room = omega (arith, names-room, decls-some (r .done), decls-some ys, sizes-append (r .done) (r .left), ap sizeDecls (r .split), ap sizeDecls e, ap length (r .split), length-append (r .done) (r .left), ap length e, z .declares .used-up);
+              sums = omega (arith, group-sum g 0 (r .done) (z .held .good-tables) refl (r .runs), z .sums, sizes-append (r .done) (r .left), ap sizeDecls (r .split), ap sizeDecls e, z .declares .used-up);
             }
 
         pub along-tree : Tree F S node

@@ -53,7 +53,7 @@ none-answered {F} {S} {c} f = subst (λ ss. AnsweredAll F S c ss (Next c)) (sym 
 -- struct names
 pub record StructsDone (F : List ℕ) (S : Sections) (N : List ℕ) (i : ℕ) (c : Context) : Type 0 where
   pub copied : Copied F S N i
-  pub counted : c ≡ record { structs = i; names = 0; steps = i }
+  pub counted : c ≡ record { structs = i; names = 0; steps = i; pairs = 0 }
   pub answered : AnsweredAll F S start (tabulate i structName) (Next c)
 
 module _ {F : List ℕ} {S : Sections} where
@@ -129,13 +129,13 @@ module _ {F : List ℕ} {S : Sections} {X W : List ℕ} {c₀ : Context} where
 
 -- struct fields
 pub record FieldsDone (F : List ℕ) (S : Sections) (c₀ : Context) (i : ℕ) (c : Context) : Type 0 where
-  pub counted : c ≡ record { structs = c₀ .structs; names = c₀ .names; steps = c₀ .steps + i }
+  pub counted : c ≡ record { structs = c₀ .structs; names = c₀ .names; steps = c₀ .steps + i; pairs = c₀ .pairs }
   pub answered : AnsweredAll F S c₀ (tabulate i structFields) (Next c)
 
 module _ {F : List ℕ} {S : Sections} {c₀ : Context} where
   pub fields-start : FieldsDone F S c₀ 0 c₀
   fields-start = record {
-    counted = ap (λ k. record { structs = c₀ .structs; names = c₀ .names; steps = k }) (more-none (c₀ .steps));
+    counted = ap (λ k. record { structs = c₀ .structs; names = c₀ .names; steps = k; pairs = c₀ .pairs }) (more-none (c₀ .steps));
     answered = none-answered structFields;
   }
     where
@@ -160,7 +160,7 @@ module _ {F : List ℕ} {S : Sections} {c₀ : Context} where
 
       pub fields-next : {d : Context} → t ≡ Next d → FieldsDone F S c₀ (i + 1) d
       fields-next {d} e = record {
-        counted = answered-next told e ∙ ap withStep (a .counted) ∙ ap (λ k. record { structs = c₀ .structs; names = c₀ .names; steps = k }) (one-more (c₀ .steps) i);
+        counted = answered-next told e ∙ ap withStep (a .counted) ∙ ap (λ k. record { structs = c₀ .structs; names = c₀ .names; steps = k; pairs = c₀ .pairs }) (one-more (c₀ .steps) i);
         answered = answers-more structFields (λ j. refl) (a .answered) told e;
       }
         where

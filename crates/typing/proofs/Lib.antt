@@ -3,6 +3,7 @@ pub mod Blocks
 pub mod Endless
 pub mod LawsRuns
 pub mod LawsCounts
+pub mod LawsSums
 pub mod LawsAnswers
 pub mod LawsGroups
 pub mod LawsHeadings
@@ -14,3 +15,4 @@ pub mod LawsRows
 pub mod LawsCheck
 pub mod Growth
 pub mod Nearest
+pub mod Pairs

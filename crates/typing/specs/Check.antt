@@ -20,7 +20,7 @@ use Rattle.steps.specs.declared.context.Stepped.the-variants.{Next, Refused}
 use Rattle.typing.specs.declared.check.Answer.{Answer}
 
 abbrev pub outcomeOf : Answer → List ℕ → Outcome
-outcomeOf r rows = outcome (r .number) (r .step) (r .place) rows
+outcomeOf r rows = outcome (r .number) (r .step) (r .place) (r .pairs) rows
 
 -- the answer and the rows are the definition's; 25 and 1 to 6 change no buffer (the rows are in the outcome); of work the first two numbers
 -- for each node are free, and the rest stays
@@ -35,17 +35,17 @@ pub record Demands (limits : Limits) (F R W R′ : List ℕ) (r : Answer) : Type
 
 -- the answer after the last step, and the rows: a refusal fills them
 abbrev pub answerOf : Stepped → Answer
-answerOf (Next c) = record { number = 0; step = c .steps; place = 0 }
-answerOf (Refused n s q) = record { number = n; step = s; place = q }
+answerOf (Next c) = record { number = 0; step = c .steps; place = 0; pairs = c .pairs }
+answerOf (Refused n s q k) = record { number = n; step = s; place = q; pairs = k }
 
 abbrev pub rowsAfter : Stepped → List ℕ → List ℕ
 rowsAfter (Next c) R = R
-rowsAfter (Refused n s q) R = replicate (length R) 65535
+rowsAfter (Refused n s q k) R = replicate (length R) 65535
 
--- the numbers of the answer have 16 bits, with one to spare
+-- the numbers of the answer have 16 bits, with one to spare, and the sum of pairs has 32
 pub record Small (r : Stepped) : Type 0 where
-  pub next : (c : Context) → r ≡ Next c → c .steps < 65535
-  pub refused : (n s q : ℕ) → r ≡ Refused n s q → (n ≤ 16) × (s < 65535) × (q < 65535)
+  pub next : (c : Context) → r ≡ Next c → (c .steps < 65535) × (c .pairs ≤ 4294967295)
+  pub refused : (n s q k : ℕ) → r ≡ Refused n s q k → (n ≤ 16) × (s < 65535) × (q < 65535) × (k ≤ 4294967295)
 
 -- a readable file, whose rows and work are of the length needed
 pub record ReadyCheck (F : List ℕ) (S : Sections) (R W : List ℕ) : Type 0 where
@@ -60,6 +60,7 @@ pub record AnswersAs (p : Program) (R′ : List ℕ) (r : Answer) : Type 0 where
   pub number : r .number ≡ checkOf p .number
   pub step : r .step ≡ checkOf p .step
   pub place : r .place ≡ checkOf p .place
+  pub pairs : r .pairs ≡ checkOf p .pairs
   pub rows : R′ ≡ checkOf p .rows
 
 pub record ToldCheck (F : List ℕ) (S : Sections) (R′ W′ : List ℕ) (r : Answer) : Type 0 where

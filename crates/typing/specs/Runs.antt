@@ -10,21 +10,22 @@ use Rattle.oat.specs.Syntax.{Decl, sizeDecl, sizeDecls}
 use Rattle.oat.specs.Nodes.{DeclStands, DeclsStand}
 use Rattle.oat.specs.ProgramFile.{Program}
 use Rattle.typing_rules.specs.Steps.{Step, structName, builtIn, headings, stepsOf}
-use Rattle.typing_rules.specs.Check.{Segment, Ran, refused, withSegment, rowsBegin, nodeCount, run}
+use Rattle.typing_rules.specs.Check.{Segment, Ran, refused, withSegment, rowsBegin, nodeCount, run, runPairs}
 use Rattle.file_sections.specs.declared.Sections.{Sections}
 use Rattle.file_sections.specs.Layout.{tablesOf, GoodTables}
 use Rattle.file_sections.specs.Frames.{ListAt}
 use Rattle.type_index.specs.Index.{Indexed}
+use Rattle.expressions.specs.Contract.{Few}
 use Rattle.steps.specs.declared.context.Context.{Context}
 use Rattle.steps.specs.declared.context.Stepped.{Stepped}
 use Rattle.steps.specs.declared.context.Stepped.the-variants.{Next, Refused}
-use Rattle.steps.specs.Contract.{contextAt, afterStep, Held, Whole}
+use Rattle.steps.specs.Contract.{contextAt, summing, afterStep, Held, Whole}
 
 -- the context before the first step
 abbrev pub start : Context
-start = record { structs = 0; names = 0; steps = 0 }
+start = record { structs = 0; names = 0; steps = 0; pairs = 0 }
 
--- the context after steps that are all accepted
+-- the context after steps that are all accepted, apart from the sum of pairs
 unfoldable pub afterSteps : List Step → Context → Context
 afterSteps [] c = c
 afterSteps (s ∷ ss) c = afterSteps ss (afterStep s c)
@@ -50,27 +51,36 @@ abbrev pub GoOn : Tables → Context → List Step → (W W′ : List ℕ) → L
 GoOn T c ss W W′ gs =
     (rest : List Step) → run T (contextAt T W c) (ss ++ rest) (c .steps) ≡ withSegments gs (run T (contextAt T W′ (afterSteps ss c)) rest (afterSteps ss c .steps))
 
+-- and they compare k pairs of types
+abbrev pub CountsOn : Tables → Context → List Step → (W W′ : List ℕ) → ℕ → Type 0
+CountsOn T c ss W W′ k = (rest : List Step) → runPairs T (contextAt T W c) (ss ++ rest) ≡ k + runPairs T (contextAt T W′ (afterSteps ss c)) rest
+
 -- they are refused, whatever follows
 abbrev pub Break : Tables → Context → List Step → List ℕ → (p k q : ℕ) → Type 0
 Break T c ss W p k q = (rest : List Step) → run T (contextAt T W c) (ss ++ rest) (c .steps) ≡ refused p k q
 
--- they are accepted, and the segments are written; no other row has changed, and the buffers hold the context after them
-pub record Run (F : List ℕ) (S : Sections) (X : List ℕ) (c : Context) (ss : List Step) (R W R′ W′ K′ : List ℕ) (gs : List Segment) : Type 0 where
+-- and k pairs are compared, up to and including the broken premise
+abbrev pub CountsTo : Tables → Context → List Step → List ℕ → ℕ → Type 0
+CountsTo T c ss W k = (rest : List Step) → runPairs T (contextAt T W c) (ss ++ rest) ≡ k
+
+-- they are accepted, compare k pairs, and the segments are written; no other row has changed, and the buffers hold the context after them
+pub record Run (F : List ℕ) (S : Sections) (X : List ℕ) (c : Context) (ss : List Step) (R W R′ W′ K′ : List ℕ) (gs : List Segment) (k : ℕ) : Type 0 where
   pub on : GoOn (tablesOf F S) c ss W W′ gs
+  pub counts : CountsOn (tablesOf F S) c ss W W′ k
   pub held : Held F S X W′ K′ (afterSteps ss c)
   pub written : Written R′ ss gs
   pub kept : (i : ℕ) → (Touched i ss → ⊥) → getD R′ i 0 ≡ getD R i 0
 
 -- the answer r to the steps ss, from the context c on, is that of the definition
 pub data Runs (F : List ℕ) (S : Sections) (X : List ℕ) (c : Context) (ss : List Step) (R W R′ W′ K′ : List ℕ) (r : Stepped) : Type 0 where
-  goes : (gs : List Segment) → r ≡ Next (afterSteps ss c) → Run F S X c ss R W R′ W′ K′ gs → Runs F S X c ss R W R′ W′ K′ r
-  stops : (p k q : ℕ) → r ≡ Refused p k q → Break (tablesOf F S) c ss W p k q → Runs F S X c ss R W R′ W′ K′ r
+  goes : (gs : List Segment) (k : ℕ) → r ≡ Next (summing (c .pairs + k) (afterSteps ss c)) → Run F S X c ss R W R′ W′ K′ gs k → Runs F S X c ss R W R′ W′ K′ r
+  stops : (p i q k : ℕ) → r ≡ Refused p i q (c .pairs + k) → Break (tablesOf F S) c ss W p i q → CountsTo (tablesOf F S) c ss W k → Runs F S X c ss R W R′ W′ K′ r
 
--- the same of steps that bind no name and write no rows, those on struct names and struct fields: W is the stack before and after them, and
--- their segments are written whatever the rows hold
+-- the same of steps that bind no name, write no rows and compare nothing, those on struct names and struct fields: W is the stack before and
+-- after them, and their segments are written whatever the rows hold
 pub data AnsweringAll (T : Tables) (W : List ℕ) (c : Context) (ss : List Step) (r : Stepped) : Type 0 where
-  all-next : (gs : List Segment) → r ≡ Next (afterSteps ss c) → GoOn T c ss W W gs → ((R : List ℕ) → Written R ss gs) → AnsweringAll T W c ss r
-  all-refused : (p k q : ℕ) → r ≡ Refused p k q → Break T c ss W p k q → AnsweringAll T W c ss r
+  all-next : (gs : List Segment) → r ≡ Next (afterSteps ss c) → GoOn T c ss W W gs → CountsOn T c ss W W 0 → ((R : List ℕ) → Written R ss gs) → AnsweringAll T W c ss r
+  all-refused : (p i q : ℕ) → r ≡ Refused p i q (c .pairs) → Break T c ss W p i q → CountsTo T c ss W 0 → AnsweringAll T W c ss r
 
 -- whatever the stack holds: these steps depend on the file alone
 pub record AnsweredAll (F : List ℕ) (S : Sections) (c : Context) (ss : List Step) (r : Stepped) : Type 0 where
@@ -98,7 +108,8 @@ pub record Declares (F : List ℕ) (S : Sections) (ds : List Decl) : Type 0 wher
   pub stand : DeclsStand (tablesOf F S) 0 ds
   pub used-up : sizeDecls ds ≡ S .nodes
 
--- one declaration, at n, has its step of the group `steps`, of which it may have none; there is room for what it binds
+-- one declaration, at n, has its step of the group `steps`, of which it may have none; there is room for what it binds and for the pairs that it
+-- compares
 pub record ReadyDecl (F : List ℕ) (S : Sections) (X W K : List ℕ) (c : Context) (n : ℕ) : Type 0 where
   pub held : Held F S X W K c
   pub whole : Whole S c
@@ -106,6 +117,7 @@ pub record ReadyDecl (F : List ℕ) (S : Sections) (X W K : List ℕ) (c : Conte
   pub declaration : Decl
   pub stands : DeclStands (tablesOf F S) n declaration
   pub room : c .names + sizeDecl declaration ≤ S .«built_ins» + S .nodes + 1
+  pub sums : Few (c .pairs) (sizeDecl declaration)
 
 pub record ToldDecl (steps : ℕ → List Decl → List Step) (F : List ℕ) (S : Sections) (X : List ℕ) (c : Context) (n : ℕ) (R W R′ W′ K′ : List ℕ) (r : Stepped) : Type 0 where
   pub tells : (d : Decl) → DeclStands (tablesOf F S) n d → Runs F S X c (steps n (d ∷ [])) R W R′ W′ K′ r
@@ -123,6 +135,7 @@ pub record ReadyDecls (steps : ℕ → List Decl → List Step) (F : List ℕ) (
   pub declares : Declares F S declarations
   pub room : afterSteps (steps 0 declarations) c .names ≤ S .«built_ins» + length declarations
   pub few : c .steps < 32768
+  pub sums : Few (c .pairs) (S .nodes)
 
 pub record ToldDecls (steps : ℕ → List Decl → List Step) (F : List ℕ) (S : Sections) (X : List ℕ) (c : Context) (R W R′ W′ K′ : List ℕ) (r : Stepped) : Type 0 where
   pub tells : (ds : List Decl) → Declares F S ds → Runs F S X c (steps 0 ds) R W R′ W′ K′ r

@@ -20,21 +20,23 @@ ghost use Rattle.program_file.specs.Reading.{settingOf};
 ghost use Rattle.typing.specs.Runs.{ReadyRun, ToldFirst, ToldRun};
 ghost use Rattle.typing.specs.Check.{Checked, Demands, answerOf, rowsAfter, Small, ReadyCheck, ToldCheck};
 
-// 0 and how many steps there are; or the number, the step and the place of a refusal.
+// 0 and how many steps there are; or the number, the step and the place of a refusal. Either way, how many pairs of types were compared.
 pub struct Answer {
     pub number: u16,
     pub step: u16,
     pub place: u16,
+    pub pairs: u32,
 }
 
-// An answer without step and place.
+// An answer without step, place and pairs.
 fn bare(number: u16) -> Answer
-    ensures { λ r. ⌜ r ≡ record { number = number; step = 0; place = 0 } ⌝ }
+    ensures { λ r. ⌜ r ≡ record { number = number; step = 0; place = 0; pairs = 0 } ⌝ }
 {
     Answer {
         number: number,
         step: 0,
         place: 0,
+        pairs: 0,
     }
 }
 
@@ -50,26 +52,28 @@ fn fill(rows: &mut [u16])
 }
 
 // The answer to an accepted file.
-fn acceptance(steps: usize) -> Answer
-    requires { ⌜ steps < 65535 ⌝ }
-    ensures { λ r. ⌜ r ≡ record { number = 0; step = steps; place = 0 } ⌝ }
+fn acceptance(steps: usize, pairs: usize) -> Answer
+    requires { ⌜ (steps < 65535) × (pairs ≤ 4294967295) ⌝ }
+    ensures { λ r. ⌜ r ≡ record { number = 0; step = steps; place = 0; pairs = pairs } ⌝ }
 {
     Answer {
         number: 0,
         step: steps as u16,
         place: 0,
+        pairs: pairs as u32,
     }
 }
 
 // The answer to a refused one.
-fn refusal(number: usize, step: usize, place: usize) -> Answer
-    requires { ⌜ (number ≤ 16) × (step < 65535) × (place < 65535) ⌝ }
-    ensures { λ r. ⌜ r ≡ record { number = number; step = step; place = place } ⌝ }
+fn refusal(number: usize, step: usize, place: usize, pairs: usize) -> Answer
+    requires { ⌜ (number ≤ 16) × (step < 65535) × (place < 65535) × (pairs ≤ 4294967295) ⌝ }
+    ensures { λ r. ⌜ r ≡ record { number = number; step = step; place = place; pairs = pairs } ⌝ }
 {
     Answer {
         number: number as u16,
         step: step as u16,
         place: place as u16,
+        pairs: pairs as u32,
     }
 }
 
@@ -80,10 +84,10 @@ fn finish(stepped: Stepped, rows: &mut [u16]) -> Answer
     ensures { λ _. ⌜ now (rows .exit) ≡ rowsAfter stepped (now (rows .entry)) ⌝ }
 {
     match stepped {
-        Stepped::Next(c) => acceptance(c.steps),
-        Stepped::Refused(number, step, place) => {
+        Stepped::Next(c) => acceptance(c.steps, c.pairs),
+        Stepped::Refused(number, step, place, pairs) => {
             fill(rows);
-            refusal(number, step, place)
+            refusal(number, step, place, pairs)
         }
     }
 }
@@ -142,7 +146,7 @@ fn check_read(file: &[u8], sections: Sections, rows: &mut [u16], work: &mut [u16
     requires { ⌜ ReadyCheck (now file) sections (now rows) (now work) ⌝ }
     ensures { λ r. ⌜ ToldCheck (now (file .entry)) sections (now (rows .exit)) (now (work .exit)) r ⌝ }
 {
-    let mut index = [0u16; 2112];
+    let mut index = [0u16; 2624];
     let mut chains = [0u16; 4736];
     index_types(file, sections, &mut index);
     let stepped = run(file, sections, &index, rows, work, &mut chains);

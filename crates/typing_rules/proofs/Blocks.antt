@@ -17,9 +17,9 @@ use Rattle.oat.specs.ProgramFile.{Program}
 use Rattle.typing_rules.specs.Contexts.{Scope, empty as emptyScope, binds, inner, isMiss, isFreshAt, isFresh, Context, findName}
 use Rattle.typing_rules.specs.Labels.{Label, unlabelled}
 use Rattle.typing_rules.specs.Derivations.{isEmpty}
-use Rattle.typing_rules.specs.Judge.{Out, ok, no, andThen, needs, isKind, referred, formed, isBelow, argumentsBelow, assignsTo, executeVars, execute, executeStep, executeBlock, executeAll}
+use Rattle.typing_rules.specs.Judge.{Out, ok, no, andThen, needs, isKind, referred, formed, isBelow, argumentsBelow, assignsTo, executeVars, execute, executeStep, executeBlock, executeAll, executing, executingVars}
 use Rattle.typing_rules.specs.Steps.{Step as CheckStep, structName, builtIn, heading, globalValue, structFields, body, headings, globals, bodies, stepsOf, isAmong, distinctFields, distinctNames, parameters, emptyContext}
-use Rattle.typing_rules.specs.Check.{isMissing, fieldsFormed, runStep, stepRows, rowsBegin, Segment, Ran, accepted, refused, withSegment, onStep, run}
+use Rattle.typing_rules.specs.Check.{isMissing, fieldsFormed, runStep, stepRows, rowsBegin, Segment, Ran, accepted, refused, withSegment, onStep, run, stepping}
 use Rattle.typing_rules.specs.Blocks.{boundAfter, boundBy, distinctVars, distinctStmt, distinctStep, distinctBlock, distinctStmts, distinctBody, distinctDecls, AmongVars, this-var, later-var, Within, of-block, AmongStmts, this-stmt, below-stmt, later-stmt, AsStep, this-step, below-step, Below, of-then, of-else, of-some, of-null, of-for-vars, of-for-step, of-for-body, of-while, SevenAt}
 use Rattle.typing_rules.proofs.LawsLevels.{Deepest, deepest-empty, deepest-inner, deepest-binds, fresh-inner, fresh-binds}
 use Rattle.typing_rules.proofs.Theorem.{runOf}
@@ -108,7 +108,7 @@ Any a = Unit {0}
 
 module _ (T : Tables) (C : Context ℕ) where
   vars-tell : {own : List ℕ} (vs : Vars) (n : ℕ) (Γ : Scope ℕ) → Owns own Γ → Tells (Owns (boundBy own vs)) (VarAt (AmongVars own vs n)) (distinctVars own vs) (executeVars T C vs n Γ)
-  unfolding executeVars distinctVars boundBy
+  unfolding executingVars distinctVars boundBy
   vars-tell noVar n Γ h = fine h refl
   vars-tell {own} (nextVar x a vs) n Γ h =
       plainly (expr-not-seven T C a (n + 1) Γ) λ t L.
@@ -117,7 +117,7 @@ module _ (T : Tables) (C : Context ℕ) where
 
   module _ (rt : ℕ) where
     mutual
-      unfolding execute distinctStmt
+      unfolding executing distinctStmt
 
       stmt-tells : {own : List ℕ} (last : Bool) (s : Stmt) (n : ℕ) (Γ : Scope ℕ) → Owns own Γ
           → Tells (λ d. Owns (boundAfter own s) (d .scope)) (VarAt (OfStmt own s n)) (distinctStmt own s) (execute T C rt last s n Γ)
@@ -241,7 +241,7 @@ step-plainly ok-in f = f _ _
 step-plainly (no-in p h) f = step-other h
 
 step-told : (T : Tables) (C : Context ℕ) (s : CheckStep) → StepTells s (runStep T C s)
-unfolding runStep SevenAt
+unfolding stepping SevenAt
 step-told T C (structName i) = step-new (isMissing (lookup (C .structs) (structAt T i .name))) i refl (step-fine refl)
 step-told T C (builtIn i) =
     step-asks (formed T C (builtInAt T i .type)) 9 i (λ e. omega arith)

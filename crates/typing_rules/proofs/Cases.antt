@@ -25,13 +25,32 @@ bi a b = record { name = a; type = b }
 abbrev pub nd : ℕ → ℕ → ℕ → ℕ → NodeRecord
 nd k x t c = record { kind = k; x = x; t = t; children = c }
 
--- the program is that of a file, and the check answers number, step and place, with these rows
-pub record Answers (p : Program) (number step place : ℕ) (rows : List ℕ) : Type 0 where
+-- the program is that of a file, and the check answers number, step, place and pairs, with these rows
+pub record Answers (p : Program) (number step place pairs : ℕ) (rows : List ℕ) : Type 0 where
   pub file : IsFile widest (fileOf (p .tables)) p
-  pub answer : checkOf p ≡ record { number = number; step = step; place = place; rows = rows }
+  pub answer : checkOf p ≡ record { number = number; step = step; place = place; pairs = pairs; rows = rows }
 
 pub program-accepted-1 : Program
 program-accepted-1 = record {
+  tables = record {
+    types = (ty 0 0 0 0 ∷ ty 1 0 0 0 ∷ ty 2 0 0 0 ∷ ty 3 0 0 0 ∷ ty 7 2 0 0 ∷ ty 6 1 0 2 ∷ []);
+    list = (4 ∷ 4 ∷ []);
+    fields = ([]);
+    structs = ([]);
+    builtIns = ([]);
+    nodes = (nd 2 10 5 3 ∷ nd 3 20 0 0 ∷ nd 3 21 0 0 ∷ nd 39 0 0 1 ∷ nd 32 0 0 1 ∷ nd 26 10 0 2 ∷ nd 15 20 0 0 ∷ nd 15 21 0 0
+        ∷ []);
+  };
+  declarations = (function 10 5 (20 ∷ 21 ∷ []) (block (then (returnValue (binary 10 (name 20) (name 21))) empty)) ∷ []);
+}
+
+pub accepted-1 : Answers program-accepted-1 0 2 0 5 (1 ∷ 65535 ∷ 4 ∷ 65535 ∷ 4 ∷ 65535 ∷ 1 ∷ 65535 ∷ 1 ∷ 65535 ∷ 1 ∷ 65535 ∷ 4 ∷ 1
+    ∷ 4 ∷ 2 ∷ [])
+unfolding program-accepted-1 computed isFile
+accepted-1 = record { file = is-file widest program-accepted-1 refl; answer = refl }
+
+pub program-accepted-2 : Program
+program-accepted-2 = record {
   tables = record {
     types = (ty 0 0 0 0 ∷ ty 1 0 0 0 ∷ ty 2 0 0 0 ∷ ty 3 0 0 0 ∷ ty 6 3 0 0 ∷ ty 6 0 0 0 ∷ ty 6 0 0 1 ∷ ty 6 3 1 2 ∷ ty 7 2 0 0
         ∷ ty 5 0 0 0 ∷ ty 5 9 0 0 ∷ ty 7 9 0 0 ∷ ty 5 1 0 0 ∷ ty 6 3 3 1 ∷ ty 6 9 4 1 ∷ ty 4 9 0 0 ∷ ty 7 15 0 0 ∷ ty 5 15 0 0
@@ -48,13 +67,60 @@ program-accepted-1 = record {
       empty))) ∷ []);
 }
 
-pub accepted-1 : Answers program-accepted-1 0 2 0 (1 ∷ 65535 ∷ 0 ∷ 65535 ∷ 1 ∷ 65535 ∷ 0 ∷ 65535 ∷ 0 ∷ 65535 ∷ 0 ∷ 65535 ∷ 1
+pub accepted-2 : Answers program-accepted-2 0 2 0 2 (1 ∷ 65535 ∷ 0 ∷ 65535 ∷ 1 ∷ 65535 ∷ 0 ∷ 65535 ∷ 0 ∷ 65535 ∷ 0 ∷ 65535 ∷ 1
     ∷ 65535 ∷ 0 ∷ 65535 ∷ 0 ∷ 65535 ∷ 1 ∷ 65535 ∷ 0 ∷ 65535 ∷ 1 ∷ 8 ∷ 1 ∷ 65535 ∷ 0 ∷ 65535 ∷ 1 ∷ 65535 ∷ 0 ∷ 1 ∷ [])
-unfolding program-accepted-1 computed isFile
-accepted-1 = record { file = is-file widest program-accepted-1 refl; answer = refl }
+unfolding program-accepted-2 computed isFile
+accepted-2 = record { file = is-file widest program-accepted-2 refl; answer = refl }
 
-pub program-accepted-2 : Program
-program-accepted-2 = record {
+pub program-accepted-3 : Program
+program-accepted-3 = record {
+  tables = record {
+    types = (ty 0 0 0 0 ∷ ty 1 0 0 0 ∷ ty 2 0 0 0 ∷ ty 3 0 0 0 ∷ ty 5 0 0 0 ∷ ty 7 2 0 0 ∷ ty 6 3 0 1 ∷ ty 6 3 1 1 ∷ ty 6 3 2 2
+        ∷ []);
+    list = (5 ∷ 2 ∷ 6 ∷ 7 ∷ []);
+    fields = ([]);
+    structs = ([]);
+    builtIns = ([]);
+    nodes = (nd 2 10 8 3 ∷ nd 3 20 0 0 ∷ nd 3 21 0 0 ∷ nd 39 0 0 6 ∷ nd 31 30 0 1 ∷ nd 17 0 4 1 ∷ nd 13 3 0 0 ∷ nd 31 31 0 1
+        ∷ nd 26 1 0 2 ∷ nd 20 0 0 1 ∷ nd 15 30 0 0 ∷ nd 19 0 0 2 ∷ nd 15 30 0 0 ∷ nd 13 0 0 0 ∷ nd 35 0 0 3 ∷ nd 25 1 0 1
+        ∷ nd 11 0 0 0 ∷ nd 39 0 0 0 ∷ nd 39 0 0 0 ∷ nd 38 0 0 2 ∷ nd 26 6 0 2 ∷ nd 13 1 0 0 ∷ nd 13 2 0 0 ∷ nd 39 0 0 0
+        ∷ nd 31 22 0 1 ∷ nd 15 20 0 0 ∷ nd 33 0 0 0 ∷ []);
+  };
+  declarations = (function 10 8 (20 ∷ 21 ∷ []) (block (then (var 30 (defaultArray 4 (literal (integer 3)))) (then (var 31 (binary
+      1 (lengthOf (name 30)) (index (name 30) (literal (integer 0))))) (then (ifElse (unary 1 (literal truth)) (block empty)
+      (block empty)) (then (while (binary 6 (literal (integer 1)) (literal (integer 2))) (block empty)) (then (var 22 (name 20))
+      (then returnVoid empty))))))) ∷ []);
+}
+
+pub accepted-3 : Answers program-accepted-3 0 2 0 0 (1 ∷ 65535 ∷ 6 ∷ 65535 ∷ 7 ∷ 65535 ∷ 1 ∷ 65535 ∷ 0 ∷ 65535 ∷ 4 ∷ 65535 ∷ 0
+    ∷ 65535 ∷ 0 ∷ 65535 ∷ 0 ∷ 65535 ∷ 0 ∷ 65535 ∷ 4 ∷ 4 ∷ 0 ∷ 65535 ∷ 4 ∷ 4 ∷ 0 ∷ 65535 ∷ 0 ∷ 65535 ∷ 1 ∷ 65535 ∷ 1 ∷ 65535 ∷ 0
+    ∷ 65535 ∷ 0 ∷ 65535 ∷ 0 ∷ 65535 ∷ 1 ∷ 65535 ∷ 0 ∷ 65535 ∷ 0 ∷ 65535 ∷ 0 ∷ 65535 ∷ 0 ∷ 65535 ∷ 6 ∷ 1 ∷ 1 ∷ 65535 ∷ [])
+unfolding program-accepted-3 computed isFile
+accepted-3 = record { file = is-file widest program-accepted-3 refl; answer = refl }
+
+pub program-accepted-4 : Program
+program-accepted-4 = record {
+  tables = record {
+    types = (ty 0 0 0 0 ∷ ty 1 0 0 0 ∷ ty 2 0 0 0 ∷ ty 3 0 0 0 ∷ ty 4 1 0 0 ∷ ty 4 2 0 0 ∷ ty 4 3 0 0 ∷ ty 7 4 0 0 ∷ ty 7 5 0 0
+        ∷ ty 5 4 0 0 ∷ ty 5 5 0 0 ∷ ty 5 0 0 0 ∷ ty 6 3 0 0 ∷ ty 6 0 0 0 ∷ ty 6 0 0 1 ∷ ty 4 9 0 0 ∷ ty 7 15 0 0 ∷ ty 5 15 0 0
+        ∷ ty 6 3 1 1 ∷ ty 7 2 0 0 ∷ ty 5 2 0 0 ∷ ty 5 0 0 0 ∷ ty 4 1 0 0 ∷ ty 5 7 0 0 ∷ ty 7 11 0 0 ∷ ty 6 5 2 1 ∷ ty 6 4 3 1
+        ∷ ty 5 1 0 0 ∷ ty 6 3 4 2 ∷ ty 5 11 0 0 ∷ ty 7 13 0 0 ∷ ty 6 15 6 0 ∷ ty 6 17 6 1 ∷ ty 7 17 0 0 ∷ ty 6 21 7 0
+        ∷ ty 6 21 7 1 ∷ ty 6 11 8 1 ∷ ty 6 3 9 1 ∷ ty 6 3 10 2 ∷ ty 6 3 12 2 ∷ []);
+    list = (0 ∷ 15 ∷ 4 ∷ 5 ∷ 0 ∷ 1 ∷ 17 ∷ 21 ∷ 22 ∷ 7 ∷ 0 ∷ 0 ∷ 4 ∷ 4 ∷ []);
+    fields = ([]);
+    structs = ([]);
+    builtIns = ([]);
+    nodes = (nd 2 10 13 1 ∷ nd 39 0 0 1 ∷ nd 32 0 0 1 ∷ nd 25 0 0 1 ∷ nd 13 1 0 0 ∷ []);
+  };
+  declarations = (function 10 13 ([]) (block (then (returnValue (unary 0 (literal (integer 1)))) empty)) ∷ []);
+}
+
+pub accepted-4 : Answers program-accepted-4 0 2 0 1 (1 ∷ 65535 ∷ 1 ∷ 65535 ∷ 1 ∷ 65535 ∷ 0 ∷ 65535 ∷ 0 ∷ 65535 ∷ [])
+unfolding program-accepted-4 computed isFile
+accepted-4 = record { file = is-file widest program-accepted-4 refl; answer = refl }
+
+pub program-accepted-5 : Program
+program-accepted-5 = record {
   tables = record {
     types = (ty 0 0 0 0 ∷ ty 1 0 0 0 ∷ ty 2 0 0 0 ∷ ty 3 0 0 0 ∷ ty 4 1 0 0 ∷ ty 4 2 0 0 ∷ ty 4 3 0 0 ∷ ty 7 4 0 0 ∷ ty 7 5 0 0
         ∷ ty 5 4 0 0 ∷ ty 5 5 0 0 ∷ ty 5 0 0 0 ∷ ty 6 3 0 0 ∷ ty 6 0 0 0 ∷ ty 6 0 0 1 ∷ ty 4 9 0 0 ∷ ty 7 15 0 0 ∷ ty 5 15 0 0
@@ -71,12 +137,12 @@ program-accepted-2 = record {
       ∷ []);
 }
 
-pub accepted-2 : Answers program-accepted-2 0 2 0 (1 ∷ 65535 ∷ 1 ∷ 65535 ∷ 1 ∷ 65535 ∷ 0 ∷ 65535 ∷ 0 ∷ 65535 ∷ 0 ∷ 65535 ∷ [])
-unfolding program-accepted-2 computed isFile
-accepted-2 = record { file = is-file widest program-accepted-2 refl; answer = refl }
+pub accepted-5 : Answers program-accepted-5 0 2 0 1 (1 ∷ 65535 ∷ 1 ∷ 65535 ∷ 1 ∷ 65535 ∷ 0 ∷ 65535 ∷ 0 ∷ 65535 ∷ 0 ∷ 65535 ∷ [])
+unfolding program-accepted-5 computed isFile
+accepted-5 = record { file = is-file widest program-accepted-5 refl; answer = refl }
 
-pub program-accepted-3 : Program
-program-accepted-3 = record {
+pub program-accepted-6 : Program
+program-accepted-6 = record {
   tables = record {
     types = (ty 0 0 0 0 ∷ ty 1 0 0 0 ∷ ty 2 0 0 0 ∷ ty 3 0 0 0 ∷ ty 4 1 0 0 ∷ ty 4 2 0 0 ∷ ty 4 3 0 0 ∷ ty 7 4 0 0 ∷ ty 7 5 0 0
         ∷ ty 5 4 0 0 ∷ ty 5 5 0 0 ∷ ty 5 0 0 0 ∷ ty 6 3 0 0 ∷ ty 6 0 0 0 ∷ ty 6 0 0 1 ∷ ty 4 9 0 0 ∷ ty 7 15 0 0 ∷ ty 5 15 0 0
@@ -93,12 +159,12 @@ program-accepted-3 = record {
       ∷ []);
 }
 
-pub accepted-3 : Answers program-accepted-3 0 2 0 (1 ∷ 65535 ∷ 1 ∷ 65535 ∷ 1 ∷ 65535 ∷ 0 ∷ 65535 ∷ 0 ∷ 65535 ∷ 0 ∷ 65535 ∷ [])
-unfolding program-accepted-3 computed isFile
-accepted-3 = record { file = is-file widest program-accepted-3 refl; answer = refl }
+pub accepted-6 : Answers program-accepted-6 0 2 0 1 (1 ∷ 65535 ∷ 1 ∷ 65535 ∷ 1 ∷ 65535 ∷ 0 ∷ 65535 ∷ 0 ∷ 65535 ∷ 0 ∷ 65535 ∷ [])
+unfolding program-accepted-6 computed isFile
+accepted-6 = record { file = is-file widest program-accepted-6 refl; answer = refl }
 
-pub program-accepted-4 : Program
-program-accepted-4 = record {
+pub program-accepted-7 : Program
+program-accepted-7 = record {
   tables = record {
     types = (ty 0 0 0 0 ∷ ty 1 0 0 0 ∷ ty 2 0 0 0 ∷ ty 3 0 0 0 ∷ ty 4 1 0 0 ∷ ty 4 2 0 0 ∷ ty 4 3 0 0 ∷ ty 7 4 0 0 ∷ ty 7 5 0 0
         ∷ ty 5 4 0 0 ∷ ty 5 5 0 0 ∷ ty 5 0 0 0 ∷ ty 6 3 0 0 ∷ ty 6 0 0 0 ∷ ty 6 0 0 1 ∷ ty 4 9 0 0 ∷ ty 7 15 0 0 ∷ ty 5 15 0 0
@@ -116,35 +182,36 @@ program-accepted-4 = record {
       empty)) (then returnVoid empty))) ∷ []);
 }
 
-pub accepted-4 : Answers program-accepted-4 0 2 0 (1 ∷ 65535 ∷ 1 ∷ 65535 ∷ 0 ∷ 65535 ∷ 0 ∷ 65535 ∷ 0 ∷ 65535 ∷ 1 ∷ 65535 ∷ 0
+pub accepted-7 : Answers program-accepted-7 0 2 0 0 (1 ∷ 65535 ∷ 1 ∷ 65535 ∷ 0 ∷ 65535 ∷ 0 ∷ 65535 ∷ 0 ∷ 65535 ∷ 1 ∷ 65535 ∷ 0
     ∷ 65535 ∷ 0 ∷ 65535 ∷ 1 ∷ 65535 ∷ [])
-unfolding program-accepted-4 computed isFile
-accepted-4 = record { file = is-file widest program-accepted-4 refl; answer = refl }
+unfolding program-accepted-7 computed isFile
+accepted-7 = record { file = is-file widest program-accepted-7 refl; answer = refl }
 
-pub program-accepted-5 : Program
-program-accepted-5 = record {
+pub program-accepted-8 : Program
+program-accepted-8 = record {
   tables = record {
-    types = (ty 0 0 0 0 ∷ ty 1 0 0 0 ∷ ty 2 0 0 0 ∷ ty 3 0 0 0 ∷ ty 6 3 0 0 ∷ ty 6 0 0 0 ∷ ty 6 0 0 1 ∷ ty 6 3 1 2 ∷ ty 7 2 0 0
-        ∷ ty 5 0 0 0 ∷ ty 5 9 0 0 ∷ ty 7 9 0 0 ∷ ty 5 1 0 0 ∷ ty 6 3 3 1 ∷ ty 6 9 4 1 ∷ ty 4 9 0 0 ∷ ty 7 15 0 0 ∷ ty 5 15 0 0
-        ∷ []);
-    list = (0 ∷ 0 ∷ 0 ∷ 8 ∷ 9 ∷ []);
-    fields = ([]);
-    structs = ([]);
-    builtIns = (bi 12 4 ∷ []);
-    nodes = (nd 2 10 4 1 ∷ nd 39 0 0 3 ∷ nd 31 21 0 1 ∷ nd 18 12 9 2 ∷ nd 13 1 0 0 ∷ nd 15 12 0 0 ∷ nd 34 0 0 1 ∷ nd 15 12 0 0
-        ∷ nd 33 0 0 0 ∷ []);
+    types = (ty 0 0 0 0 ∷ ty 1 0 0 0 ∷ ty 2 0 0 0 ∷ ty 3 0 0 0 ∷ ty 4 1 0 0 ∷ ty 4 2 0 0 ∷ ty 4 3 0 0 ∷ ty 7 4 0 0 ∷ ty 7 5 0 0
+        ∷ ty 5 4 0 0 ∷ ty 5 5 0 0 ∷ ty 5 0 0 0 ∷ ty 6 3 0 0 ∷ ty 6 0 0 0 ∷ ty 6 0 0 1 ∷ ty 4 9 0 0 ∷ ty 7 15 0 0 ∷ ty 5 15 0 0
+        ∷ ty 6 3 1 1 ∷ ty 7 2 0 0 ∷ ty 5 2 0 0 ∷ ty 5 0 0 0 ∷ ty 4 1 0 0 ∷ ty 5 7 0 0 ∷ ty 7 11 0 0 ∷ ty 6 5 2 1 ∷ ty 6 4 3 1
+        ∷ ty 5 1 0 0 ∷ ty 6 3 4 2 ∷ ty 5 11 0 0 ∷ ty 7 13 0 0 ∷ ty 6 15 6 0 ∷ ty 6 17 6 1 ∷ ty 7 17 0 0 ∷ ty 6 21 7 0
+        ∷ ty 6 21 7 1 ∷ ty 6 11 8 1 ∷ ty 6 3 9 1 ∷ ty 6 3 10 2 ∷ ty 6 3 12 2 ∷ []);
+    list = (0 ∷ 15 ∷ 4 ∷ 5 ∷ 0 ∷ 1 ∷ 17 ∷ 21 ∷ 22 ∷ 7 ∷ 0 ∷ 0 ∷ 4 ∷ 4 ∷ []);
+    fields = (fd 1 21 ∷ []);
+    structs = (st 1 0 1 ∷ []);
+    builtIns = ([]);
+    nodes = (nd 2 10 34 1 ∷ nd 39 0 0 1 ∷ nd 32 0 0 1 ∷ nd 23 1 0 1 ∷ nd 21 0 4 1 ∷ nd 22 1 0 1 ∷ nd 16 0 11 0 ∷ []);
   };
-  declarations = (function 10 4 ([]) (block (then (var 21 (arrayWith 9 12 (literal (integer 1)) (name 12))) (then (callStmt (name
-      12) none) (then returnVoid empty)))) ∷ []);
+  declarations = (function 10 34 ([]) (block (then (returnValue (field 1 (structLiteral 4 (init 1 (arrayLiteral 11 none)
+      noInit)))) empty)) ∷ []);
 }
 
-pub accepted-5 : Answers program-accepted-5 0 3 0 (1 ∷ 65535 ∷ 1 ∷ 65535 ∷ 0 ∷ 65535 ∷ 9 ∷ 65535 ∷ 0 ∷ 65535 ∷ 0 ∷ 3 ∷ 0 ∷ 65535
-    ∷ 4 ∷ 40000 ∷ 1 ∷ 65535 ∷ [])
-unfolding program-accepted-5 computed isFile
-accepted-5 = record { file = is-file widest program-accepted-5 refl; answer = refl }
+pub accepted-8 : Answers program-accepted-8 0 4 0 4 (1 ∷ 65535 ∷ 1 ∷ 65535 ∷ 1 ∷ 65535 ∷ 21 ∷ 65535 ∷ 4 ∷ 65535 ∷ 11 ∷ 65535 ∷ 11
+    ∷ 65535 ∷ [])
+unfolding program-accepted-8 computed isFile
+accepted-8 = record { file = is-file widest program-accepted-8 refl; answer = refl }
 
-pub program-accepted-6 : Program
-program-accepted-6 = record {
+pub program-accepted-9 : Program
+program-accepted-9 = record {
   tables = record {
     types = (ty 0 0 0 0 ∷ ty 1 0 0 0 ∷ ty 2 0 0 0 ∷ ty 3 0 0 0 ∷ ty 6 3 0 0 ∷ ty 6 3 0 1 ∷ ty 6 0 1 0 ∷ ty 6 0 1 1 ∷ ty 7 2 0 0
         ∷ []);
@@ -152,53 +219,27 @@ program-accepted-6 = record {
     fields = ([]);
     structs = ([]);
     builtIns = (bi 50 4 ∷ []);
-    nodes = (nd 1 40 0 1 ∷ nd 11 0 0 0 ∷ nd 1 41 0 1 ∷ nd 13 1 0 0 ∷ nd 2 10 4 1 ∷ nd 39 0 0 3 ∷ nd 38 0 0 2 ∷ nd 11 0 0 0
-        ∷ nd 39 0 0 2 ∷ nd 36 100 2 3 ∷ nd 10 0 8 0 ∷ nd 39 0 0 3 ∷ nd 38 0 0 2 ∷ nd 25 1 0 1 ∷ nd 12 0 0 0 ∷ nd 39 0 0 3
-        ∷ nd 34 0 0 1 ∷ nd 15 50 0 0 ∷ nd 31 101 0 1 ∷ nd 13 1 0 0 ∷ nd 34 0 0 1 ∷ nd 15 50 0 0 ∷ nd 38 0 0 2 ∷ nd 11 0 0 0
-        ∷ nd 39 0 0 3 ∷ nd 31 102 0 1 ∷ nd 13 1 0 0 ∷ nd 30 0 0 2 ∷ nd 15 41 0 0 ∷ nd 13 2 0 0 ∷ nd 31 103 0 1 ∷ nd 13 1 0 0
-        ∷ nd 31 104 0 1 ∷ nd 13 1 0 0 ∷ nd 39 0 0 2 ∷ nd 34 0 0 1 ∷ nd 15 50 0 0 ∷ nd 38 0 0 2 ∷ nd 11 0 0 0 ∷ nd 39 0 0 0
-        ∷ nd 31 105 0 1 ∷ nd 13 1 0 0 ∷ nd 34 0 0 1 ∷ nd 15 50 0 0 ∷ nd 33 0 0 0 ∷ []);
+    nodes = (nd 1 40 0 1 ∷ nd 11 0 0 0 ∷ nd 1 41 0 1 ∷ nd 13 1 0 0 ∷ nd 2 10 6 1 ∷ nd 39 0 0 2 ∷ nd 30 0 0 2 ∷ nd 15 41 0 0
+        ∷ nd 13 2 0 0 ∷ nd 35 0 0 3 ∷ nd 11 0 0 0 ∷ nd 39 0 0 3 ∷ nd 38 0 0 2 ∷ nd 11 0 0 0 ∷ nd 39 0 0 0 ∷ nd 35 0 0 3
+        ∷ nd 15 40 0 0 ∷ nd 39 0 0 1 ∷ nd 38 0 0 2 ∷ nd 11 0 0 0 ∷ nd 39 0 0 0 ∷ nd 39 0 0 0 ∷ nd 38 0 0 2 ∷ nd 11 0 0 0
+        ∷ nd 39 0 0 0 ∷ nd 39 0 0 2 ∷ nd 34 0 0 1 ∷ nd 15 50 0 0 ∷ nd 32 0 0 1 ∷ nd 13 1 0 0 ∷ []);
   };
-  declarations = (global 40 (literal truth) ∷ global 41 (literal (integer 1)) ∷ function 10 4 ([]) (block (then (while (literal
-      truth) (block (then (ifNull 100 2 (null 8) (block (then (while (unary 1 (literal falsity)) (block (then (callStmt (name 50)
-      none) (then (var 101 (literal (integer 1))) (then (callStmt (name 50) none) empty))))) (then (while (literal truth) (block
-      (then (var 102 (literal (integer 1))) (then (assign (nameTarget 41) (literal (integer 2))) (then (var 103 (literal (integer
-      1))) empty))))) (then (var 104 (literal (integer 1))) empty)))) (block (then (callStmt (name 50) none) (then (while (literal
-      truth) (block empty)) empty)))) (then (var 105 (literal (integer 1))) empty)))) (then (callStmt (name 50) none) (then
-      returnVoid empty)))) ∷ []);
+  declarations = (global 40 (literal truth) ∷ global 41 (literal (integer 1)) ∷ function 10 6 ([]) (block (then (assign
+      (nameTarget 41) (literal (integer 2))) (then (ifElse (literal truth) (block (then (while (literal truth) (block empty))
+      (then (ifElse (name 40) (block (then (while (literal truth) (block empty)) empty)) (block empty)) (then (while (literal
+      truth) (block empty)) empty)))) (block (then (callStmt (name 50) none) (then (returnValue (literal (integer 1))) empty))))
+      empty))) ∷ []);
 }
 
-pub accepted-6 : Answers program-accepted-6 0 5 0 (1 ∷ 65535 ∷ 1 ∷ 65535 ∷ 0 ∷ 65535 ∷ 0 ∷ 65535 ∷ 1 ∷ 65535 ∷ 1 ∷ 65535 ∷ 0
-    ∷ 65535 ∷ 1 ∷ 65535 ∷ 0 ∷ 65535 ∷ 0 ∷ 65535 ∷ 8 ∷ 65535 ∷ 0 ∷ 65535 ∷ 0 ∷ 65535 ∷ 1 ∷ 65535 ∷ 1 ∷ 65535 ∷ 0 ∷ 65535 ∷ 0
-    ∷ 65535 ∷ 4 ∷ 40000 ∷ 0 ∷ 65535 ∷ 0 ∷ 65535 ∷ 0 ∷ 65535 ∷ 4 ∷ 40000 ∷ 0 ∷ 65535 ∷ 1 ∷ 65535 ∷ 0 ∷ 65535 ∷ 0 ∷ 65535 ∷ 0
-    ∷ 65535 ∷ 0 ∷ 65535 ∷ 0 ∷ 2 ∷ 0 ∷ 65535 ∷ 0 ∷ 65535 ∷ 0 ∷ 65535 ∷ 0 ∷ 65535 ∷ 0 ∷ 65535 ∷ 1 ∷ 65535 ∷ 0 ∷ 65535 ∷ 4 ∷ 40000
-    ∷ 1 ∷ 65535 ∷ 1 ∷ 65535 ∷ 0 ∷ 65535 ∷ 0 ∷ 65535 ∷ 0 ∷ 65535 ∷ 0 ∷ 65535 ∷ 4 ∷ 40000 ∷ 1 ∷ 65535 ∷ [])
-unfolding program-accepted-6 computed isFile
-accepted-6 = record { file = is-file widest program-accepted-6 refl; answer = refl }
+pub accepted-9 : Answers program-accepted-9 0 5 0 2 (1 ∷ 65535 ∷ 1 ∷ 65535 ∷ 0 ∷ 65535 ∷ 0 ∷ 65535 ∷ 1 ∷ 65535 ∷ 1 ∷ 65535 ∷ 0
+    ∷ 65535 ∷ 0 ∷ 2 ∷ 0 ∷ 65535 ∷ 1 ∷ 65535 ∷ 1 ∷ 65535 ∷ 1 ∷ 65535 ∷ 0 ∷ 65535 ∷ 1 ∷ 65535 ∷ 0 ∷ 65535 ∷ 0 ∷ 65535 ∷ 1 ∷ 0 ∷ 1
+    ∷ 65535 ∷ 1 ∷ 65535 ∷ 1 ∷ 65535 ∷ 0 ∷ 65535 ∷ 0 ∷ 65535 ∷ 1 ∷ 65535 ∷ 1 ∷ 65535 ∷ 0 ∷ 65535 ∷ 1 ∷ 65535 ∷ 0 ∷ 65535 ∷ 4
+    ∷ 40000 ∷ 1 ∷ 65535 ∷ 0 ∷ 65535 ∷ [])
+unfolding program-accepted-9 computed isFile
+accepted-9 = record { file = is-file widest program-accepted-9 refl; answer = refl }
 
-pub program-accepted-7 : Program
-program-accepted-7 = record {
-  tables = record {
-    types = (ty 0 0 0 0 ∷ ty 1 0 0 0 ∷ ty 2 0 0 0 ∷ ty 3 0 0 0 ∷ ty 6 3 0 0 ∷ ty 6 3 0 1 ∷ ty 6 3 1 1 ∷ ty 6 3 2 1 ∷ ty 7 2 0 0
-        ∷ ty 5 0 0 0 ∷ ty 6 3 3 2 ∷ ty 6 0 5 1 ∷ ty 6 3 6 2 ∷ ty 6 0 8 0 ∷ []);
-    list = (0 ∷ 1 ∷ 2 ∷ 0 ∷ 1 ∷ 8 ∷ 9 ∷ 0 ∷ []);
-    fields = ([]);
-    structs = ([]);
-    builtIns = (bi 50 4 ∷ bi 60 5 ∷ bi 61 6 ∷ bi 62 7 ∷ []);
-    nodes = (nd 1 40 0 1 ∷ nd 13 1 0 0 ∷ nd 2 10 11 2 ∷ nd 3 50 0 0 ∷ nd 39 0 0 3 ∷ nd 31 20 0 1 ∷ nd 10 0 8 0 ∷ nd 30 0 0 2
-        ∷ nd 15 20 0 0 ∷ nd 15 50 0 0 ∷ nd 32 0 0 1 ∷ nd 20 0 0 1 ∷ nd 18 20 9 2 ∷ nd 13 1 0 0 ∷ nd 15 20 0 0 ∷ []);
-  };
-  declarations = (global 40 (literal (integer 1)) ∷ function 10 11 (50 ∷ []) (block (then (var 20 (null 8)) (then (assign
-      (nameTarget 20) (name 50)) (then (returnValue (lengthOf (arrayWith 9 20 (literal (integer 1)) (name 20)))) empty)))) ∷ []);
-}
-
-pub accepted-7 : Answers program-accepted-7 0 7 0 (0 ∷ 65535 ∷ 0 ∷ 65535 ∷ 1 ∷ 65535 ∷ 8 ∷ 65535 ∷ 1 ∷ 65535 ∷ 0 ∷ 65535 ∷ 8
-    ∷ 65535 ∷ 0 ∷ 65535 ∷ 8 ∷ 5 ∷ 8 ∷ 3 ∷ 1 ∷ 65535 ∷ 0 ∷ 65535 ∷ 9 ∷ 65535 ∷ 0 ∷ 65535 ∷ 0 ∷ 12 ∷ [])
-unfolding program-accepted-7 computed isFile
-accepted-7 = record { file = is-file widest program-accepted-7 refl; answer = refl }
-
-pub program-accepted-8 : Program
-program-accepted-8 = record {
+pub program-accepted-10 : Program
+program-accepted-10 = record {
   tables = record {
     types = (ty 0 0 0 0 ∷ ty 1 0 0 0 ∷ ty 2 0 0 0 ∷ ty 3 0 0 0 ∷ ty 6 3 0 0 ∷ ty 6 3 0 1 ∷ ty 6 3 1 1 ∷ ty 6 3 2 1 ∷ ty 7 2 0 0
         ∷ ty 5 0 0 0 ∷ ty 6 3 3 2 ∷ ty 6 0 5 1 ∷ ty 6 3 6 2 ∷ ty 6 0 8 0 ∷ []);
@@ -223,17 +264,53 @@ program-accepted-8 = record {
       (literal (integer 1))) none)) (then returnVoid empty)))) ∷ []);
 }
 
-pub accepted-8 : Answers program-accepted-8 0 7 0 (0 ∷ 65535 ∷ 0 ∷ 65535 ∷ 1 ∷ 65535 ∷ 9 ∷ 65535 ∷ 0 ∷ 65535 ∷ 1 ∷ 65535 ∷ 0
+pub accepted-10 : Answers program-accepted-10 0 7 0 9 (0 ∷ 65535 ∷ 0 ∷ 65535 ∷ 1 ∷ 65535 ∷ 9 ∷ 65535 ∷ 0 ∷ 65535 ∷ 1 ∷ 65535 ∷ 0
     ∷ 65535 ∷ 8 ∷ 65535 ∷ 0 ∷ 65535 ∷ 0 ∷ 65535 ∷ 2 ∷ 6 ∷ 0 ∷ 65535 ∷ 8 ∷ 65535 ∷ 0 ∷ 65535 ∷ 0 ∷ 65535 ∷ 8 ∷ 65535 ∷ 0 ∷ 65535
     ∷ 0 ∷ 65535 ∷ 7 ∷ 40003 ∷ 2 ∷ 11 ∷ 0 ∷ 65535 ∷ 0 ∷ 65535 ∷ 2 ∷ 11 ∷ 2 ∷ 6 ∷ 0 ∷ 65535 ∷ 9 ∷ 65535 ∷ 0 ∷ 4 ∷ 0 ∷ 65535 ∷ 0
     ∷ 65535 ∷ 2 ∷ 6 ∷ 0 ∷ 65535 ∷ 0 ∷ 65535 ∷ 0 ∷ 4 ∷ 0 ∷ 65535 ∷ 2 ∷ 6 ∷ 0 ∷ 65535 ∷ 9 ∷ 65535 ∷ 0 ∷ 31 ∷ 0 ∷ 31 ∷ 0 ∷ 65535 ∷ 6
     ∷ 40002 ∷ 1 ∷ 65535 ∷ 0 ∷ 65535 ∷ 0 ∷ 65535 ∷ 9 ∷ 3 ∷ 0 ∷ 65535 ∷ 9 ∷ 43 ∷ 0 ∷ 65535 ∷ 6 ∷ 40002 ∷ 1 ∷ 65535 ∷ 0 ∷ 4 ∷ 0
     ∷ 65535 ∷ 1 ∷ 65535 ∷ [])
-unfolding program-accepted-8 computed isFile
-accepted-8 = record { file = is-file widest program-accepted-8 refl; answer = refl }
+unfolding program-accepted-10 computed isFile
+accepted-10 = record { file = is-file widest program-accepted-10 refl; answer = refl }
 
-pub program-accepted-9 : Program
-program-accepted-9 = record {
+pub program-accepted-11 : Program
+program-accepted-11 = record {
+  tables = record {
+    types = (ty 0 0 0 0 ∷ ty 1 0 0 0 ∷ ty 2 0 0 0 ∷ ty 3 0 0 0 ∷ ty 6 3 0 0 ∷ ty 6 3 0 1 ∷ ty 6 3 1 1 ∷ ty 6 3 2 1 ∷ ty 7 2 0 0
+        ∷ ty 5 0 0 0 ∷ ty 6 3 3 2 ∷ ty 6 0 5 1 ∷ ty 6 3 6 2 ∷ ty 6 0 8 0 ∷ []);
+    list = (0 ∷ 1 ∷ 2 ∷ 0 ∷ 1 ∷ 8 ∷ 9 ∷ 0 ∷ []);
+    fields = ([]);
+    structs = ([]);
+    builtIns = (bi 50 4 ∷ bi 60 5 ∷ bi 61 6 ∷ bi 62 7 ∷ []);
+    nodes = (nd 1 40 0 1 ∷ nd 13 1 0 0 ∷ nd 2 10 13 1 ∷ nd 39 0 0 3 ∷ nd 36 20 2 3 ∷ nd 10 0 8 0 ∷ nd 39 0 0 1 ∷ nd 31 21 0 1
+        ∷ nd 15 20 0 0 ∷ nd 39 0 0 4 ∷ nd 34 0 0 2 ∷ nd 15 60 0 0 ∷ nd 20 0 0 1 ∷ nd 18 20 9 2 ∷ nd 13 1 0 0 ∷ nd 15 20 0 0
+        ∷ nd 35 0 0 3 ∷ nd 26 6 0 2 ∷ nd 13 1 0 0 ∷ nd 13 1 0 0 ∷ nd 39 0 0 4 ∷ nd 31 21 0 1 ∷ nd 20 0 0 1 ∷ nd 18 50 9 2
+        ∷ nd 13 1 0 0 ∷ nd 15 50 0 0 ∷ nd 31 50 0 1 ∷ nd 18 21 9 2 ∷ nd 15 21 0 0 ∷ nd 15 21 0 0 ∷ nd 31 20 0 1 ∷ nd 13 1 0 0
+        ∷ nd 34 0 0 2 ∷ nd 15 60 0 0 ∷ nd 15 21 0 0 ∷ nd 39 0 0 2 ∷ nd 34 0 0 2 ∷ nd 15 60 0 0 ∷ nd 20 0 0 1 ∷ nd 18 21 9 2
+        ∷ nd 13 1 0 0 ∷ nd 15 21 0 0 ∷ nd 34 0 0 2 ∷ nd 15 62 0 0 ∷ nd 14 1 0 0 ∷ nd 31 21 0 1 ∷ nd 18 20 9 2 ∷ nd 13 1 0 0
+        ∷ nd 20 0 0 1 ∷ nd 16 0 9 0 ∷ nd 31 50 0 1 ∷ nd 13 1 0 0 ∷ nd 31 50 0 1 ∷ nd 13 1 0 0 ∷ nd 32 0 0 1 ∷ nd 13 1 0 0 ∷ []);
+  };
+  declarations = (global 40 (literal (integer 1)) ∷ function 10 13 ([]) (block (then (ifNull 20 2 (null 8) (block (then (var 21
+      (name 20)) empty)) (block (then (callStmt (name 60) (also (lengthOf (arrayWith 9 20 (literal (integer 1)) (name 20))) none))
+      (then (ifElse (binary 6 (literal (integer 1)) (literal (integer 1))) (block (then (var 21 (lengthOf (arrayWith 9 50 (literal
+      (integer 1)) (name 50)))) (then (var 50 (arrayWith 9 21 (name 21) (name 21))) (then (var 20 (literal (integer 1))) (then
+      (callStmt (name 60) (also (name 21) none)) empty))))) (block (then (callStmt (name 60) (also (lengthOf (arrayWith 9 21
+      (literal (integer 1)) (name 21))) none)) (then (callStmt (name 62) (also (literal (text 1)) none)) empty)))) (then (var 21
+      (arrayWith 9 20 (literal (integer 1)) (lengthOf (arrayLiteral 9 none)))) (then (var 50 (literal (integer 1))) empty))))))
+      (then (var 50 (literal (integer 1))) (then (returnValue (literal (integer 1))) empty)))) ∷ []);
+}
+
+pub accepted-11 : Answers program-accepted-11 0 7 0 11 (0 ∷ 65535 ∷ 0 ∷ 65535 ∷ 1 ∷ 65535 ∷ 1 ∷ 65535 ∷ 0 ∷ 65535 ∷ 8 ∷ 65535 ∷ 0
+    ∷ 65535 ∷ 0 ∷ 65535 ∷ 2 ∷ 4 ∷ 0 ∷ 65535 ∷ 0 ∷ 65535 ∷ 5 ∷ 40001 ∷ 0 ∷ 65535 ∷ 9 ∷ 65535 ∷ 0 ∷ 65535 ∷ 0 ∷ 13 ∷ 0 ∷ 65535 ∷ 1
+    ∷ 65535 ∷ 0 ∷ 65535 ∷ 0 ∷ 65535 ∷ 0 ∷ 65535 ∷ 0 ∷ 65535 ∷ 0 ∷ 65535 ∷ 9 ∷ 65535 ∷ 0 ∷ 65535 ∷ 0 ∷ 23 ∷ 0 ∷ 65535 ∷ 9 ∷ 65535
+    ∷ 0 ∷ 21 ∷ 0 ∷ 27 ∷ 0 ∷ 65535 ∷ 0 ∷ 65535 ∷ 0 ∷ 65535 ∷ 5 ∷ 40001 ∷ 0 ∷ 21 ∷ 0 ∷ 65535 ∷ 0 ∷ 65535 ∷ 5 ∷ 40001 ∷ 0 ∷ 65535 ∷ 9
+    ∷ 65535 ∷ 0 ∷ 65535 ∷ 0 ∷ 39 ∷ 0 ∷ 65535 ∷ 7 ∷ 40003 ∷ 2 ∷ 65535 ∷ 0 ∷ 65535 ∷ 9 ∷ 65535 ∷ 0 ∷ 65535 ∷ 0 ∷ 65535 ∷ 9 ∷ 65535
+    ∷ 0 ∷ 65535 ∷ 0 ∷ 65535 ∷ 0 ∷ 65535 ∷ 0 ∷ 65535 ∷ 1 ∷ 65535 ∷ 0 ∷ 65535 ∷ [])
+unfolding program-accepted-11 computed isFile
+accepted-11 = record { file = is-file widest program-accepted-11 refl; answer = refl }
+
+pub program-accepted-12 : Program
+program-accepted-12 = record {
   tables = record {
     types = (ty 0 0 0 0 ∷ ty 1 0 0 0 ∷ ty 2 0 0 0 ∷ ty 3 0 0 0 ∷ ty 4 0 0 0 ∷ ty 4 1 0 0 ∷ ty 4 77 0 0 ∷ ty 5 0 0 0 ∷ ty 5 4 0 0
         ∷ ty 5 2 0 0 ∷ ty 7 4 0 0 ∷ ty 7 6 0 0 ∷ ty 5 6 0 0 ∷ ty 6 3 0 0 ∷ ty 6 0 0 1 ∷ ty 6 3 1 1 ∷ ty 6 5 2 0 ∷ ty 7 6 0 0
@@ -264,18 +341,18 @@ program-accepted-9 = record {
       empty)) empty)))) empty)) (block empty)) (then returnVoid empty))))) ∷ global 40 (name 20) ∷ []);
 }
 
-pub accepted-9 : Answers program-accepted-9 0 10 0 (1 ∷ 65535 ∷ 1 ∷ 65535 ∷ 0 ∷ 65535 ∷ 13 ∷ 66 ∷ 13 ∷ 0 ∷ 0 ∷ 65535 ∷ 13 ∷ 66 ∷ 0
-    ∷ 65535 ∷ 19 ∷ 65535 ∷ 0 ∷ 65535 ∷ 0 ∷ 65535 ∷ 1 ∷ 65535 ∷ 0 ∷ 65535 ∷ 0 ∷ 65535 ∷ 0 ∷ 65535 ∷ 0 ∷ 65535 ∷ 14 ∷ 40001 ∷ 0
-    ∷ 65535 ∷ 0 ∷ 65535 ∷ 0 ∷ 65535 ∷ 0 ∷ 65535 ∷ 1 ∷ 65535 ∷ 1 ∷ 65535 ∷ 0 ∷ 65535 ∷ 0 ∷ 65535 ∷ 16 ∷ 7 ∷ 16 ∷ 7 ∷ 0 ∷ 65535 ∷ 20
-    ∷ 65535 ∷ 0 ∷ 65535 ∷ 0 ∷ 65535 ∷ 27 ∷ 65535 ∷ 2 ∷ 65535 ∷ 2 ∷ 65535 ∷ 0 ∷ 65535 ∷ 27 ∷ 30 ∷ 1 ∷ 65535 ∷ 1 ∷ 65535 ∷ 0 ∷ 65535
-    ∷ 19 ∷ 65535 ∷ 0 ∷ 65535 ∷ 0 ∷ 65535 ∷ 13 ∷ 66 ∷ 0 ∷ 65535 ∷ 16 ∷ 7 ∷ 16 ∷ 7 ∷ 0 ∷ 65535 ∷ 13 ∷ 66 ∷ 13 ∷ 0 ∷ 0 ∷ 65535 ∷ 0
-    ∷ 65535 ∷ 13 ∷ 66 ∷ 13 ∷ 66 ∷ 0 ∷ 65535 ∷ 16 ∷ 7 ∷ 16 ∷ 7 ∷ 0 ∷ 65535 ∷ 1 ∷ 65535 ∷ 1 ∷ 65535 ∷ 9 ∷ 65535 ∷ 9 ∷ 65535 ∷ 1
-    ∷ 65535 ∷ 0 ∷ 65535 ∷ 0 ∷ 65535 ∷ 0 ∷ 65535 ∷ 1 ∷ 65535 ∷ 13 ∷ 65535 ∷ 13 ∷ 0 ∷ [])
-unfolding program-accepted-9 computed isFile
-accepted-9 = record { file = is-file widest program-accepted-9 refl; answer = refl }
+pub accepted-12 : Answers program-accepted-12 0 10 0 26 (1 ∷ 65535 ∷ 1 ∷ 65535 ∷ 0 ∷ 65535 ∷ 13 ∷ 66 ∷ 13 ∷ 0 ∷ 0 ∷ 65535 ∷ 13
+    ∷ 66 ∷ 0 ∷ 65535 ∷ 19 ∷ 65535 ∷ 0 ∷ 65535 ∷ 0 ∷ 65535 ∷ 1 ∷ 65535 ∷ 0 ∷ 65535 ∷ 0 ∷ 65535 ∷ 0 ∷ 65535 ∷ 0 ∷ 65535 ∷ 14 ∷ 40001
+    ∷ 0 ∷ 65535 ∷ 0 ∷ 65535 ∷ 0 ∷ 65535 ∷ 0 ∷ 65535 ∷ 1 ∷ 65535 ∷ 1 ∷ 65535 ∷ 0 ∷ 65535 ∷ 0 ∷ 65535 ∷ 16 ∷ 7 ∷ 16 ∷ 7 ∷ 0 ∷ 65535
+    ∷ 20 ∷ 65535 ∷ 0 ∷ 65535 ∷ 0 ∷ 65535 ∷ 27 ∷ 65535 ∷ 2 ∷ 65535 ∷ 2 ∷ 65535 ∷ 0 ∷ 65535 ∷ 27 ∷ 30 ∷ 1 ∷ 65535 ∷ 1 ∷ 65535 ∷ 0
+    ∷ 65535 ∷ 19 ∷ 65535 ∷ 0 ∷ 65535 ∷ 0 ∷ 65535 ∷ 13 ∷ 66 ∷ 0 ∷ 65535 ∷ 16 ∷ 7 ∷ 16 ∷ 7 ∷ 0 ∷ 65535 ∷ 13 ∷ 66 ∷ 13 ∷ 0 ∷ 0
+    ∷ 65535 ∷ 0 ∷ 65535 ∷ 13 ∷ 66 ∷ 13 ∷ 66 ∷ 0 ∷ 65535 ∷ 16 ∷ 7 ∷ 16 ∷ 7 ∷ 0 ∷ 65535 ∷ 1 ∷ 65535 ∷ 1 ∷ 65535 ∷ 9 ∷ 65535 ∷ 9
+    ∷ 65535 ∷ 1 ∷ 65535 ∷ 0 ∷ 65535 ∷ 0 ∷ 65535 ∷ 0 ∷ 65535 ∷ 1 ∷ 65535 ∷ 13 ∷ 65535 ∷ 13 ∷ 0 ∷ [])
+unfolding program-accepted-12 computed isFile
+accepted-12 = record { file = is-file widest program-accepted-12 refl; answer = refl }
 
-pub program-accepted-10 : Program
-program-accepted-10 = record {
+pub program-accepted-13 : Program
+program-accepted-13 = record {
   tables = record {
     types = (ty 0 0 0 0 ∷ ty 1 0 0 0 ∷ ty 2 0 0 0 ∷ ty 3 0 0 0 ∷ ty 4 0 0 0 ∷ ty 4 1 0 0 ∷ ty 4 2 0 0 ∷ ty 4 3 0 0 ∷ ty 4 77 0 0
         ∷ ty 5 0 0 0 ∷ ty 5 4 0 0 ∷ ty 5 2 0 0 ∷ ty 7 4 0 0 ∷ ty 7 8 0 0 ∷ ty 5 8 0 0 ∷ ty 6 3 0 0 ∷ ty 6 0 0 1 ∷ ty 6 3 1 1
@@ -304,65 +381,18 @@ program-accepted-10 = record {
       116) (also (literal (integer 17726)) none)) none)))) empty)))) ∷ []);
 }
 
-pub accepted-10 : Answers program-accepted-10 0 12 0 (1 ∷ 65535 ∷ 0 ∷ 65535 ∷ 1 ∷ 65535 ∷ 0 ∷ 65535 ∷ 12 ∷ 65535 ∷ 0 ∷ 65535 ∷ 0
-    ∷ 65535 ∷ 0 ∷ 65535 ∷ 15 ∷ 40000 ∷ 0 ∷ 65535 ∷ 15 ∷ 40000 ∷ 0 ∷ 65535 ∷ 12 ∷ 65535 ∷ 0 ∷ 65535 ∷ 0 ∷ 65535 ∷ 12 ∷ 65535 ∷ 1
-    ∷ 65535 ∷ 0 ∷ 65535 ∷ 7 ∷ 11 ∷ 1 ∷ 65535 ∷ 0 ∷ 65535 ∷ 0 ∷ 65535 ∷ 0 ∷ 65535 ∷ 0 ∷ 65535 ∷ 0 ∷ 65535 ∷ 0 ∷ 65535 ∷ 0 ∷ 65535
-    ∷ 0 ∷ 65535 ∷ 0 ∷ 65535 ∷ 0 ∷ 65535 ∷ 0 ∷ 65535 ∷ 0 ∷ 65535 ∷ 0 ∷ 65535 ∷ 1 ∷ 65535 ∷ 19 ∷ 65535 ∷ 1 ∷ 65535 ∷ 1 ∷ 65535 ∷ 1
-    ∷ 65535 ∷ 1 ∷ 65535 ∷ 10 ∷ 65535 ∷ 10 ∷ 65535 ∷ 4 ∷ 65535 ∷ 10 ∷ 65535 ∷ 10 ∷ 65535 ∷ 1 ∷ 65535 ∷ 1 ∷ 65535 ∷ 19 ∷ 65535 ∷ 10
-    ∷ 65535 ∷ 10 ∷ 65535 ∷ 1 ∷ 65535 ∷ 1 ∷ 65535 ∷ 0 ∷ 1 ∷ 0 ∷ 65535 ∷ 0 ∷ 65535 ∷ 18 ∷ 65535 ∷ 1 ∷ 65535 ∷ 0 ∷ 65535 ∷ 0 ∷ 65535
-    ∷ 16 ∷ 0 ∷ 0 ∷ 65535 ∷ 16 ∷ 40001 ∷ 0 ∷ 65535 ∷ [])
-unfolding program-accepted-10 computed isFile
-accepted-10 = record { file = is-file widest program-accepted-10 refl; answer = refl }
+pub accepted-13 : Answers program-accepted-13 0 12 0 21 (1 ∷ 65535 ∷ 0 ∷ 65535 ∷ 1 ∷ 65535 ∷ 0 ∷ 65535 ∷ 12 ∷ 65535 ∷ 0 ∷ 65535
+    ∷ 0 ∷ 65535 ∷ 0 ∷ 65535 ∷ 15 ∷ 40000 ∷ 0 ∷ 65535 ∷ 15 ∷ 40000 ∷ 0 ∷ 65535 ∷ 12 ∷ 65535 ∷ 0 ∷ 65535 ∷ 0 ∷ 65535 ∷ 12 ∷ 65535
+    ∷ 1 ∷ 65535 ∷ 0 ∷ 65535 ∷ 7 ∷ 11 ∷ 1 ∷ 65535 ∷ 0 ∷ 65535 ∷ 0 ∷ 65535 ∷ 0 ∷ 65535 ∷ 0 ∷ 65535 ∷ 0 ∷ 65535 ∷ 0 ∷ 65535 ∷ 0
+    ∷ 65535 ∷ 0 ∷ 65535 ∷ 0 ∷ 65535 ∷ 0 ∷ 65535 ∷ 0 ∷ 65535 ∷ 0 ∷ 65535 ∷ 0 ∷ 65535 ∷ 1 ∷ 65535 ∷ 19 ∷ 65535 ∷ 1 ∷ 65535 ∷ 1
+    ∷ 65535 ∷ 1 ∷ 65535 ∷ 1 ∷ 65535 ∷ 10 ∷ 65535 ∷ 10 ∷ 65535 ∷ 4 ∷ 65535 ∷ 10 ∷ 65535 ∷ 10 ∷ 65535 ∷ 1 ∷ 65535 ∷ 1 ∷ 65535 ∷ 19
+    ∷ 65535 ∷ 10 ∷ 65535 ∷ 10 ∷ 65535 ∷ 1 ∷ 65535 ∷ 1 ∷ 65535 ∷ 0 ∷ 1 ∷ 0 ∷ 65535 ∷ 0 ∷ 65535 ∷ 18 ∷ 65535 ∷ 1 ∷ 65535 ∷ 0 ∷ 65535
+    ∷ 0 ∷ 65535 ∷ 16 ∷ 0 ∷ 0 ∷ 65535 ∷ 16 ∷ 40001 ∷ 0 ∷ 65535 ∷ [])
+unfolding program-accepted-13 computed isFile
+accepted-13 = record { file = is-file widest program-accepted-13 refl; answer = refl }
 
-pub program-accepted-11 : Program
-program-accepted-11 = record {
-  tables = record {
-    types = (ty 0 0 0 0 ∷ ty 1 0 0 0 ∷ ty 2 0 0 0 ∷ ty 3 0 0 0 ∷ ty 4 1 0 0 ∷ ty 4 2 0 0 ∷ ty 4 3 0 0 ∷ ty 7 4 0 0 ∷ ty 7 5 0 0
-        ∷ ty 5 4 0 0 ∷ ty 5 5 0 0 ∷ ty 5 0 0 0 ∷ ty 6 3 0 0 ∷ ty 6 0 0 0 ∷ ty 6 0 0 1 ∷ ty 4 9 0 0 ∷ ty 7 15 0 0 ∷ ty 5 15 0 0
-        ∷ ty 6 3 1 1 ∷ ty 7 2 0 0 ∷ ty 5 2 0 0 ∷ ty 5 0 0 0 ∷ ty 4 1 0 0 ∷ ty 5 7 0 0 ∷ ty 7 11 0 0 ∷ ty 6 5 2 1 ∷ ty 6 4 3 1
-        ∷ ty 5 1 0 0 ∷ ty 6 3 4 2 ∷ ty 5 11 0 0 ∷ ty 7 13 0 0 ∷ ty 6 15 6 0 ∷ ty 6 17 6 1 ∷ ty 7 17 0 0 ∷ ty 6 21 7 0
-        ∷ ty 6 21 7 1 ∷ ty 6 11 8 1 ∷ ty 6 3 9 1 ∷ ty 6 3 10 2 ∷ ty 6 3 12 2 ∷ []);
-    list = (0 ∷ 15 ∷ 4 ∷ 5 ∷ 0 ∷ 1 ∷ 17 ∷ 21 ∷ 22 ∷ 7 ∷ 0 ∷ 0 ∷ 4 ∷ 4 ∷ []);
-    fields = (fd 1 0 ∷ fd 2 0 ∷ fd 1 0 ∷ fd 2 0 ∷ fd 3 0 ∷ fd 1 0 ∷ fd 3 0 ∷ []);
-    structs = (st 1 0 2 ∷ st 2 2 3 ∷ st 3 5 2 ∷ []);
-    builtIns = (bi 12 28 ∷ []);
-    nodes = (nd 1 11 0 1 ∷ nd 16 0 23 2 ∷ nd 10 0 7 0 ∷ nd 21 0 5 3 ∷ nd 22 3 0 1 ∷ nd 13 1 0 0 ∷ nd 22 1 0 1 ∷ nd 13 2 0 0
-        ∷ nd 22 2 0 1 ∷ nd 13 3 0 0 ∷ nd 1 30 0 1 ∷ nd 14 7 0 0 ∷ nd 1 31 0 1 ∷ nd 15 11 0 0 ∷ nd 2 10 36 2 ∷ nd 3 20 0 0
-        ∷ nd 39 0 0 9 ∷ nd 31 22 0 1 ∷ nd 17 0 21 1 ∷ nd 13 3 0 0 ∷ nd 30 0 0 2 ∷ nd 19 0 0 2 ∷ nd 15 22 0 0 ∷ nd 13 0 0 0
-        ∷ nd 25 0 0 1 ∷ nd 23 1 0 1 ∷ nd 15 20 0 0 ∷ nd 30 0 0 2 ∷ nd 23 2 0 1 ∷ nd 15 20 0 0 ∷ nd 20 0 0 1 ∷ nd 15 22 0 0
-        ∷ nd 34 0 0 3 ∷ nd 15 12 0 0 ∷ nd 13 1 0 0 ∷ nd 26 13 0 2 ∷ nd 11 0 0 0 ∷ nd 12 0 0 0 ∷ nd 35 0 0 3 ∷ nd 26 10 0 2
-        ∷ nd 15 11 0 0 ∷ nd 15 11 0 0 ∷ nd 39 0 0 1 ∷ nd 32 0 0 1 ∷ nd 24 0 0 2 ∷ nd 15 10 0 0 ∷ nd 15 20 0 0 ∷ nd 39 0 0 0
-        ∷ nd 36 21 4 3 ∷ nd 19 0 0 2 ∷ nd 15 11 0 0 ∷ nd 13 0 0 0 ∷ nd 39 0 0 1 ∷ nd 30 0 0 2 ∷ nd 15 20 0 0 ∷ nd 15 21 0 0
-        ∷ nd 39 0 0 0 ∷ nd 37 0 0 4 ∷ nd 31 21 0 1 ∷ nd 13 0 0 0 ∷ nd 40 0 0 0 ∷ nd 40 0 0 0 ∷ nd 39 0 0 1 ∷ nd 30 0 0 2
-        ∷ nd 15 21 0 0 ∷ nd 26 1 0 2 ∷ nd 15 21 0 0 ∷ nd 13 1 0 0 ∷ nd 38 0 0 2 ∷ nd 12 0 0 0 ∷ nd 39 0 0 0 ∷ nd 32 0 0 1
-        ∷ nd 18 21 11 2 ∷ nd 13 5 0 0 ∷ nd 15 21 0 0 ∷ nd 2 32 12 1 ∷ nd 39 0 0 1 ∷ nd 33 0 0 0 ∷ []);
-  };
-  declarations = (global 11 (arrayLiteral 23 (also (null 7) (also (structLiteral 5 (init 3 (literal (integer 1)) (init 1 (literal
-      (integer 2)) (init 2 (literal (integer 3)) noInit)))) none))) ∷ global 30 (literal (text 7)) ∷ global 31 (name 11)
-      ∷ function 10 36 (20 ∷ []) (block (then (var 22 (defaultArray 21 (literal (integer 3)))) (then (assign (indexTarget (name
-      22) (literal (integer 0))) (unary 0 (field 1 (name 20)))) (then (assign (fieldTarget 2 (name 20)) (lengthOf (name 22)))
-      (then (callStmt (name 12) (also (literal (integer 1)) (also (binary 13 (literal truth) (literal falsity)) none))) (then
-      (ifElse (binary 10 (name 11) (name 11)) (block (then (returnValue (call (name 10) (also (name 20) none))) empty)) (block
-      empty)) (then (ifNull 21 4 (index (name 11) (literal (integer 0))) (block (then (assign (nameTarget 20) (name 21)) empty))
-      (block empty)) (then (for (nextVar 21 (literal (integer 0)) noVar) noCondition noStep (block (then (assign (nameTarget 21)
-      (binary 1 (name 21) (literal (integer 1)))) empty))) (then (while (literal falsity) (block empty)) (then (returnValue
-      (arrayWith 11 21 (literal (integer 5)) (name 21))) empty)))))))))) ∷ function 32 12 ([]) (block (then returnVoid empty))
-      ∷ []);
-}
-
-pub accepted-11 : Answers program-accepted-11 0 14 0 (23 ∷ 65535 ∷ 23 ∷ 65535 ∷ 7 ∷ 65535 ∷ 5 ∷ 65535 ∷ 0 ∷ 65535 ∷ 0 ∷ 65535 ∷ 0
-    ∷ 65535 ∷ 0 ∷ 65535 ∷ 0 ∷ 65535 ∷ 0 ∷ 65535 ∷ 2 ∷ 65535 ∷ 2 ∷ 65535 ∷ 23 ∷ 65535 ∷ 23 ∷ 0 ∷ 1 ∷ 65535 ∷ 22 ∷ 65535 ∷ 1 ∷ 65535
-    ∷ 0 ∷ 65535 ∷ 21 ∷ 65535 ∷ 0 ∷ 65535 ∷ 0 ∷ 65535 ∷ 0 ∷ 65535 ∷ 21 ∷ 17 ∷ 0 ∷ 65535 ∷ 0 ∷ 65535 ∷ 0 ∷ 65535 ∷ 22 ∷ 15 ∷ 0
-    ∷ 65535 ∷ 0 ∷ 65535 ∷ 22 ∷ 15 ∷ 0 ∷ 65535 ∷ 21 ∷ 17 ∷ 0 ∷ 65535 ∷ 28 ∷ 40000 ∷ 0 ∷ 65535 ∷ 1 ∷ 65535 ∷ 1 ∷ 65535 ∷ 1 ∷ 65535
-    ∷ 0 ∷ 65535 ∷ 1 ∷ 65535 ∷ 23 ∷ 0 ∷ 23 ∷ 0 ∷ 1 ∷ 65535 ∷ 1 ∷ 65535 ∷ 11 ∷ 65535 ∷ 36 ∷ 14 ∷ 22 ∷ 15 ∷ 0 ∷ 65535 ∷ 0 ∷ 65535 ∷ 7
-    ∷ 65535 ∷ 23 ∷ 0 ∷ 0 ∷ 65535 ∷ 0 ∷ 65535 ∷ 0 ∷ 65535 ∷ 22 ∷ 15 ∷ 4 ∷ 48 ∷ 0 ∷ 65535 ∷ 0 ∷ 65535 ∷ 0 ∷ 65535 ∷ 0 ∷ 65535 ∷ 0
-    ∷ 65535 ∷ 0 ∷ 65535 ∷ 0 ∷ 65535 ∷ 0 ∷ 65535 ∷ 0 ∷ 58 ∷ 0 ∷ 65535 ∷ 0 ∷ 58 ∷ 0 ∷ 65535 ∷ 0 ∷ 65535 ∷ 1 ∷ 65535 ∷ 0 ∷ 65535 ∷ 1
-    ∷ 65535 ∷ 11 ∷ 65535 ∷ 0 ∷ 65535 ∷ 0 ∷ 72 ∷ 1 ∷ 65535 ∷ 1 ∷ 65535 ∷ 1 ∷ 65535 ∷ [])
-unfolding program-accepted-11 computed isFile
-accepted-11 = record { file = is-file widest program-accepted-11 refl; answer = refl }
-
-pub program-accepted-12 : Program
-program-accepted-12 = record {
+pub program-accepted-14 : Program
+program-accepted-14 = record {
   tables = record {
     types = (ty 0 0 0 0 ∷ ty 1 0 0 0 ∷ ty 2 0 0 0 ∷ ty 3 0 0 0 ∷ ty 4 0 0 0 ∷ ty 4 1 0 0 ∷ ty 4 2 0 0 ∷ ty 4 77 0 0 ∷ ty 5 0 0 0
         ∷ ty 5 4 0 0 ∷ ty 5 2 0 0 ∷ ty 7 4 0 0 ∷ ty 7 7 0 0 ∷ ty 5 7 0 0 ∷ ty 6 3 0 0 ∷ ty 6 0 0 1 ∷ ty 6 3 1 1 ∷ ty 6 15 2 2
@@ -398,8 +428,8 @@ program-accepted-12 = record {
       (returnValue (literal (integer 46586))) empty))) ∷ function 21 14 ([]) (block (then returnVoid empty)) ∷ []);
 }
 
-pub accepted-12 : Answers program-accepted-12 0 18 0 (29 ∷ 65535 ∷ 29 ∷ 65535 ∷ 2 ∷ 65535 ∷ 2 ∷ 65535 ∷ 1 ∷ 65535 ∷ 0 ∷ 65535 ∷ 1
-    ∷ 65535 ∷ 0 ∷ 65535 ∷ 19 ∷ 65535 ∷ 0 ∷ 65535 ∷ 0 ∷ 65535 ∷ 25 ∷ 65535 ∷ 0 ∷ 65535 ∷ 0 ∷ 65535 ∷ 15 ∷ 4 ∷ 0 ∷ 5 ∷ 0 ∷ 65535
+pub accepted-14 : Answers program-accepted-14 0 18 0 31 (29 ∷ 65535 ∷ 29 ∷ 65535 ∷ 2 ∷ 65535 ∷ 2 ∷ 65535 ∷ 1 ∷ 65535 ∷ 0 ∷ 65535
+    ∷ 1 ∷ 65535 ∷ 0 ∷ 65535 ∷ 19 ∷ 65535 ∷ 0 ∷ 65535 ∷ 0 ∷ 65535 ∷ 25 ∷ 65535 ∷ 0 ∷ 65535 ∷ 0 ∷ 65535 ∷ 15 ∷ 4 ∷ 0 ∷ 5 ∷ 0 ∷ 65535
     ∷ 15 ∷ 40001 ∷ 0 ∷ 65535 ∷ 5 ∷ 65535 ∷ 0 ∷ 65535 ∷ 1 ∷ 65535 ∷ 0 ∷ 5 ∷ 0 ∷ 65535 ∷ 0 ∷ 65535 ∷ 0 ∷ 5 ∷ 0 ∷ 65535 ∷ 0 ∷ 65535
     ∷ 1 ∷ 65535 ∷ 1 ∷ 65535 ∷ 1 ∷ 65535 ∷ 1 ∷ 65535 ∷ 0 ∷ 65535 ∷ 0 ∷ 65535 ∷ 0 ∷ 65535 ∷ 0 ∷ 65535 ∷ 1 ∷ 65535 ∷ 4 ∷ 65535 ∷ 6
     ∷ 65535 ∷ 25 ∷ 10 ∷ 0 ∷ 65535 ∷ 0 ∷ 65535 ∷ 0 ∷ 65535 ∷ 2 ∷ 65535 ∷ 0 ∷ 65535 ∷ 14 ∷ 82 ∷ 0 ∷ 65535 ∷ 0 ∷ 5 ∷ 0 ∷ 65535 ∷ 0
@@ -407,8 +437,8 @@ pub accepted-12 : Answers program-accepted-12 0 18 0 (29 ∷ 65535 ∷ 29 ∷ 65
     ∷ 65535 ∷ 0 ∷ 65535 ∷ 19 ∷ 65535 ∷ 0 ∷ 65535 ∷ 24 ∷ 40005 ∷ 6 ∷ 65535 ∷ 25 ∷ 10 ∷ 0 ∷ 65535 ∷ 15 ∷ 40001 ∷ 0 ∷ 65535 ∷ 0
     ∷ 65535 ∷ 0 ∷ 5 ∷ 29 ∷ 65535 ∷ 2 ∷ 65535 ∷ 2 ∷ 65535 ∷ 21 ∷ 65535 ∷ 22 ∷ 40004 ∷ 15 ∷ 40001 ∷ 0 ∷ 65535 ∷ 0 ∷ 65535 ∷ 1
     ∷ 65535 ∷ 0 ∷ 65535 ∷ 1 ∷ 65535 ∷ 1 ∷ 65535 ∷ 1 ∷ 65535 ∷ [])
-unfolding program-accepted-12 computed isFile
-accepted-12 = record { file = is-file widest program-accepted-12 refl; answer = refl }
+unfolding program-accepted-14 computed isFile
+accepted-14 = record { file = is-file widest program-accepted-14 refl; answer = refl }
 
 pub program-refused-7-1 : Program
 program-refused-7-1 = record {
@@ -423,34 +453,52 @@ program-refused-7-1 = record {
   declarations = ([]);
 }
 
-pub refused-7-1 : Answers program-refused-7-1 7 1 0 ([])
+pub refused-7-1 : Answers program-refused-7-1 7 1 0 0 ([])
 unfolding program-refused-7-1 computed isFile
 refused-7-1 = record { file = is-file widest program-refused-7-1 refl; answer = refl }
 
 pub program-refused-7-2 : Program
 program-refused-7-2 = record {
   tables = record {
-    types = (ty 0 0 0 0 ∷ ty 1 0 0 0 ∷ ty 2 0 0 0 ∷ ty 3 0 0 0 ∷ ty 6 3 0 0 ∷ ty 6 0 0 0 ∷ ty 6 0 0 1 ∷ ty 6 3 1 2 ∷ ty 7 2 0 0
-        ∷ ty 5 0 0 0 ∷ ty 5 9 0 0 ∷ ty 7 9 0 0 ∷ ty 5 1 0 0 ∷ ty 6 3 3 1 ∷ ty 6 9 4 1 ∷ ty 4 9 0 0 ∷ ty 7 15 0 0 ∷ ty 5 15 0 0
-        ∷ []);
-    list = (0 ∷ 0 ∷ 0 ∷ 8 ∷ 9 ∷ []);
+    types = (ty 0 0 0 0 ∷ ty 1 0 0 0 ∷ ty 2 0 0 0 ∷ ty 3 0 0 0 ∷ ty 7 2 0 0 ∷ ty 6 3 0 1 ∷ ty 6 3 1 1 ∷ ty 6 3 2 2 ∷ []);
+    list = (4 ∷ 2 ∷ 5 ∷ 6 ∷ []);
     fields = ([]);
     structs = ([]);
     builtIns = ([]);
-    nodes = (nd 2 10 7 3 ∷ nd 3 20 0 0 ∷ nd 3 20 0 0 ∷ nd 39 0 0 2 ∷ nd 38 0 0 2 ∷ nd 12 0 0 0 ∷ nd 39 0 0 1 ∷ nd 31 20 0 1
-        ∷ nd 13 1 0 0 ∷ nd 33 0 0 0 ∷ []);
+    nodes = (nd 2 10 7 3 ∷ nd 3 20 0 0 ∷ nd 3 20 0 0 ∷ nd 39 0 0 2 ∷ nd 30 0 0 2 ∷ nd 15 21 0 0 ∷ nd 15 20 0 0 ∷ nd 33 0 0 0
+        ∷ []);
   };
-  declarations = (function 10 7 (20 ∷ 20 ∷ []) (block (then (while (literal falsity) (block (then (var 20 (literal (integer 1)))
-      empty))) (then returnVoid empty))) ∷ []);
+  declarations = (function 10 7 (20 ∷ 20 ∷ []) (block (then (assign (nameTarget 21) (name 20)) (then returnVoid empty))) ∷ []);
 }
 
-pub refused-7-2 : Answers program-refused-7-2 7 1 0 (65535 ∷ 65535 ∷ 65535 ∷ 65535 ∷ 65535 ∷ 65535 ∷ 65535 ∷ 65535 ∷ 65535 ∷ 65535
-    ∷ 65535 ∷ 65535 ∷ 65535 ∷ 65535 ∷ 65535 ∷ 65535 ∷ 65535 ∷ 65535 ∷ 65535 ∷ 65535 ∷ [])
+pub refused-7-2 : Answers program-refused-7-2 7 1 0 0 (65535 ∷ 65535 ∷ 65535 ∷ 65535 ∷ 65535 ∷ 65535 ∷ 65535 ∷ 65535 ∷ 65535
+    ∷ 65535 ∷ 65535 ∷ 65535 ∷ 65535 ∷ 65535 ∷ 65535 ∷ 65535 ∷ [])
 unfolding program-refused-7-2 computed isFile
 refused-7-2 = record { file = is-file widest program-refused-7-2 refl; answer = refl }
 
 pub program-refused-7-3 : Program
 program-refused-7-3 = record {
+  tables = record {
+    types = (ty 0 0 0 0 ∷ ty 1 0 0 0 ∷ ty 2 0 0 0 ∷ ty 3 0 0 0 ∷ ty 4 1 0 0 ∷ ty 4 2 0 0 ∷ ty 4 3 0 0 ∷ ty 7 4 0 0 ∷ ty 7 5 0 0
+        ∷ ty 5 4 0 0 ∷ ty 5 5 0 0 ∷ ty 5 0 0 0 ∷ ty 6 3 0 0 ∷ ty 6 0 0 0 ∷ ty 6 0 0 1 ∷ ty 4 9 0 0 ∷ ty 7 15 0 0 ∷ ty 5 15 0 0
+        ∷ ty 6 3 1 1 ∷ ty 7 2 0 0 ∷ ty 5 2 0 0 ∷ ty 5 0 0 0 ∷ ty 4 1 0 0 ∷ ty 5 7 0 0 ∷ ty 7 11 0 0 ∷ ty 6 5 2 1 ∷ ty 6 4 3 1
+        ∷ ty 5 1 0 0 ∷ ty 6 3 4 2 ∷ ty 5 11 0 0 ∷ ty 7 13 0 0 ∷ ty 6 15 6 0 ∷ ty 6 17 6 1 ∷ ty 7 17 0 0 ∷ ty 6 21 7 0
+        ∷ ty 6 21 7 1 ∷ ty 6 11 8 1 ∷ ty 6 3 9 1 ∷ ty 6 3 10 2 ∷ ty 6 3 12 2 ∷ []);
+    list = (0 ∷ 15 ∷ 4 ∷ 5 ∷ 0 ∷ 1 ∷ 17 ∷ 21 ∷ 22 ∷ 7 ∷ 0 ∷ 0 ∷ 4 ∷ 4 ∷ []);
+    fields = ([]);
+    structs = ([]);
+    builtIns = (bi 11 12 ∷ []);
+    nodes = (nd 1 11 0 1 ∷ nd 13 1 0 0 ∷ []);
+  };
+  declarations = (global 11 (literal (integer 1)) ∷ []);
+}
+
+pub refused-7-3 : Answers program-refused-7-3 7 1 0 0 (65535 ∷ 65535 ∷ 65535 ∷ 65535 ∷ [])
+unfolding program-refused-7-3 computed isFile
+refused-7-3 = record { file = is-file widest program-refused-7-3 refl; answer = refl }
+
+pub program-refused-7-4 : Program
+program-refused-7-4 = record {
   tables = record {
     types = (ty 0 0 0 0 ∷ ty 1 0 0 0 ∷ ty 2 0 0 0 ∷ ty 3 0 0 0 ∷ ty 6 3 0 0 ∷ ty 4 1 0 0 ∷ ty 4 9 0 0 ∷ ty 6 6 0 0 ∷ []);
     list = ([]);
@@ -462,12 +510,12 @@ program-refused-7-3 = record {
   declarations = ([]);
 }
 
-pub refused-7-3 : Answers program-refused-7-3 7 1 1 ([])
-unfolding program-refused-7-3 computed isFile
-refused-7-3 = record { file = is-file widest program-refused-7-3 refl; answer = refl }
+pub refused-7-4 : Answers program-refused-7-4 7 1 1 0 ([])
+unfolding program-refused-7-4 computed isFile
+refused-7-4 = record { file = is-file widest program-refused-7-4 refl; answer = refl }
 
-pub program-refused-7-4 : Program
-program-refused-7-4 = record {
+pub program-refused-7-5 : Program
+program-refused-7-5 = record {
   tables = record {
     types = (ty 0 0 0 0 ∷ ty 1 0 0 0 ∷ ty 2 0 0 0 ∷ ty 3 0 0 0 ∷ ty 4 1 0 0 ∷ ty 4 2 0 0 ∷ ty 4 3 0 0 ∷ ty 7 4 0 0 ∷ ty 7 5 0 0
         ∷ ty 5 4 0 0 ∷ ty 5 5 0 0 ∷ ty 5 0 0 0 ∷ ty 6 3 0 0 ∷ ty 6 0 0 0 ∷ ty 6 0 0 1 ∷ ty 4 9 0 0 ∷ ty 7 15 0 0 ∷ ty 5 15 0 0
@@ -483,12 +531,32 @@ program-refused-7-4 = record {
   declarations = ([]);
 }
 
-pub refused-7-4 : Answers program-refused-7-4 7 1 1 ([])
-unfolding program-refused-7-4 computed isFile
-refused-7-4 = record { file = is-file widest program-refused-7-4 refl; answer = refl }
+pub refused-7-5 : Answers program-refused-7-5 7 1 1 0 ([])
+unfolding program-refused-7-5 computed isFile
+refused-7-5 = record { file = is-file widest program-refused-7-5 refl; answer = refl }
 
-pub program-refused-7-5 : Program
-program-refused-7-5 = record {
+pub program-refused-7-6 : Program
+program-refused-7-6 = record {
+  tables = record {
+    types = (ty 0 0 0 0 ∷ ty 1 0 0 0 ∷ ty 2 0 0 0 ∷ ty 3 0 0 0 ∷ ty 7 2 0 0 ∷ ty 6 3 0 1 ∷ ty 6 3 1 1 ∷ ty 6 3 2 2 ∷ []);
+    list = (4 ∷ 2 ∷ 5 ∷ 6 ∷ []);
+    fields = ([]);
+    structs = ([]);
+    builtIns = ([]);
+    nodes = (nd 2 10 7 3 ∷ nd 3 20 0 0 ∷ nd 3 21 0 0 ∷ nd 39 0 0 2 ∷ nd 31 20 0 1 ∷ nd 26 10 0 2 ∷ nd 15 20 0 0 ∷ nd 15 20 0 0
+        ∷ nd 33 0 0 0 ∷ []);
+  };
+  declarations = (function 10 7 (20 ∷ 21 ∷ []) (block (then (var 20 (binary 10 (name 20) (name 20))) (then returnVoid empty)))
+      ∷ []);
+}
+
+pub refused-7-6 : Answers program-refused-7-6 7 1 4 8 (65535 ∷ 65535 ∷ 65535 ∷ 65535 ∷ 65535 ∷ 65535 ∷ 65535 ∷ 65535 ∷ 65535
+    ∷ 65535 ∷ 65535 ∷ 65535 ∷ 65535 ∷ 65535 ∷ 65535 ∷ 65535 ∷ 65535 ∷ 65535 ∷ [])
+unfolding program-refused-7-6 computed isFile
+refused-7-6 = record { file = is-file widest program-refused-7-6 refl; answer = refl }
+
+pub program-refused-7-7 : Program
+program-refused-7-7 = record {
   tables = record {
     types = (ty 0 0 0 0 ∷ ty 1 0 0 0 ∷ ty 2 0 0 0 ∷ ty 3 0 0 0 ∷ ty 6 3 0 0 ∷ ty 6 0 0 0 ∷ ty 6 0 0 1 ∷ ty 6 3 1 2 ∷ ty 7 2 0 0
         ∷ ty 5 0 0 0 ∷ ty 5 9 0 0 ∷ ty 7 9 0 0 ∷ ty 5 1 0 0 ∷ ty 6 3 3 1 ∷ ty 6 9 4 1 ∷ ty 4 9 0 0 ∷ ty 7 15 0 0 ∷ ty 5 15 0 0
@@ -502,13 +570,33 @@ program-refused-7-5 = record {
   declarations = (function 10 7 (20 ∷ 21 ∷ []) (block (then (var 21 (literal (integer 1))) (then returnVoid empty))) ∷ []);
 }
 
-pub refused-7-5 : Answers program-refused-7-5 7 1 4 (65535 ∷ 65535 ∷ 65535 ∷ 65535 ∷ 65535 ∷ 65535 ∷ 65535 ∷ 65535 ∷ 65535 ∷ 65535
-    ∷ 65535 ∷ 65535 ∷ 65535 ∷ 65535 ∷ [])
-unfolding program-refused-7-5 computed isFile
-refused-7-5 = record { file = is-file widest program-refused-7-5 refl; answer = refl }
+pub refused-7-7 : Answers program-refused-7-7 7 1 4 0 (65535 ∷ 65535 ∷ 65535 ∷ 65535 ∷ 65535 ∷ 65535 ∷ 65535 ∷ 65535 ∷ 65535
+    ∷ 65535 ∷ 65535 ∷ 65535 ∷ 65535 ∷ 65535 ∷ [])
+unfolding program-refused-7-7 computed isFile
+refused-7-7 = record { file = is-file widest program-refused-7-7 refl; answer = refl }
 
-pub program-refused-7-6 : Program
-program-refused-7-6 = record {
+pub program-refused-7-8 : Program
+program-refused-7-8 = record {
+  tables = record {
+    types = (ty 0 0 0 0 ∷ ty 1 0 0 0 ∷ ty 2 0 0 0 ∷ ty 3 0 0 0 ∷ ty 5 0 0 0 ∷ []);
+    list = ([]);
+    fields = ([]);
+    structs = ([]);
+    builtIns = ([]);
+    nodes = (nd 1 11 0 1 ∷ nd 16 0 4 3 ∷ nd 13 1 0 0 ∷ nd 13 1 0 0 ∷ nd 13 1 0 0 ∷ nd 1 11 0 1 ∷ nd 16 0 4 2 ∷ nd 13 1 0 0
+        ∷ nd 13 1 0 0 ∷ []);
+  };
+  declarations = (global 11 (arrayLiteral 4 (also (literal (integer 1)) (also (literal (integer 1)) (also (literal (integer 1))
+      none)))) ∷ global 11 (arrayLiteral 4 (also (literal (integer 1)) (also (literal (integer 1)) none))) ∷ []);
+}
+
+pub refused-7-8 : Answers program-refused-7-8 7 1 5 5 (65535 ∷ 65535 ∷ 65535 ∷ 65535 ∷ 65535 ∷ 65535 ∷ 65535 ∷ 65535 ∷ 65535
+    ∷ 65535 ∷ 65535 ∷ 65535 ∷ 65535 ∷ 65535 ∷ 65535 ∷ 65535 ∷ 65535 ∷ 65535 ∷ [])
+unfolding program-refused-7-8 computed isFile
+refused-7-8 = record { file = is-file widest program-refused-7-8 refl; answer = refl }
+
+pub program-refused-7-9 : Program
+program-refused-7-9 = record {
   tables = record {
     types = (ty 0 0 0 0 ∷ ty 1 0 0 0 ∷ ty 2 0 0 0 ∷ ty 3 0 0 0 ∷ ty 6 3 0 0 ∷ ty 6 0 0 0 ∷ ty 6 0 0 1 ∷ ty 6 3 1 2 ∷ ty 7 2 0 0
         ∷ ty 5 0 0 0 ∷ ty 5 9 0 0 ∷ ty 7 9 0 0 ∷ ty 5 1 0 0 ∷ ty 6 3 3 1 ∷ ty 6 9 4 1 ∷ ty 4 9 0 0 ∷ ty 7 15 0 0 ∷ ty 5 15 0 0
@@ -524,13 +612,13 @@ program-refused-7-6 = record {
       noCondition noStep (block empty)) (then returnVoid empty))) ∷ []);
 }
 
-pub refused-7-6 : Answers program-refused-7-6 7 1 5 (65535 ∷ 65535 ∷ 65535 ∷ 65535 ∷ 65535 ∷ 65535 ∷ 65535 ∷ 65535 ∷ 65535 ∷ 65535
-    ∷ 65535 ∷ 65535 ∷ 65535 ∷ 65535 ∷ 65535 ∷ 65535 ∷ 65535 ∷ 65535 ∷ 65535 ∷ 65535 ∷ 65535 ∷ 65535 ∷ [])
-unfolding program-refused-7-6 computed isFile
-refused-7-6 = record { file = is-file widest program-refused-7-6 refl; answer = refl }
+pub refused-7-9 : Answers program-refused-7-9 7 1 5 0 (65535 ∷ 65535 ∷ 65535 ∷ 65535 ∷ 65535 ∷ 65535 ∷ 65535 ∷ 65535 ∷ 65535
+    ∷ 65535 ∷ 65535 ∷ 65535 ∷ 65535 ∷ 65535 ∷ 65535 ∷ 65535 ∷ 65535 ∷ 65535 ∷ 65535 ∷ 65535 ∷ 65535 ∷ 65535 ∷ [])
+unfolding program-refused-7-9 computed isFile
+refused-7-9 = record { file = is-file widest program-refused-7-9 refl; answer = refl }
 
-pub program-refused-7-7 : Program
-program-refused-7-7 = record {
+pub program-refused-7-10 : Program
+program-refused-7-10 = record {
   tables = record {
     types = (ty 0 0 0 0 ∷ ty 1 0 0 0 ∷ ty 2 0 0 0 ∷ ty 3 0 0 0 ∷ ty 6 3 0 0 ∷ ty 6 0 0 0 ∷ ty 6 0 0 1 ∷ ty 6 3 1 2 ∷ ty 7 2 0 0
         ∷ ty 5 0 0 0 ∷ ty 5 9 0 0 ∷ ty 7 9 0 0 ∷ ty 5 1 0 0 ∷ ty 6 3 3 1 ∷ ty 6 9 4 1 ∷ ty 4 9 0 0 ∷ ty 7 15 0 0 ∷ ty 5 15 0 0
@@ -546,33 +634,34 @@ program-refused-7-7 = record {
       (integer 1)))) (block empty)) (then returnVoid empty))) ∷ []);
 }
 
-pub refused-7-7 : Answers program-refused-7-7 7 1 6 (65535 ∷ 65535 ∷ 65535 ∷ 65535 ∷ 65535 ∷ 65535 ∷ 65535 ∷ 65535 ∷ 65535 ∷ 65535
-    ∷ 65535 ∷ 65535 ∷ 65535 ∷ 65535 ∷ 65535 ∷ 65535 ∷ 65535 ∷ 65535 ∷ 65535 ∷ 65535 ∷ [])
-unfolding program-refused-7-7 computed isFile
-refused-7-7 = record { file = is-file widest program-refused-7-7 refl; answer = refl }
+pub refused-7-10 : Answers program-refused-7-10 7 1 6 0 (65535 ∷ 65535 ∷ 65535 ∷ 65535 ∷ 65535 ∷ 65535 ∷ 65535 ∷ 65535 ∷ 65535
+    ∷ 65535 ∷ 65535 ∷ 65535 ∷ 65535 ∷ 65535 ∷ 65535 ∷ 65535 ∷ 65535 ∷ 65535 ∷ 65535 ∷ 65535 ∷ [])
+unfolding program-refused-7-10 computed isFile
+refused-7-10 = record { file = is-file widest program-refused-7-10 refl; answer = refl }
 
-pub program-refused-7-8 : Program
-program-refused-7-8 = record {
+pub program-refused-7-11 : Program
+program-refused-7-11 = record {
   tables = record {
-    types = (ty 0 0 0 0 ∷ ty 1 0 0 0 ∷ ty 2 0 0 0 ∷ ty 3 0 0 0 ∷ ty 4 65535 0 0 ∷ []);
+    types = (ty 0 0 0 0 ∷ ty 1 0 0 0 ∷ ty 2 0 0 0 ∷ ty 3 0 0 0 ∷ ty 5 0 0 0 ∷ []);
     list = ([]);
-    fields = (fd 65535 0 ∷ fd 0 1 ∷ []);
-    structs = (st 65535 0 2 ∷ []);
+    fields = (fd 1 0 ∷ fd 1 0 ∷ []);
+    structs = (st 68 0 2 ∷ []);
     builtIns = ([]);
-    nodes = (nd 1 65535 0 1 ∷ nd 21 0 4 2 ∷ nd 22 0 0 1 ∷ nd 11 0 0 0 ∷ nd 22 65535 0 1 ∷ nd 13 1 0 0 ∷ nd 1 65535 0 1
-        ∷ nd 11 0 0 0 ∷ []);
+    nodes = (nd 1 11 0 1 ∷ nd 16 0 4 4 ∷ nd 13 1 0 0 ∷ nd 13 1 0 0 ∷ nd 13 1 0 0 ∷ nd 13 1 0 0 ∷ nd 1 12 0 1 ∷ nd 16 0 4 2
+        ∷ nd 13 1 0 0 ∷ nd 13 1 0 0 ∷ []);
   };
-  declarations = (global 65535 (structLiteral 4 (init 0 (literal truth) (init 65535 (literal (integer 1)) noInit))) ∷ global 65535
-      (literal truth) ∷ []);
+  declarations = (global 11 (arrayLiteral 4 (also (literal (integer 1)) (also (literal (integer 1)) (also (literal (integer 1))
+      (also (literal (integer 1)) none))))) ∷ global 12 (arrayLiteral 4 (also (literal (integer 1)) (also (literal (integer 1))
+      none))) ∷ []);
 }
 
-pub refused-7-8 : Answers program-refused-7-8 7 2 6 (65535 ∷ 65535 ∷ 65535 ∷ 65535 ∷ 65535 ∷ 65535 ∷ 65535 ∷ 65535 ∷ 65535 ∷ 65535
-    ∷ 65535 ∷ 65535 ∷ 65535 ∷ 65535 ∷ 65535 ∷ 65535 ∷ [])
-unfolding program-refused-7-8 computed isFile
-refused-7-8 = record { file = is-file widest program-refused-7-8 refl; answer = refl }
+pub refused-7-11 : Answers program-refused-7-11 7 3 0 6 (65535 ∷ 65535 ∷ 65535 ∷ 65535 ∷ 65535 ∷ 65535 ∷ 65535 ∷ 65535 ∷ 65535
+    ∷ 65535 ∷ 65535 ∷ 65535 ∷ 65535 ∷ 65535 ∷ 65535 ∷ 65535 ∷ 65535 ∷ 65535 ∷ 65535 ∷ 65535 ∷ [])
+unfolding program-refused-7-11 computed isFile
+refused-7-11 = record { file = is-file widest program-refused-7-11 refl; answer = refl }
 
-pub program-refused-7-9 : Program
-program-refused-7-9 = record {
+pub program-refused-7-12 : Program
+program-refused-7-12 = record {
   tables = record {
     types = (ty 0 0 0 0 ∷ ty 1 0 0 0 ∷ ty 2 0 0 0 ∷ ty 3 0 0 0 ∷ ty 4 0 0 0 ∷ ty 4 1 0 0 ∷ ty 4 2 0 0 ∷ ty 4 3 0 0 ∷ ty 4 77 0 0
         ∷ ty 5 0 0 0 ∷ ty 5 4 0 0 ∷ ty 5 2 0 0 ∷ ty 7 4 0 0 ∷ ty 7 8 0 0 ∷ ty 5 8 0 0 ∷ ty 6 3 0 0 ∷ ty 6 0 0 1 ∷ ty 6 3 1 1
@@ -588,10 +677,10 @@ program-refused-7-9 = record {
       ∷ []);
 }
 
-pub refused-7-9 : Answers program-refused-7-9 7 7 0 (65535 ∷ 65535 ∷ 65535 ∷ 65535 ∷ 65535 ∷ 65535 ∷ 65535 ∷ 65535 ∷ 65535 ∷ 65535
-    ∷ 65535 ∷ 65535 ∷ [])
-unfolding program-refused-7-9 computed isFile
-refused-7-9 = record { file = is-file widest program-refused-7-9 refl; answer = refl }
+pub refused-7-12 : Answers program-refused-7-12 7 7 0 0 (65535 ∷ 65535 ∷ 65535 ∷ 65535 ∷ 65535 ∷ 65535 ∷ 65535 ∷ 65535 ∷ 65535
+    ∷ 65535 ∷ 65535 ∷ 65535 ∷ [])
+unfolding program-refused-7-12 computed isFile
+refused-7-12 = record { file = is-file widest program-refused-7-12 refl; answer = refl }
 
 pub program-refused-8-1 : Program
 program-refused-8-1 = record {
@@ -610,32 +699,72 @@ program-refused-8-1 = record {
   declarations = (global 11 (name 11) ∷ []);
 }
 
-pub refused-8-1 : Answers program-refused-8-1 8 0 1 (65535 ∷ 65535 ∷ 65535 ∷ 65535 ∷ [])
+pub refused-8-1 : Answers program-refused-8-1 8 0 1 0 (65535 ∷ 65535 ∷ 65535 ∷ 65535 ∷ [])
 unfolding program-refused-8-1 computed isFile
 refused-8-1 = record { file = is-file widest program-refused-8-1 refl; answer = refl }
 
 pub program-refused-8-2 : Program
 program-refused-8-2 = record {
   tables = record {
-    types = (ty 0 0 0 0 ∷ ty 1 0 0 0 ∷ ty 2 0 0 0 ∷ ty 3 0 0 0 ∷ ty 6 3 0 0 ∷ ty 6 0 0 0 ∷ ty 6 0 0 1 ∷ ty 6 3 1 2 ∷ ty 7 2 0 0
-        ∷ ty 5 0 0 0 ∷ ty 5 9 0 0 ∷ ty 7 9 0 0 ∷ ty 5 1 0 0 ∷ ty 6 3 3 1 ∷ ty 6 9 4 1 ∷ ty 4 9 0 0 ∷ ty 7 15 0 0 ∷ ty 5 15 0 0
-        ∷ []);
-    list = (0 ∷ 0 ∷ 0 ∷ 8 ∷ 9 ∷ []);
-    fields = ([]);
-    structs = ([]);
+    types = (ty 0 0 0 0 ∷ ty 1 0 0 0 ∷ ty 2 0 0 0 ∷ ty 3 0 0 0 ∷ ty 5 0 0 0 ∷ ty 4 68 0 0 ∷ []);
+    list = ([]);
+    fields = (fd 1 4 ∷ fd 2 0 ∷ []);
+    structs = (st 68 0 2 ∷ []);
     builtIns = ([]);
-    nodes = (nd 2 10 7 3 ∷ nd 3 20 0 0 ∷ nd 3 21 0 0 ∷ nd 39 0 0 2 ∷ nd 31 20 0 1 ∷ nd 15 99 0 0 ∷ nd 33 0 0 0 ∷ []);
+    nodes = (nd 1 11 0 1 ∷ nd 21 0 5 2 ∷ nd 22 1 0 1 ∷ nd 16 0 4 2 ∷ nd 13 1 0 0 ∷ nd 13 2 0 0 ∷ nd 22 2 0 1 ∷ nd 15 99 0 0 ∷ []);
   };
-  declarations = (function 10 7 (20 ∷ 21 ∷ []) (block (then (var 20 (name 99)) (then returnVoid empty))) ∷ []);
+  declarations = (global 11 (structLiteral 5 (init 1 (arrayLiteral 4 (also (literal (integer 1)) (also (literal (integer 2))
+      none))) (init 2 (name 99) noInit))) ∷ []);
 }
 
-pub refused-8-2 : Answers program-refused-8-2 8 1 5 (65535 ∷ 65535 ∷ 65535 ∷ 65535 ∷ 65535 ∷ 65535 ∷ 65535 ∷ 65535 ∷ 65535 ∷ 65535
-    ∷ 65535 ∷ 65535 ∷ 65535 ∷ 65535 ∷ [])
+pub refused-8-2 : Answers program-refused-8-2 8 1 7 2 (65535 ∷ 65535 ∷ 65535 ∷ 65535 ∷ 65535 ∷ 65535 ∷ 65535 ∷ 65535 ∷ 65535
+    ∷ 65535 ∷ 65535 ∷ 65535 ∷ 65535 ∷ 65535 ∷ 65535 ∷ 65535 ∷ [])
 unfolding program-refused-8-2 computed isFile
 refused-8-2 = record { file = is-file widest program-refused-8-2 refl; answer = refl }
 
 pub program-refused-8-3 : Program
 program-refused-8-3 = record {
+  tables = record {
+    types = (ty 0 0 0 0 ∷ ty 1 0 0 0 ∷ ty 2 0 0 0 ∷ ty 3 0 0 0 ∷ ty 7 2 0 0 ∷ ty 6 3 0 1 ∷ ty 6 3 1 1 ∷ ty 6 3 2 2 ∷ []);
+    list = (4 ∷ 2 ∷ 5 ∷ 6 ∷ []);
+    fields = ([]);
+    structs = ([]);
+    builtIns = ([]);
+    nodes = (nd 2 10 7 3 ∷ nd 3 20 0 0 ∷ nd 3 21 0 0 ∷ nd 39 0 0 3 ∷ nd 30 0 0 2 ∷ nd 15 21 0 0 ∷ nd 15 20 0 0 ∷ nd 31 31 0 1
+        ∷ nd 15 99 0 0 ∷ nd 33 0 0 0 ∷ []);
+  };
+  declarations = (function 10 7 (20 ∷ 21 ∷ []) (block (then (assign (nameTarget 21) (name 20)) (then (var 31 (name 99)) (then
+      returnVoid empty)))) ∷ []);
+}
+
+pub refused-8-3 : Answers program-refused-8-3 8 1 8 4 (65535 ∷ 65535 ∷ 65535 ∷ 65535 ∷ 65535 ∷ 65535 ∷ 65535 ∷ 65535 ∷ 65535
+    ∷ 65535 ∷ 65535 ∷ 65535 ∷ 65535 ∷ 65535 ∷ 65535 ∷ 65535 ∷ 65535 ∷ 65535 ∷ 65535 ∷ 65535 ∷ [])
+unfolding program-refused-8-3 computed isFile
+refused-8-3 = record { file = is-file widest program-refused-8-3 refl; answer = refl }
+
+pub program-refused-8-4 : Program
+program-refused-8-4 = record {
+  tables = record {
+    types = (ty 0 0 0 0 ∷ ty 1 0 0 0 ∷ ty 2 0 0 0 ∷ ty 3 0 0 0 ∷ ty 7 2 0 0 ∷ ty 6 3 0 1 ∷ ty 6 3 1 1 ∷ ty 6 3 2 2 ∷ ty 6 3 4 3
+        ∷ []);
+    list = (4 ∷ 2 ∷ 6 ∷ 0 ∷ 5 ∷ 6 ∷ 7 ∷ []);
+    fields = ([]);
+    structs = ([]);
+    builtIns = ([]);
+    nodes = (nd 2 10 8 4 ∷ nd 3 20 0 0 ∷ nd 3 21 0 0 ∷ nd 3 30 0 0 ∷ nd 39 0 0 2 ∷ nd 34 0 0 3 ∷ nd 15 30 0 0 ∷ nd 11 0 0 0
+        ∷ nd 15 99 0 0 ∷ nd 33 0 0 0 ∷ []);
+  };
+  declarations = (function 10 8 (20 ∷ 21 ∷ 30 ∷ []) (block (then (callStmt (name 30) (also (literal truth) (also (name 99) none)))
+      (then returnVoid empty))) ∷ []);
+}
+
+pub refused-8-4 : Answers program-refused-8-4 8 1 8 0 (65535 ∷ 65535 ∷ 65535 ∷ 65535 ∷ 65535 ∷ 65535 ∷ 65535 ∷ 65535 ∷ 65535
+    ∷ 65535 ∷ 65535 ∷ 65535 ∷ 65535 ∷ 65535 ∷ 65535 ∷ 65535 ∷ 65535 ∷ 65535 ∷ 65535 ∷ 65535 ∷ [])
+unfolding program-refused-8-4 computed isFile
+refused-8-4 = record { file = is-file widest program-refused-8-4 refl; answer = refl }
+
+pub program-refused-8-5 : Program
+program-refused-8-5 = record {
   tables = record {
     types = (ty 0 0 0 0 ∷ ty 1 0 0 0 ∷ ty 2 0 0 0 ∷ ty 3 0 0 0 ∷ ty 4 1 0 0 ∷ ty 4 2 0 0 ∷ ty 4 3 0 0 ∷ ty 7 4 0 0 ∷ ty 7 5 0 0
         ∷ ty 5 4 0 0 ∷ ty 5 5 0 0 ∷ ty 5 0 0 0 ∷ ty 6 3 0 0 ∷ ty 6 0 0 0 ∷ ty 6 0 0 1 ∷ ty 4 9 0 0 ∷ ty 7 15 0 0 ∷ ty 5 15 0 0
@@ -653,10 +782,10 @@ program-refused-8-3 = record {
       (literal (integer 1)) noInit))))) (then returnVoid empty))) ∷ []);
 }
 
-pub refused-8-3 : Answers program-refused-8-3 8 7 3 (65535 ∷ 65535 ∷ 65535 ∷ 65535 ∷ 65535 ∷ 65535 ∷ 65535 ∷ 65535 ∷ 65535 ∷ 65535
-    ∷ 65535 ∷ 65535 ∷ 65535 ∷ 65535 ∷ 65535 ∷ 65535 ∷ 65535 ∷ 65535 ∷ 65535 ∷ 65535 ∷ [])
-unfolding program-refused-8-3 computed isFile
-refused-8-3 = record { file = is-file widest program-refused-8-3 refl; answer = refl }
+pub refused-8-5 : Answers program-refused-8-5 8 7 3 2 (65535 ∷ 65535 ∷ 65535 ∷ 65535 ∷ 65535 ∷ 65535 ∷ 65535 ∷ 65535 ∷ 65535
+    ∷ 65535 ∷ 65535 ∷ 65535 ∷ 65535 ∷ 65535 ∷ 65535 ∷ 65535 ∷ 65535 ∷ 65535 ∷ 65535 ∷ 65535 ∷ [])
+unfolding program-refused-8-5 computed isFile
+refused-8-5 = record { file = is-file widest program-refused-8-5 refl; answer = refl }
 
 pub program-refused-9-1 : Program
 program-refused-9-1 = record {
@@ -671,28 +800,24 @@ program-refused-9-1 = record {
   declarations = ([]);
 }
 
-pub refused-9-1 : Answers program-refused-9-1 9 0 0 ([])
+pub refused-9-1 : Answers program-refused-9-1 9 0 0 0 ([])
 unfolding program-refused-9-1 computed isFile
 refused-9-1 = record { file = is-file widest program-refused-9-1 refl; answer = refl }
 
 pub program-refused-9-2 : Program
 program-refused-9-2 = record {
   tables = record {
-    types = (ty 0 0 0 0 ∷ ty 1 0 0 0 ∷ ty 2 0 0 0 ∷ ty 3 0 0 0 ∷ ty 4 1 0 0 ∷ ty 4 2 0 0 ∷ ty 4 3 0 0 ∷ ty 7 4 0 0 ∷ ty 7 5 0 0
-        ∷ ty 5 4 0 0 ∷ ty 5 5 0 0 ∷ ty 5 0 0 0 ∷ ty 6 3 0 0 ∷ ty 6 0 0 0 ∷ ty 6 0 0 1 ∷ ty 4 9 0 0 ∷ ty 7 15 0 0 ∷ ty 5 15 0 0
-        ∷ ty 6 3 1 1 ∷ ty 7 2 0 0 ∷ ty 5 2 0 0 ∷ ty 5 0 0 0 ∷ ty 4 1 0 0 ∷ ty 5 7 0 0 ∷ ty 7 11 0 0 ∷ ty 6 5 2 1 ∷ ty 6 4 3 1
-        ∷ ty 5 1 0 0 ∷ ty 6 3 4 2 ∷ ty 5 11 0 0 ∷ ty 7 13 0 0 ∷ ty 6 15 6 0 ∷ ty 6 17 6 1 ∷ ty 7 17 0 0 ∷ ty 6 21 7 0
-        ∷ ty 6 21 7 1 ∷ ty 6 11 8 1 ∷ ty 6 3 9 1 ∷ ty 6 3 10 2 ∷ ty 6 3 12 2 ∷ []);
-    list = (0 ∷ 15 ∷ 4 ∷ 5 ∷ 0 ∷ 1 ∷ 17 ∷ 21 ∷ 22 ∷ 7 ∷ 0 ∷ 0 ∷ 4 ∷ 4 ∷ []);
+    types = (ty 0 0 0 0 ∷ ty 1 0 0 0 ∷ ty 2 0 0 0 ∷ ty 3 0 0 0 ∷ ty 4 81 0 0 ∷ ty 6 3 0 1 ∷ []);
+    list = (4 ∷ []);
     fields = ([]);
     structs = ([]);
     builtIns = ([]);
-    nodes = (nd 2 10 31 1 ∷ nd 39 0 0 1 ∷ nd 32 0 0 1 ∷ nd 15 99 0 0 ∷ []);
+    nodes = (nd 2 10 5 2 ∷ nd 3 20 0 0 ∷ nd 39 0 0 1 ∷ nd 33 0 0 0 ∷ []);
   };
-  declarations = (function 10 31 ([]) (block (then (returnValue (name 99)) empty)) ∷ []);
+  declarations = (function 10 5 (20 ∷ []) (block (then returnVoid empty)) ∷ []);
 }
 
-pub refused-9-2 : Answers program-refused-9-2 9 0 0 (65535 ∷ 65535 ∷ 65535 ∷ 65535 ∷ 65535 ∷ 65535 ∷ 65535 ∷ 65535 ∷ [])
+pub refused-9-2 : Answers program-refused-9-2 9 0 0 0 (65535 ∷ 65535 ∷ 65535 ∷ 65535 ∷ 65535 ∷ 65535 ∷ 65535 ∷ 65535 ∷ [])
 unfolding program-refused-9-2 computed isFile
 refused-9-2 = record { file = is-file widest program-refused-9-2 refl; answer = refl }
 
@@ -713,7 +838,7 @@ program-refused-9-3 = record {
   declarations = (global 11 (structLiteral 4 noInit) ∷ []);
 }
 
-pub refused-9-3 : Answers program-refused-9-3 9 0 1 (65535 ∷ 65535 ∷ 65535 ∷ 65535 ∷ [])
+pub refused-9-3 : Answers program-refused-9-3 9 0 1 0 (65535 ∷ 65535 ∷ 65535 ∷ 65535 ∷ [])
 unfolding program-refused-9-3 computed isFile
 refused-9-3 = record { file = is-file widest program-refused-9-3 refl; answer = refl }
 
@@ -730,7 +855,7 @@ program-refused-9-4 = record {
   declarations = ([]);
 }
 
-pub refused-9-4 : Answers program-refused-9-4 9 1 0 ([])
+pub refused-9-4 : Answers program-refused-9-4 9 1 0 0 ([])
 unfolding program-refused-9-4 computed isFile
 refused-9-4 = record { file = is-file widest program-refused-9-4 refl; answer = refl }
 
@@ -751,7 +876,7 @@ program-refused-9-5 = record {
   declarations = (function 10 13 ([]) (block (then (returnValue (structLiteral 4 noInit)) empty)) ∷ []);
 }
 
-pub refused-9-5 : Answers program-refused-9-5 9 1 3 (65535 ∷ 65535 ∷ 65535 ∷ 65535 ∷ 65535 ∷ 65535 ∷ 65535 ∷ 65535 ∷ [])
+pub refused-9-5 : Answers program-refused-9-5 9 1 3 0 (65535 ∷ 65535 ∷ 65535 ∷ 65535 ∷ 65535 ∷ 65535 ∷ 65535 ∷ 65535 ∷ [])
 unfolding program-refused-9-5 computed isFile
 refused-9-5 = record { file = is-file widest program-refused-9-5 refl; answer = refl }
 
@@ -772,8 +897,8 @@ program-refused-9-6 = record {
   declarations = (function 10 13 ([]) (block (then (returnValue (defaultArray 9 (literal (integer 1)))) empty)) ∷ []);
 }
 
-pub refused-9-6 : Answers program-refused-9-6 9 1 3 (65535 ∷ 65535 ∷ 65535 ∷ 65535 ∷ 65535 ∷ 65535 ∷ 65535 ∷ 65535 ∷ 65535 ∷ 65535
-    ∷ [])
+pub refused-9-6 : Answers program-refused-9-6 9 1 3 0 (65535 ∷ 65535 ∷ 65535 ∷ 65535 ∷ 65535 ∷ 65535 ∷ 65535 ∷ 65535 ∷ 65535
+    ∷ 65535 ∷ [])
 unfolding program-refused-9-6 computed isFile
 refused-9-6 = record { file = is-file widest program-refused-9-6 refl; answer = refl }
 
@@ -793,8 +918,8 @@ program-refused-9-7 = record {
       empty)))) ∷ []);
 }
 
-pub refused-9-7 : Answers program-refused-9-7 9 1 5 (65535 ∷ 65535 ∷ 65535 ∷ 65535 ∷ 65535 ∷ 65535 ∷ 65535 ∷ 65535 ∷ 65535 ∷ 65535
-    ∷ 65535 ∷ 65535 ∷ 65535 ∷ 65535 ∷ [])
+pub refused-9-7 : Answers program-refused-9-7 9 1 5 0 (65535 ∷ 65535 ∷ 65535 ∷ 65535 ∷ 65535 ∷ 65535 ∷ 65535 ∷ 65535 ∷ 65535
+    ∷ 65535 ∷ 65535 ∷ 65535 ∷ 65535 ∷ 65535 ∷ [])
 unfolding program-refused-9-7 computed isFile
 refused-9-7 = record { file = is-file widest program-refused-9-7 refl; answer = refl }
 
@@ -815,13 +940,76 @@ program-refused-9-8 = record {
       (then returnVoid empty)))) ∷ []);
 }
 
-pub refused-9-8 : Answers program-refused-9-8 9 1 5 (65535 ∷ 65535 ∷ 65535 ∷ 65535 ∷ 65535 ∷ 65535 ∷ 65535 ∷ 65535 ∷ 65535 ∷ 65535
-    ∷ 65535 ∷ 65535 ∷ 65535 ∷ 65535 ∷ 65535 ∷ 65535 ∷ 65535 ∷ 65535 ∷ [])
+pub refused-9-8 : Answers program-refused-9-8 9 1 5 0 (65535 ∷ 65535 ∷ 65535 ∷ 65535 ∷ 65535 ∷ 65535 ∷ 65535 ∷ 65535 ∷ 65535
+    ∷ 65535 ∷ 65535 ∷ 65535 ∷ 65535 ∷ 65535 ∷ 65535 ∷ 65535 ∷ 65535 ∷ 65535 ∷ [])
 unfolding program-refused-9-8 computed isFile
 refused-9-8 = record { file = is-file widest program-refused-9-8 refl; answer = refl }
 
 pub program-refused-9-9 : Program
 program-refused-9-9 = record {
+  tables = record {
+    types = (ty 0 0 0 0 ∷ ty 1 0 0 0 ∷ ty 2 0 0 0 ∷ ty 3 0 0 0 ∷ ty 4 81 0 0 ∷ ty 7 4 0 0 ∷ ty 7 2 0 0 ∷ ty 6 3 0 1 ∷ ty 6 3 1 1
+        ∷ ty 6 3 2 2 ∷ []);
+    list = (6 ∷ 2 ∷ 7 ∷ 8 ∷ []);
+    fields = ([]);
+    structs = ([]);
+    builtIns = ([]);
+    nodes = (nd 2 10 9 3 ∷ nd 3 20 0 0 ∷ nd 3 21 0 0 ∷ nd 39 0 0 3 ∷ nd 30 0 0 2 ∷ nd 15 21 0 0 ∷ nd 15 20 0 0 ∷ nd 31 31 0 1
+        ∷ nd 10 0 5 0 ∷ nd 33 0 0 0 ∷ []);
+  };
+  declarations = (function 10 9 (20 ∷ 21 ∷ []) (block (then (assign (nameTarget 21) (name 20)) (then (var 31 (null 5)) (then
+      returnVoid empty)))) ∷ []);
+}
+
+pub refused-9-9 : Answers program-refused-9-9 9 1 8 4 (65535 ∷ 65535 ∷ 65535 ∷ 65535 ∷ 65535 ∷ 65535 ∷ 65535 ∷ 65535 ∷ 65535
+    ∷ 65535 ∷ 65535 ∷ 65535 ∷ 65535 ∷ 65535 ∷ 65535 ∷ 65535 ∷ 65535 ∷ 65535 ∷ 65535 ∷ 65535 ∷ [])
+unfolding program-refused-9-9 computed isFile
+refused-9-9 = record { file = is-file widest program-refused-9-9 refl; answer = refl }
+
+pub program-refused-9-10 : Program
+program-refused-9-10 = record {
+  tables = record {
+    types = (ty 0 0 0 0 ∷ ty 1 0 0 0 ∷ ty 2 0 0 0 ∷ ty 3 0 0 0 ∷ ty 4 81 0 0 ∷ ty 5 4 0 0 ∷ ty 7 2 0 0 ∷ ty 6 3 0 1 ∷ ty 6 3 1 1
+        ∷ ty 6 3 2 2 ∷ []);
+    list = (6 ∷ 2 ∷ 7 ∷ 8 ∷ []);
+    fields = ([]);
+    structs = ([]);
+    builtIns = ([]);
+    nodes = (nd 2 10 9 3 ∷ nd 3 20 0 0 ∷ nd 3 21 0 0 ∷ nd 39 0 0 3 ∷ nd 30 0 0 2 ∷ nd 15 21 0 0 ∷ nd 15 20 0 0 ∷ nd 31 31 0 1
+        ∷ nd 16 0 5 1 ∷ nd 15 20 0 0 ∷ nd 33 0 0 0 ∷ []);
+  };
+  declarations = (function 10 9 (20 ∷ 21 ∷ []) (block (then (assign (nameTarget 21) (name 20)) (then (var 31 (arrayLiteral 5 (also
+      (name 20) none))) (then returnVoid empty)))) ∷ []);
+}
+
+pub refused-9-10 : Answers program-refused-9-10 9 1 8 4 (65535 ∷ 65535 ∷ 65535 ∷ 65535 ∷ 65535 ∷ 65535 ∷ 65535 ∷ 65535 ∷ 65535
+    ∷ 65535 ∷ 65535 ∷ 65535 ∷ 65535 ∷ 65535 ∷ 65535 ∷ 65535 ∷ 65535 ∷ 65535 ∷ 65535 ∷ 65535 ∷ 65535 ∷ 65535 ∷ [])
+unfolding program-refused-9-10 computed isFile
+refused-9-10 = record { file = is-file widest program-refused-9-10 refl; answer = refl }
+
+pub program-refused-9-11 : Program
+program-refused-9-11 = record {
+  tables = record {
+    types = (ty 0 0 0 0 ∷ ty 1 0 0 0 ∷ ty 2 0 0 0 ∷ ty 3 0 0 0 ∷ ty 4 81 0 0 ∷ ty 7 4 0 0 ∷ ty 5 0 0 0 ∷ []);
+    list = ([]);
+    fields = (fd 1 0 ∷ fd 2 5 ∷ []);
+    structs = (st 68 0 2 ∷ []);
+    builtIns = ([]);
+    nodes = (nd 1 11 0 1 ∷ nd 16 0 6 4 ∷ nd 13 1 0 0 ∷ nd 13 1 0 0 ∷ nd 13 1 0 0 ∷ nd 13 1 0 0 ∷ nd 1 12 0 1 ∷ nd 16 0 6 2
+        ∷ nd 13 1 0 0 ∷ nd 13 1 0 0 ∷ []);
+  };
+  declarations = (global 11 (arrayLiteral 6 (also (literal (integer 1)) (also (literal (integer 1)) (also (literal (integer 1))
+      (also (literal (integer 1)) none))))) ∷ global 12 (arrayLiteral 6 (also (literal (integer 1)) (also (literal (integer 1))
+      none))) ∷ []);
+}
+
+pub refused-9-11 : Answers program-refused-9-11 9 3 0 6 (65535 ∷ 65535 ∷ 65535 ∷ 65535 ∷ 65535 ∷ 65535 ∷ 65535 ∷ 65535 ∷ 65535
+    ∷ 65535 ∷ 65535 ∷ 65535 ∷ 65535 ∷ 65535 ∷ 65535 ∷ 65535 ∷ 65535 ∷ 65535 ∷ 65535 ∷ 65535 ∷ [])
+unfolding program-refused-9-11 computed isFile
+refused-9-11 = record { file = is-file widest program-refused-9-11 refl; answer = refl }
+
+pub program-refused-9-12 : Program
+program-refused-9-12 = record {
   tables = record {
     types = (ty 0 0 0 0 ∷ ty 1 0 0 0 ∷ ty 2 0 0 0 ∷ ty 3 0 0 0 ∷ ty 4 0 0 0 ∷ ty 4 1 0 0 ∷ ty 4 77 0 0 ∷ ty 5 0 0 0 ∷ ty 5 4 0 0
         ∷ ty 5 2 0 0 ∷ ty 7 4 0 0 ∷ ty 7 6 0 0 ∷ ty 5 6 0 0 ∷ ty 6 3 0 0 ∷ ty 6 0 0 1 ∷ ty 6 3 1 1 ∷ ty 6 14 2 2 ∷ ty 7 14 0 0
@@ -836,13 +1024,13 @@ program-refused-9-9 = record {
   declarations = (function 20 16 (60 ∷ 61 ∷ []) (block (then (returnValue (arrayLiteral 27 none)) empty)) ∷ []);
 }
 
-pub refused-9-9 : Answers program-refused-9-9 9 9 5 (65535 ∷ 65535 ∷ 65535 ∷ 65535 ∷ 65535 ∷ 65535 ∷ 65535 ∷ 65535 ∷ 65535 ∷ 65535
-    ∷ 65535 ∷ 65535 ∷ [])
-unfolding program-refused-9-9 computed isFile
-refused-9-9 = record { file = is-file widest program-refused-9-9 refl; answer = refl }
+pub refused-9-12 : Answers program-refused-9-12 9 9 5 0 (65535 ∷ 65535 ∷ 65535 ∷ 65535 ∷ 65535 ∷ 65535 ∷ 65535 ∷ 65535 ∷ 65535
+    ∷ 65535 ∷ 65535 ∷ 65535 ∷ [])
+unfolding program-refused-9-12 computed isFile
+refused-9-12 = record { file = is-file widest program-refused-9-12 refl; answer = refl }
 
-pub program-refused-9-10 : Program
-program-refused-9-10 = record {
+pub program-refused-9-13 : Program
+program-refused-9-13 = record {
   tables = record {
     types = (ty 0 0 0 0 ∷ ty 1 0 0 0 ∷ ty 2 0 0 0 ∷ ty 3 0 0 0 ∷ ty 4 0 0 0 ∷ ty 4 1 0 0 ∷ ty 4 2 0 0 ∷ ty 4 77 0 0 ∷ ty 5 0 0 0
         ∷ ty 5 4 0 0 ∷ ty 5 2 0 0 ∷ ty 7 4 0 0 ∷ ty 7 7 0 0 ∷ ty 5 7 0 0 ∷ ty 6 3 0 0 ∷ ty 6 0 0 1 ∷ ty 6 3 1 1 ∷ ty 7 4 0 0
@@ -858,10 +1046,10 @@ program-refused-9-10 = record {
       returnVoid empty))) ∷ global 120 (null 12) ∷ []);
 }
 
-pub refused-9-10 : Answers program-refused-9-10 9 10 9 (65535 ∷ 65535 ∷ 65535 ∷ 65535 ∷ 65535 ∷ 65535 ∷ 65535 ∷ 65535 ∷ 65535
+pub refused-9-13 : Answers program-refused-9-13 9 10 9 0 (65535 ∷ 65535 ∷ 65535 ∷ 65535 ∷ 65535 ∷ 65535 ∷ 65535 ∷ 65535 ∷ 65535
     ∷ 65535 ∷ 65535 ∷ 65535 ∷ 65535 ∷ 65535 ∷ 65535 ∷ 65535 ∷ 65535 ∷ 65535 ∷ 65535 ∷ 65535 ∷ [])
-unfolding program-refused-9-10 computed isFile
-refused-9-10 = record { file = is-file widest program-refused-9-10 refl; answer = refl }
+unfolding program-refused-9-13 computed isFile
+refused-9-13 = record { file = is-file widest program-refused-9-13 refl; answer = refl }
 
 pub program-refused-10-1 : Program
 program-refused-10-1 = record {
@@ -880,7 +1068,7 @@ program-refused-10-1 = record {
       20 (literal (integer 1)))) (block empty)) (then returnVoid empty))) ∷ []);
 }
 
-pub refused-10-1 : Answers program-refused-10-1 10 1 2 (65535 ∷ 65535 ∷ 65535 ∷ 65535 ∷ 65535 ∷ 65535 ∷ 65535 ∷ 65535 ∷ 65535
+pub refused-10-1 : Answers program-refused-10-1 10 1 2 0 (65535 ∷ 65535 ∷ 65535 ∷ 65535 ∷ 65535 ∷ 65535 ∷ 65535 ∷ 65535 ∷ 65535
     ∷ 65535 ∷ 65535 ∷ 65535 ∷ 65535 ∷ 65535 ∷ 65535 ∷ 65535 ∷ 65535 ∷ 65535 ∷ 65535 ∷ 65535 ∷ [])
 unfolding program-refused-10-1 computed isFile
 refused-10-1 = record { file = is-file widest program-refused-10-1 refl; answer = refl }
@@ -903,7 +1091,7 @@ program-refused-10-2 = record {
       empty)) ∷ []);
 }
 
-pub refused-10-2 : Answers program-refused-10-2 10 1 2 (65535 ∷ 65535 ∷ 65535 ∷ 65535 ∷ 65535 ∷ 65535 ∷ 65535 ∷ 65535 ∷ 65535
+pub refused-10-2 : Answers program-refused-10-2 10 1 2 0 (65535 ∷ 65535 ∷ 65535 ∷ 65535 ∷ 65535 ∷ 65535 ∷ 65535 ∷ 65535 ∷ 65535
     ∷ 65535 ∷ 65535 ∷ 65535 ∷ 65535 ∷ 65535 ∷ [])
 unfolding program-refused-10-2 computed isFile
 refused-10-2 = record { file = is-file widest program-refused-10-2 refl; answer = refl }
@@ -911,22 +1099,20 @@ refused-10-2 = record { file = is-file widest program-refused-10-2 refl; answer 
 pub program-refused-10-3 : Program
 program-refused-10-3 = record {
   tables = record {
-    types = (ty 0 0 0 0 ∷ ty 1 0 0 0 ∷ ty 2 0 0 0 ∷ ty 3 0 0 0 ∷ ty 4 1 0 0 ∷ ty 4 2 0 0 ∷ ty 4 3 0 0 ∷ ty 7 4 0 0 ∷ ty 7 5 0 0
-        ∷ ty 5 4 0 0 ∷ ty 5 5 0 0 ∷ ty 5 0 0 0 ∷ ty 6 3 0 0 ∷ ty 6 0 0 0 ∷ ty 6 0 0 1 ∷ ty 4 9 0 0 ∷ ty 7 15 0 0 ∷ ty 5 15 0 0
-        ∷ ty 6 3 1 1 ∷ ty 7 2 0 0 ∷ ty 5 2 0 0 ∷ ty 5 0 0 0 ∷ ty 4 1 0 0 ∷ ty 5 7 0 0 ∷ ty 7 11 0 0 ∷ ty 6 5 2 1 ∷ ty 6 4 3 1
-        ∷ ty 5 1 0 0 ∷ ty 6 3 4 2 ∷ ty 5 11 0 0 ∷ ty 7 13 0 0 ∷ ty 6 15 6 0 ∷ ty 6 17 6 1 ∷ ty 7 17 0 0 ∷ ty 6 21 7 0
-        ∷ ty 6 21 7 1 ∷ ty 6 11 8 1 ∷ ty 6 3 9 1 ∷ ty 6 3 10 2 ∷ ty 6 3 12 2 ∷ []);
-    list = (0 ∷ 15 ∷ 4 ∷ 5 ∷ 0 ∷ 1 ∷ 17 ∷ 21 ∷ 22 ∷ 7 ∷ 0 ∷ 0 ∷ 4 ∷ 4 ∷ []);
+    types = (ty 0 0 0 0 ∷ ty 1 0 0 0 ∷ ty 2 0 0 0 ∷ ty 3 0 0 0 ∷ ty 6 3 0 1 ∷ []);
+    list = (2 ∷ []);
     fields = ([]);
     structs = ([]);
     builtIns = ([]);
-    nodes = (nd 2 10 12 1 ∷ nd 39 0 0 2 ∷ nd 31 20 0 1 ∷ nd 20 0 0 1 ∷ nd 13 1 0 0 ∷ nd 33 0 0 0 ∷ []);
+    nodes = (nd 2 10 4 2 ∷ nd 3 20 0 0 ∷ nd 39 0 0 2 ∷ nd 36 31 2 3 ∷ nd 15 20 0 0 ∷ nd 39 0 0 0 ∷ nd 39 0 0 0 ∷ nd 33 0 0 0
+        ∷ []);
   };
-  declarations = (function 10 12 ([]) (block (then (var 20 (lengthOf (literal (integer 1)))) (then returnVoid empty))) ∷ []);
+  declarations = (function 10 4 (20 ∷ []) (block (then (ifNull 31 2 (name 20) (block empty) (block empty)) (then returnVoid
+      empty))) ∷ []);
 }
 
-pub refused-10-3 : Answers program-refused-10-3 10 1 3 (65535 ∷ 65535 ∷ 65535 ∷ 65535 ∷ 65535 ∷ 65535 ∷ 65535 ∷ 65535 ∷ 65535
-    ∷ 65535 ∷ 65535 ∷ 65535 ∷ [])
+pub refused-10-3 : Answers program-refused-10-3 10 1 3 0 (65535 ∷ 65535 ∷ 65535 ∷ 65535 ∷ 65535 ∷ 65535 ∷ 65535 ∷ 65535 ∷ 65535
+    ∷ 65535 ∷ 65535 ∷ 65535 ∷ 65535 ∷ 65535 ∷ 65535 ∷ 65535 ∷ [])
 unfolding program-refused-10-3 computed isFile
 refused-10-3 = record { file = is-file widest program-refused-10-3 refl; answer = refl }
 
@@ -942,12 +1128,12 @@ program-refused-10-4 = record {
     fields = ([]);
     structs = ([]);
     builtIns = ([]);
-    nodes = (nd 2 10 12 1 ∷ nd 39 0 0 2 ∷ nd 31 20 0 1 ∷ nd 23 1 0 1 ∷ nd 13 1 0 0 ∷ nd 33 0 0 0 ∷ []);
+    nodes = (nd 2 10 12 1 ∷ nd 39 0 0 2 ∷ nd 31 20 0 1 ∷ nd 20 0 0 1 ∷ nd 13 1 0 0 ∷ nd 33 0 0 0 ∷ []);
   };
-  declarations = (function 10 12 ([]) (block (then (var 20 (field 1 (literal (integer 1)))) (then returnVoid empty))) ∷ []);
+  declarations = (function 10 12 ([]) (block (then (var 20 (lengthOf (literal (integer 1)))) (then returnVoid empty))) ∷ []);
 }
 
-pub refused-10-4 : Answers program-refused-10-4 10 1 3 (65535 ∷ 65535 ∷ 65535 ∷ 65535 ∷ 65535 ∷ 65535 ∷ 65535 ∷ 65535 ∷ 65535
+pub refused-10-4 : Answers program-refused-10-4 10 1 3 0 (65535 ∷ 65535 ∷ 65535 ∷ 65535 ∷ 65535 ∷ 65535 ∷ 65535 ∷ 65535 ∷ 65535
     ∷ 65535 ∷ 65535 ∷ 65535 ∷ [])
 unfolding program-refused-10-4 computed isFile
 refused-10-4 = record { file = is-file widest program-refused-10-4 refl; answer = refl }
@@ -964,12 +1150,12 @@ program-refused-10-5 = record {
     fields = ([]);
     structs = ([]);
     builtIns = ([]);
-    nodes = (nd 2 10 12 1 ∷ nd 39 0 0 2 ∷ nd 31 20 0 1 ∷ nd 17 0 20 1 ∷ nd 11 0 0 0 ∷ nd 33 0 0 0 ∷ []);
+    nodes = (nd 2 10 12 1 ∷ nd 39 0 0 2 ∷ nd 31 20 0 1 ∷ nd 23 1 0 1 ∷ nd 13 1 0 0 ∷ nd 33 0 0 0 ∷ []);
   };
-  declarations = (function 10 12 ([]) (block (then (var 20 (defaultArray 20 (literal truth))) (then returnVoid empty))) ∷ []);
+  declarations = (function 10 12 ([]) (block (then (var 20 (field 1 (literal (integer 1)))) (then returnVoid empty))) ∷ []);
 }
 
-pub refused-10-5 : Answers program-refused-10-5 10 1 3 (65535 ∷ 65535 ∷ 65535 ∷ 65535 ∷ 65535 ∷ 65535 ∷ 65535 ∷ 65535 ∷ 65535
+pub refused-10-5 : Answers program-refused-10-5 10 1 3 0 (65535 ∷ 65535 ∷ 65535 ∷ 65535 ∷ 65535 ∷ 65535 ∷ 65535 ∷ 65535 ∷ 65535
     ∷ 65535 ∷ 65535 ∷ 65535 ∷ [])
 unfolding program-refused-10-5 computed isFile
 refused-10-5 = record { file = is-file widest program-refused-10-5 refl; answer = refl }
@@ -986,13 +1172,12 @@ program-refused-10-6 = record {
     fields = ([]);
     structs = ([]);
     builtIns = ([]);
-    nodes = (nd 2 10 13 1 ∷ nd 39 0 0 1 ∷ nd 32 0 0 1 ∷ nd 26 12 0 2 ∷ nd 13 1 0 0 ∷ nd 13 2 0 0 ∷ []);
+    nodes = (nd 2 10 12 1 ∷ nd 39 0 0 2 ∷ nd 31 20 0 1 ∷ nd 17 0 20 1 ∷ nd 11 0 0 0 ∷ nd 33 0 0 0 ∷ []);
   };
-  declarations = (function 10 13 ([]) (block (then (returnValue (binary 12 (literal (integer 1)) (literal (integer 2)))) empty))
-      ∷ []);
+  declarations = (function 10 12 ([]) (block (then (var 20 (defaultArray 20 (literal truth))) (then returnVoid empty))) ∷ []);
 }
 
-pub refused-10-6 : Answers program-refused-10-6 10 1 3 (65535 ∷ 65535 ∷ 65535 ∷ 65535 ∷ 65535 ∷ 65535 ∷ 65535 ∷ 65535 ∷ 65535
+pub refused-10-6 : Answers program-refused-10-6 10 1 3 0 (65535 ∷ 65535 ∷ 65535 ∷ 65535 ∷ 65535 ∷ 65535 ∷ 65535 ∷ 65535 ∷ 65535
     ∷ 65535 ∷ 65535 ∷ 65535 ∷ [])
 unfolding program-refused-10-6 computed isFile
 refused-10-6 = record { file = is-file widest program-refused-10-6 refl; answer = refl }
@@ -1009,19 +1194,42 @@ program-refused-10-7 = record {
     fields = ([]);
     structs = ([]);
     builtIns = ([]);
+    nodes = (nd 2 10 13 1 ∷ nd 39 0 0 1 ∷ nd 32 0 0 1 ∷ nd 26 12 0 2 ∷ nd 13 1 0 0 ∷ nd 13 2 0 0 ∷ []);
+  };
+  declarations = (function 10 13 ([]) (block (then (returnValue (binary 12 (literal (integer 1)) (literal (integer 2)))) empty))
+      ∷ []);
+}
+
+pub refused-10-7 : Answers program-refused-10-7 10 1 3 0 (65535 ∷ 65535 ∷ 65535 ∷ 65535 ∷ 65535 ∷ 65535 ∷ 65535 ∷ 65535 ∷ 65535
+    ∷ 65535 ∷ 65535 ∷ 65535 ∷ [])
+unfolding program-refused-10-7 computed isFile
+refused-10-7 = record { file = is-file widest program-refused-10-7 refl; answer = refl }
+
+pub program-refused-10-8 : Program
+program-refused-10-8 = record {
+  tables = record {
+    types = (ty 0 0 0 0 ∷ ty 1 0 0 0 ∷ ty 2 0 0 0 ∷ ty 3 0 0 0 ∷ ty 4 1 0 0 ∷ ty 4 2 0 0 ∷ ty 4 3 0 0 ∷ ty 7 4 0 0 ∷ ty 7 5 0 0
+        ∷ ty 5 4 0 0 ∷ ty 5 5 0 0 ∷ ty 5 0 0 0 ∷ ty 6 3 0 0 ∷ ty 6 0 0 0 ∷ ty 6 0 0 1 ∷ ty 4 9 0 0 ∷ ty 7 15 0 0 ∷ ty 5 15 0 0
+        ∷ ty 6 3 1 1 ∷ ty 7 2 0 0 ∷ ty 5 2 0 0 ∷ ty 5 0 0 0 ∷ ty 4 1 0 0 ∷ ty 5 7 0 0 ∷ ty 7 11 0 0 ∷ ty 6 5 2 1 ∷ ty 6 4 3 1
+        ∷ ty 5 1 0 0 ∷ ty 6 3 4 2 ∷ ty 5 11 0 0 ∷ ty 7 13 0 0 ∷ ty 6 15 6 0 ∷ ty 6 17 6 1 ∷ ty 7 17 0 0 ∷ ty 6 21 7 0
+        ∷ ty 6 21 7 1 ∷ ty 6 11 8 1 ∷ ty 6 3 9 1 ∷ ty 6 3 10 2 ∷ ty 6 3 12 2 ∷ []);
+    list = (0 ∷ 15 ∷ 4 ∷ 5 ∷ 0 ∷ 1 ∷ 17 ∷ 21 ∷ 22 ∷ 7 ∷ 0 ∷ 0 ∷ 4 ∷ 4 ∷ []);
+    fields = ([]);
+    structs = ([]);
+    builtIns = ([]);
     nodes = (nd 2 10 12 1 ∷ nd 39 0 0 2 ∷ nd 31 20 0 1 ∷ nd 19 0 0 2 ∷ nd 13 1 0 0 ∷ nd 15 99 0 0 ∷ nd 33 0 0 0 ∷ []);
   };
   declarations = (function 10 12 ([]) (block (then (var 20 (index (literal (integer 1)) (name 99))) (then returnVoid empty)))
       ∷ []);
 }
 
-pub refused-10-7 : Answers program-refused-10-7 10 1 3 (65535 ∷ 65535 ∷ 65535 ∷ 65535 ∷ 65535 ∷ 65535 ∷ 65535 ∷ 65535 ∷ 65535
+pub refused-10-8 : Answers program-refused-10-8 10 1 3 0 (65535 ∷ 65535 ∷ 65535 ∷ 65535 ∷ 65535 ∷ 65535 ∷ 65535 ∷ 65535 ∷ 65535
     ∷ 65535 ∷ 65535 ∷ 65535 ∷ 65535 ∷ 65535 ∷ [])
-unfolding program-refused-10-7 computed isFile
-refused-10-7 = record { file = is-file widest program-refused-10-7 refl; answer = refl }
+unfolding program-refused-10-8 computed isFile
+refused-10-8 = record { file = is-file widest program-refused-10-8 refl; answer = refl }
 
-pub program-refused-10-8 : Program
-program-refused-10-8 = record {
+pub program-refused-10-9 : Program
+program-refused-10-9 = record {
   tables = record {
     types = (ty 0 0 0 0 ∷ ty 1 0 0 0 ∷ ty 2 0 0 0 ∷ ty 3 0 0 0 ∷ ty 4 1 0 0 ∷ ty 4 2 0 0 ∷ ty 4 3 0 0 ∷ ty 7 4 0 0 ∷ ty 7 5 0 0
         ∷ ty 5 4 0 0 ∷ ty 5 5 0 0 ∷ ty 5 0 0 0 ∷ ty 6 3 0 0 ∷ ty 6 0 0 0 ∷ ty 6 0 0 1 ∷ ty 4 9 0 0 ∷ ty 7 15 0 0 ∷ ty 5 15 0 0
@@ -1038,13 +1246,54 @@ program-refused-10-8 = record {
       empty))) ∷ []);
 }
 
-pub refused-10-8 : Answers program-refused-10-8 10 1 3 (65535 ∷ 65535 ∷ 65535 ∷ 65535 ∷ 65535 ∷ 65535 ∷ 65535 ∷ 65535 ∷ 65535
+pub refused-10-9 : Answers program-refused-10-9 10 1 3 0 (65535 ∷ 65535 ∷ 65535 ∷ 65535 ∷ 65535 ∷ 65535 ∷ 65535 ∷ 65535 ∷ 65535
     ∷ 65535 ∷ 65535 ∷ 65535 ∷ 65535 ∷ 65535 ∷ [])
-unfolding program-refused-10-8 computed isFile
-refused-10-8 = record { file = is-file widest program-refused-10-8 refl; answer = refl }
+unfolding program-refused-10-9 computed isFile
+refused-10-9 = record { file = is-file widest program-refused-10-9 refl; answer = refl }
 
-pub program-refused-10-9 : Program
-program-refused-10-9 = record {
+pub program-refused-10-10 : Program
+program-refused-10-10 = record {
+  tables = record {
+    types = (ty 0 0 0 0 ∷ ty 1 0 0 0 ∷ ty 2 0 0 0 ∷ ty 3 0 0 0 ∷ ty 7 2 0 0 ∷ ty 6 3 0 1 ∷ ty 6 3 1 1 ∷ ty 6 3 2 2 ∷ []);
+    list = (4 ∷ 2 ∷ 5 ∷ 6 ∷ []);
+    fields = ([]);
+    structs = ([]);
+    builtIns = ([]);
+    nodes = (nd 2 10 7 3 ∷ nd 3 20 0 0 ∷ nd 3 21 0 0 ∷ nd 39 0 0 2 ∷ nd 36 31 2 3 ∷ nd 26 10 0 2 ∷ nd 15 20 0 0 ∷ nd 15 20 0 0
+        ∷ nd 39 0 0 1 ∷ nd 30 0 0 2 ∷ nd 15 21 0 0 ∷ nd 15 20 0 0 ∷ nd 39 0 0 0 ∷ nd 33 0 0 0 ∷ []);
+  };
+  declarations = (function 10 7 (20 ∷ 21 ∷ []) (block (then (ifNull 31 2 (binary 10 (name 20) (name 20)) (block (then (assign
+      (nameTarget 21) (name 20)) empty)) (block empty)) (then returnVoid empty))) ∷ []);
+}
+
+pub refused-10-10 : Answers program-refused-10-10 10 1 4 8 (65535 ∷ 65535 ∷ 65535 ∷ 65535 ∷ 65535 ∷ 65535 ∷ 65535 ∷ 65535 ∷ 65535
+    ∷ 65535 ∷ 65535 ∷ 65535 ∷ 65535 ∷ 65535 ∷ 65535 ∷ 65535 ∷ 65535 ∷ 65535 ∷ 65535 ∷ 65535 ∷ 65535 ∷ 65535 ∷ 65535 ∷ 65535
+    ∷ 65535 ∷ 65535 ∷ 65535 ∷ 65535 ∷ [])
+unfolding program-refused-10-10 computed isFile
+refused-10-10 = record { file = is-file widest program-refused-10-10 refl; answer = refl }
+
+pub program-refused-10-11 : Program
+program-refused-10-11 = record {
+  tables = record {
+    types = (ty 0 0 0 0 ∷ ty 1 0 0 0 ∷ ty 2 0 0 0 ∷ ty 3 0 0 0 ∷ ty 7 2 0 0 ∷ ty 6 3 0 1 ∷ ty 6 3 1 1 ∷ ty 6 3 2 2 ∷ []);
+    list = (4 ∷ 2 ∷ 5 ∷ 6 ∷ []);
+    fields = ([]);
+    structs = ([]);
+    builtIns = ([]);
+    nodes = (nd 2 10 7 3 ∷ nd 3 20 0 0 ∷ nd 3 21 0 0 ∷ nd 39 0 0 2 ∷ nd 31 31 0 1 ∷ nd 26 12 0 2 ∷ nd 26 10 0 2 ∷ nd 15 20 0 0
+        ∷ nd 15 20 0 0 ∷ nd 13 1 0 0 ∷ nd 33 0 0 0 ∷ []);
+  };
+  declarations = (function 10 7 (20 ∷ 21 ∷ []) (block (then (var 31 (binary 12 (binary 10 (name 20) (name 20)) (literal (integer
+      1)))) (then returnVoid empty))) ∷ []);
+}
+
+pub refused-10-11 : Answers program-refused-10-11 10 1 5 8 (65535 ∷ 65535 ∷ 65535 ∷ 65535 ∷ 65535 ∷ 65535 ∷ 65535 ∷ 65535 ∷ 65535
+    ∷ 65535 ∷ 65535 ∷ 65535 ∷ 65535 ∷ 65535 ∷ 65535 ∷ 65535 ∷ 65535 ∷ 65535 ∷ 65535 ∷ 65535 ∷ 65535 ∷ 65535 ∷ [])
+unfolding program-refused-10-11 computed isFile
+refused-10-11 = record { file = is-file widest program-refused-10-11 refl; answer = refl }
+
+pub program-refused-10-12 : Program
+program-refused-10-12 = record {
   tables = record {
     types = (ty 0 0 0 0 ∷ ty 1 0 0 0 ∷ ty 2 0 0 0 ∷ ty 3 0 0 0 ∷ ty 6 3 0 0 ∷ ty 6 0 0 0 ∷ ty 6 0 0 1 ∷ ty 6 3 1 2 ∷ ty 7 2 0 0
         ∷ ty 5 0 0 0 ∷ ty 5 9 0 0 ∷ ty 7 9 0 0 ∷ ty 5 1 0 0 ∷ ty 6 3 3 1 ∷ ty 6 9 4 1 ∷ ty 4 9 0 0 ∷ ty 7 15 0 0 ∷ ty 5 15 0 0
@@ -1060,13 +1309,13 @@ program-refused-10-9 = record {
       returnVoid empty)))) ∷ []);
 }
 
-pub refused-10-9 : Answers program-refused-10-9 10 1 5 (65535 ∷ 65535 ∷ 65535 ∷ 65535 ∷ 65535 ∷ 65535 ∷ 65535 ∷ 65535 ∷ 65535
+pub refused-10-12 : Answers program-refused-10-12 10 1 5 0 (65535 ∷ 65535 ∷ 65535 ∷ 65535 ∷ 65535 ∷ 65535 ∷ 65535 ∷ 65535 ∷ 65535
     ∷ 65535 ∷ 65535 ∷ 65535 ∷ 65535 ∷ 65535 ∷ 65535 ∷ 65535 ∷ [])
-unfolding program-refused-10-9 computed isFile
-refused-10-9 = record { file = is-file widest program-refused-10-9 refl; answer = refl }
+unfolding program-refused-10-12 computed isFile
+refused-10-12 = record { file = is-file widest program-refused-10-12 refl; answer = refl }
 
-pub program-refused-10-10 : Program
-program-refused-10-10 = record {
+pub program-refused-10-13 : Program
+program-refused-10-13 = record {
   tables = record {
     types = (ty 0 0 0 0 ∷ ty 1 0 0 0 ∷ ty 2 0 0 0 ∷ ty 3 0 0 0 ∷ ty 6 3 0 0 ∷ ty 6 0 0 0 ∷ ty 6 0 0 1 ∷ ty 6 3 1 2 ∷ ty 7 2 0 0
         ∷ ty 5 0 0 0 ∷ ty 5 9 0 0 ∷ ty 7 9 0 0 ∷ ty 5 1 0 0 ∷ ty 6 3 3 1 ∷ ty 6 9 4 1 ∷ ty 4 9 0 0 ∷ ty 7 15 0 0 ∷ ty 5 15 0 0
@@ -1082,13 +1331,33 @@ program-refused-10-10 = record {
       (then returnVoid empty)))) ∷ []);
 }
 
-pub refused-10-10 : Answers program-refused-10-10 10 1 5 (65535 ∷ 65535 ∷ 65535 ∷ 65535 ∷ 65535 ∷ 65535 ∷ 65535 ∷ 65535 ∷ 65535
+pub refused-10-13 : Answers program-refused-10-13 10 1 5 0 (65535 ∷ 65535 ∷ 65535 ∷ 65535 ∷ 65535 ∷ 65535 ∷ 65535 ∷ 65535 ∷ 65535
     ∷ 65535 ∷ 65535 ∷ 65535 ∷ 65535 ∷ 65535 ∷ 65535 ∷ 65535 ∷ 65535 ∷ 65535 ∷ [])
-unfolding program-refused-10-10 computed isFile
-refused-10-10 = record { file = is-file widest program-refused-10-10 refl; answer = refl }
+unfolding program-refused-10-13 computed isFile
+refused-10-13 = record { file = is-file widest program-refused-10-13 refl; answer = refl }
 
-pub program-refused-10-11 : Program
-program-refused-10-11 = record {
+pub program-refused-10-14 : Program
+program-refused-10-14 = record {
+  tables = record {
+    types = (ty 0 0 0 0 ∷ ty 1 0 0 0 ∷ ty 2 0 0 0 ∷ ty 3 0 0 0 ∷ ty 7 2 0 0 ∷ ty 6 3 0 1 ∷ ty 6 3 1 1 ∷ ty 6 3 2 2 ∷ []);
+    list = (4 ∷ 2 ∷ 5 ∷ 6 ∷ []);
+    fields = ([]);
+    structs = ([]);
+    builtIns = ([]);
+    nodes = (nd 2 10 7 3 ∷ nd 3 20 0 0 ∷ nd 3 21 0 0 ∷ nd 39 0 0 3 ∷ nd 30 0 0 2 ∷ nd 15 21 0 0 ∷ nd 15 20 0 0 ∷ nd 35 0 0 3
+        ∷ nd 13 1 0 0 ∷ nd 39 0 0 0 ∷ nd 39 0 0 0 ∷ nd 33 0 0 0 ∷ []);
+  };
+  declarations = (function 10 7 (20 ∷ 21 ∷ []) (block (then (assign (nameTarget 21) (name 20)) (then (ifElse (literal (integer 1))
+      (block empty) (block empty)) (then returnVoid empty)))) ∷ []);
+}
+
+pub refused-10-14 : Answers program-refused-10-14 10 1 7 4 (65535 ∷ 65535 ∷ 65535 ∷ 65535 ∷ 65535 ∷ 65535 ∷ 65535 ∷ 65535 ∷ 65535
+    ∷ 65535 ∷ 65535 ∷ 65535 ∷ 65535 ∷ 65535 ∷ 65535 ∷ 65535 ∷ 65535 ∷ 65535 ∷ 65535 ∷ 65535 ∷ 65535 ∷ 65535 ∷ 65535 ∷ 65535 ∷ [])
+unfolding program-refused-10-14 computed isFile
+refused-10-14 = record { file = is-file widest program-refused-10-14 refl; answer = refl }
+
+pub program-refused-10-15 : Program
+program-refused-10-15 = record {
   tables = record {
     types = (ty 0 0 0 0 ∷ ty 1 0 0 0 ∷ ty 2 0 0 0 ∷ ty 3 0 0 0 ∷ ty 6 3 0 0 ∷ ty 6 0 0 0 ∷ ty 6 0 0 1 ∷ ty 6 3 1 2 ∷ ty 7 2 0 0
         ∷ ty 5 0 0 0 ∷ ty 5 9 0 0 ∷ ty 7 9 0 0 ∷ ty 5 1 0 0 ∷ ty 6 3 3 1 ∷ ty 6 9 4 1 ∷ ty 4 9 0 0 ∷ ty 7 15 0 0 ∷ ty 5 15 0 0
@@ -1104,36 +1373,33 @@ program-refused-10-11 = record {
       (callStmt (name 10) none) empty)))) (then returnVoid empty))) ∷ []);
 }
 
-pub refused-10-11 : Answers program-refused-10-11 10 1 7 (65535 ∷ 65535 ∷ 65535 ∷ 65535 ∷ 65535 ∷ 65535 ∷ 65535 ∷ 65535 ∷ 65535
+pub refused-10-15 : Answers program-refused-10-15 10 1 7 0 (65535 ∷ 65535 ∷ 65535 ∷ 65535 ∷ 65535 ∷ 65535 ∷ 65535 ∷ 65535 ∷ 65535
     ∷ 65535 ∷ 65535 ∷ 65535 ∷ 65535 ∷ 65535 ∷ 65535 ∷ 65535 ∷ 65535 ∷ 65535 ∷ 65535 ∷ 65535 ∷ [])
-unfolding program-refused-10-11 computed isFile
-refused-10-11 = record { file = is-file widest program-refused-10-11 refl; answer = refl }
+unfolding program-refused-10-15 computed isFile
+refused-10-15 = record { file = is-file widest program-refused-10-15 refl; answer = refl }
 
-pub program-refused-10-12 : Program
-program-refused-10-12 = record {
+pub program-refused-10-16 : Program
+program-refused-10-16 = record {
   tables = record {
-    types = (ty 0 0 0 0 ∷ ty 1 0 0 0 ∷ ty 2 0 0 0 ∷ ty 3 0 0 0 ∷ ty 6 3 0 0 ∷ ty 6 0 0 0 ∷ ty 6 0 0 1 ∷ ty 6 3 1 2 ∷ ty 7 2 0 0
-        ∷ ty 5 0 0 0 ∷ ty 5 9 0 0 ∷ ty 7 9 0 0 ∷ ty 5 1 0 0 ∷ ty 6 3 3 1 ∷ ty 6 9 4 1 ∷ ty 4 9 0 0 ∷ ty 7 15 0 0 ∷ ty 5 15 0 0
-        ∷ []);
-    list = (0 ∷ 0 ∷ 0 ∷ 8 ∷ 9 ∷ []);
+    types = (ty 0 0 0 0 ∷ ty 1 0 0 0 ∷ ty 2 0 0 0 ∷ ty 3 0 0 0 ∷ ty 7 2 0 0 ∷ ty 6 3 0 1 ∷ ty 6 3 1 1 ∷ ty 6 3 2 2 ∷ []);
+    list = (4 ∷ 2 ∷ 5 ∷ 6 ∷ []);
     fields = ([]);
     structs = ([]);
     builtIns = ([]);
-    nodes = (nd 2 10 4 1 ∷ nd 39 0 0 3 ∷ nd 31 20 0 1 ∷ nd 10 0 8 0 ∷ nd 36 20 2 3 ∷ nd 15 20 0 0 ∷ nd 39 0 0 1 ∷ nd 36 20 2 3
-        ∷ nd 15 20 0 0 ∷ nd 39 0 0 0 ∷ nd 39 0 0 0 ∷ nd 39 0 0 0 ∷ nd 33 0 0 0 ∷ []);
+    nodes = (nd 2 10 7 3 ∷ nd 3 20 0 0 ∷ nd 3 21 0 0 ∷ nd 39 0 0 3 ∷ nd 30 0 0 2 ∷ nd 15 21 0 0 ∷ nd 15 20 0 0 ∷ nd 31 31 0 1
+        ∷ nd 19 0 0 2 ∷ nd 15 20 0 0 ∷ nd 13 1 0 0 ∷ nd 33 0 0 0 ∷ []);
   };
-  declarations = (function 10 4 ([]) (block (then (var 20 (null 8)) (then (ifNull 20 2 (name 20) (block (then (ifNull 20 2 (name
-      20) (block empty) (block empty)) empty)) (block empty)) (then returnVoid empty)))) ∷ []);
+  declarations = (function 10 7 (20 ∷ 21 ∷ []) (block (then (assign (nameTarget 21) (name 20)) (then (var 31 (index (name 20)
+      (literal (integer 1)))) (then returnVoid empty)))) ∷ []);
 }
 
-pub refused-10-12 : Answers program-refused-10-12 10 1 7 (65535 ∷ 65535 ∷ 65535 ∷ 65535 ∷ 65535 ∷ 65535 ∷ 65535 ∷ 65535 ∷ 65535
-    ∷ 65535 ∷ 65535 ∷ 65535 ∷ 65535 ∷ 65535 ∷ 65535 ∷ 65535 ∷ 65535 ∷ 65535 ∷ 65535 ∷ 65535 ∷ 65535 ∷ 65535 ∷ 65535 ∷ 65535
-    ∷ 65535 ∷ 65535 ∷ [])
-unfolding program-refused-10-12 computed isFile
-refused-10-12 = record { file = is-file widest program-refused-10-12 refl; answer = refl }
+pub refused-10-16 : Answers program-refused-10-16 10 1 8 4 (65535 ∷ 65535 ∷ 65535 ∷ 65535 ∷ 65535 ∷ 65535 ∷ 65535 ∷ 65535 ∷ 65535
+    ∷ 65535 ∷ 65535 ∷ 65535 ∷ 65535 ∷ 65535 ∷ 65535 ∷ 65535 ∷ 65535 ∷ 65535 ∷ 65535 ∷ 65535 ∷ 65535 ∷ 65535 ∷ 65535 ∷ 65535 ∷ [])
+unfolding program-refused-10-16 computed isFile
+refused-10-16 = record { file = is-file widest program-refused-10-16 refl; answer = refl }
 
-pub program-refused-10-13 : Program
-program-refused-10-13 = record {
+pub program-refused-10-17 : Program
+program-refused-10-17 = record {
   tables = record {
     types = (ty 0 0 0 0 ∷ ty 1 0 0 0 ∷ ty 2 0 0 0 ∷ ty 3 0 0 0 ∷ ty 6 3 0 0 ∷ ty 6 0 0 0 ∷ ty 6 0 0 1 ∷ ty 6 3 1 2 ∷ ty 7 2 0 0
         ∷ ty 5 0 0 0 ∷ ty 5 9 0 0 ∷ ty 7 9 0 0 ∷ ty 5 1 0 0 ∷ ty 6 3 3 1 ∷ ty 6 9 4 1 ∷ ty 4 9 0 0 ∷ ty 7 15 0 0 ∷ ty 5 15 0 0
@@ -1150,122 +1416,255 @@ program-refused-10-13 = record {
       empty)))) ∷ []);
 }
 
-pub refused-10-13 : Answers program-refused-10-13 10 1 10 (65535 ∷ 65535 ∷ 65535 ∷ 65535 ∷ 65535 ∷ 65535 ∷ 65535 ∷ 65535 ∷ 65535
+pub refused-10-17 : Answers program-refused-10-17 10 1 10 0 (65535 ∷ 65535 ∷ 65535 ∷ 65535 ∷ 65535 ∷ 65535 ∷ 65535 ∷ 65535 ∷ 65535
     ∷ 65535 ∷ 65535 ∷ 65535 ∷ 65535 ∷ 65535 ∷ 65535 ∷ 65535 ∷ 65535 ∷ 65535 ∷ 65535 ∷ 65535 ∷ 65535 ∷ 65535 ∷ 65535 ∷ 65535
     ∷ 65535 ∷ 65535 ∷ 65535 ∷ 65535 ∷ 65535 ∷ 65535 ∷ [])
-unfolding program-refused-10-13 computed isFile
-refused-10-13 = record { file = is-file widest program-refused-10-13 refl; answer = refl }
+unfolding program-refused-10-17 computed isFile
+refused-10-17 = record { file = is-file widest program-refused-10-17 refl; answer = refl }
+
+pub program-refused-10-18 : Program
+program-refused-10-18 = record {
+  tables = record {
+    types = (ty 0 0 0 0 ∷ ty 1 0 0 0 ∷ ty 2 0 0 0 ∷ ty 3 0 0 0 ∷ ty 5 0 0 0 ∷ ty 5 4 0 0 ∷ ty 7 2 0 0 ∷ ty 6 3 0 1 ∷ ty 6 3 1 1
+        ∷ ty 6 3 2 2 ∷ []);
+    list = (6 ∷ 2 ∷ 7 ∷ 8 ∷ []);
+    fields = ([]);
+    structs = ([]);
+    builtIns = ([]);
+    nodes = (nd 2 10 9 3 ∷ nd 3 20 0 0 ∷ nd 3 21 0 0 ∷ nd 39 0 0 3 ∷ nd 30 0 0 2 ∷ nd 15 21 0 0 ∷ nd 15 20 0 0 ∷ nd 31 31 0 1
+        ∷ nd 16 0 5 3 ∷ nd 16 0 4 2 ∷ nd 13 1 0 0 ∷ nd 13 2 0 0 ∷ nd 11 0 0 0 ∷ nd 25 0 0 1 ∷ nd 11 0 0 0 ∷ nd 33 0 0 0 ∷ []);
+  };
+  declarations = (function 10 9 (20 ∷ 21 ∷ []) (block (then (assign (nameTarget 21) (name 20)) (then (var 31 (arrayLiteral 5 (also
+      (arrayLiteral 4 (also (literal (integer 1)) (also (literal (integer 2)) none))) (also (literal truth) (also (unary 0
+      (literal truth)) none))))) (then returnVoid empty)))) ∷ []);
+}
+
+pub refused-10-18 : Answers program-refused-10-18 10 1 13 6 (65535 ∷ 65535 ∷ 65535 ∷ 65535 ∷ 65535 ∷ 65535 ∷ 65535 ∷ 65535 ∷ 65535
+    ∷ 65535 ∷ 65535 ∷ 65535 ∷ 65535 ∷ 65535 ∷ 65535 ∷ 65535 ∷ 65535 ∷ 65535 ∷ 65535 ∷ 65535 ∷ 65535 ∷ 65535 ∷ 65535 ∷ 65535
+    ∷ 65535 ∷ 65535 ∷ 65535 ∷ 65535 ∷ 65535 ∷ 65535 ∷ 65535 ∷ 65535 ∷ [])
+unfolding program-refused-10-18 computed isFile
+refused-10-18 = record { file = is-file widest program-refused-10-18 refl; answer = refl }
+
+pub program-refused-10-19 : Program
+program-refused-10-19 = record {
+  tables = record {
+    types = (ty 0 0 0 0 ∷ ty 1 0 0 0 ∷ ty 2 0 0 0 ∷ ty 3 0 0 0 ∷ ty 6 3 0 0 ∷ ty 6 3 0 1 ∷ ty 6 3 1 1 ∷ ty 6 3 2 1 ∷ ty 7 2 0 0
+        ∷ ty 5 0 0 0 ∷ ty 6 3 3 2 ∷ ty 6 0 5 1 ∷ ty 6 3 6 2 ∷ ty 6 0 8 0 ∷ []);
+    list = (0 ∷ 1 ∷ 2 ∷ 0 ∷ 1 ∷ 8 ∷ 9 ∷ 0 ∷ []);
+    fields = ([]);
+    structs = ([]);
+    builtIns = (bi 50 4 ∷ bi 60 5 ∷ bi 61 6 ∷ bi 62 7 ∷ []);
+    nodes = (nd 1 40 0 1 ∷ nd 13 1 0 0 ∷ nd 2 10 12 3 ∷ nd 3 20 0 0 ∷ nd 3 21 0 0 ∷ nd 39 0 0 4 ∷ nd 36 21 2 3 ∷ nd 10 0 8 0
+        ∷ nd 39 0 0 1 ∷ nd 34 0 0 2 ∷ nd 15 21 0 0 ∷ nd 26 1 0 2 ∷ nd 26 1 0 2 ∷ nd 13 1 0 0 ∷ nd 13 1 0 0 ∷ nd 26 1 0 2
+        ∷ nd 13 1 0 0 ∷ nd 13 1 0 0 ∷ nd 39 0 0 1 ∷ nd 34 0 0 2 ∷ nd 15 61 0 0 ∷ nd 26 6 0 2 ∷ nd 15 21 0 0 ∷ nd 13 1 0 0
+        ∷ nd 38 0 0 2 ∷ nd 26 6 0 2 ∷ nd 15 21 0 0 ∷ nd 15 21 0 0 ∷ nd 39 0 0 1 ∷ nd 30 0 0 2 ∷ nd 15 21 0 0 ∷ nd 15 21 0 0
+        ∷ nd 38 0 0 2 ∷ nd 11 0 0 0 ∷ nd 39 0 0 3 ∷ nd 30 0 0 2 ∷ nd 15 21 0 0 ∷ nd 15 21 0 0 ∷ nd 34 0 0 2 ∷ nd 15 60 0 0
+        ∷ nd 13 1 0 0 ∷ nd 37 0 0 3 ∷ nd 12 0 0 0 ∷ nd 30 0 0 2 ∷ nd 15 20 0 0 ∷ nd 15 20 0 0 ∷ nd 39 0 0 1 ∷ nd 31 21 0 1
+        ∷ nd 13 1 0 0 ∷ nd 33 0 0 0 ∷ []);
+  };
+  declarations = (global 40 (literal (integer 1)) ∷ function 10 12 (20 ∷ 21 ∷ []) (block (then (ifNull 21 2 (null 8) (block (then
+      (callStmt (name 21) (also (binary 1 (binary 1 (literal (integer 1)) (literal (integer 1))) (binary 1 (literal (integer 1))
+      (literal (integer 1)))) none)) empty)) (block (then (callStmt (name 61) (also (binary 6 (name 21) (literal (integer 1)))
+      none)) empty))) (then (while (binary 6 (name 21) (name 21)) (block (then (assign (nameTarget 21) (name 21)) empty))) (then
+      (while (literal truth) (block (then (assign (nameTarget 21) (name 21)) (then (callStmt (name 60) (also (literal (integer 1))
+      none)) (then (for noVar (condition (literal falsity)) (step (assign (nameTarget 20) (name 20))) (block (then (var 21
+      (literal (integer 1))) empty))) empty))))) (then returnVoid empty))))) ∷ []);
+}
+
+pub refused-10-19 : Answers program-refused-10-19 10 6 9 1 (65535 ∷ 65535 ∷ 65535 ∷ 65535 ∷ 65535 ∷ 65535 ∷ 65535 ∷ 65535 ∷ 65535
+    ∷ 65535 ∷ 65535 ∷ 65535 ∷ 65535 ∷ 65535 ∷ 65535 ∷ 65535 ∷ 65535 ∷ 65535 ∷ 65535 ∷ 65535 ∷ 65535 ∷ 65535 ∷ 65535 ∷ 65535
+    ∷ 65535 ∷ 65535 ∷ 65535 ∷ 65535 ∷ 65535 ∷ 65535 ∷ 65535 ∷ 65535 ∷ 65535 ∷ 65535 ∷ 65535 ∷ 65535 ∷ 65535 ∷ 65535 ∷ 65535
+    ∷ 65535 ∷ 65535 ∷ 65535 ∷ 65535 ∷ 65535 ∷ 65535 ∷ 65535 ∷ 65535 ∷ 65535 ∷ 65535 ∷ 65535 ∷ 65535 ∷ 65535 ∷ 65535 ∷ 65535
+    ∷ 65535 ∷ 65535 ∷ 65535 ∷ 65535 ∷ 65535 ∷ 65535 ∷ 65535 ∷ 65535 ∷ 65535 ∷ 65535 ∷ 65535 ∷ 65535 ∷ 65535 ∷ 65535 ∷ 65535
+    ∷ 65535 ∷ 65535 ∷ 65535 ∷ 65535 ∷ 65535 ∷ 65535 ∷ 65535 ∷ 65535 ∷ 65535 ∷ 65535 ∷ 65535 ∷ 65535 ∷ 65535 ∷ 65535 ∷ 65535
+    ∷ 65535 ∷ 65535 ∷ 65535 ∷ 65535 ∷ 65535 ∷ 65535 ∷ 65535 ∷ 65535 ∷ 65535 ∷ 65535 ∷ 65535 ∷ 65535 ∷ 65535 ∷ 65535 ∷ 65535
+    ∷ 65535 ∷ [])
+unfolding program-refused-10-19 computed isFile
+refused-10-19 = record { file = is-file widest program-refused-10-19 refl; answer = refl }
+
+pub program-refused-10-20 : Program
+program-refused-10-20 = record {
+  tables = record {
+    types = (ty 0 0 0 0 ∷ ty 1 0 0 0 ∷ ty 2 0 0 0 ∷ ty 3 0 0 0 ∷ ty 4 0 0 0 ∷ ty 4 1 0 0 ∷ ty 4 2 0 0 ∷ ty 4 3 0 0 ∷ ty 4 77 0 0
+        ∷ ty 5 0 0 0 ∷ ty 5 4 0 0 ∷ ty 5 2 0 0 ∷ ty 7 4 0 0 ∷ ty 7 8 0 0 ∷ ty 5 8 0 0 ∷ ty 6 3 0 0 ∷ ty 6 0 0 1 ∷ ty 6 3 1 1
+        ∷ ty 7 7 0 0 ∷ ty 5 12 0 0 ∷ ty 5 0 0 0 ∷ ty 7 15 0 0 ∷ ty 5 13 0 0 ∷ ty 7 6 0 0 ∷ ty 6 1 2 3 ∷ ty 7 2 0 0 ∷ ty 5 13 0 0
+        ∷ ty 6 18 5 2 ∷ ty 5 7 0 0 ∷ []);
+    list = (0 ∷ 8 ∷ 18 ∷ 2 ∷ 11 ∷ 18 ∷ 4 ∷ []);
+    fields = (fd 10 0 ∷ fd 1 21 ∷ fd 0 18 ∷ fd 0 18 ∷ []);
+    structs = (st 0 0 0 ∷ st 1 0 2 ∷ st 2 2 1 ∷ st 3 3 1 ∷ []);
+    builtIns = (bi 115 15 ∷ bi 116 16 ∷ bi 124 24 ∷ bi 127 27 ∷ []);
+    nodes = (nd 1 40 0 1 ∷ nd 15 124 0 0 ∷ nd 1 41 0 1 ∷ nd 21 0 6 1 ∷ nd 22 0 0 1 ∷ nd 21 0 6 1 ∷ nd 22 0 0 1 ∷ nd 10 0 18 0
+        ∷ nd 2 20 27 3 ∷ nd 3 60 0 0 ∷ nd 3 61 0 0 ∷ nd 39 0 0 4 ∷ nd 35 0 0 3 ∷ nd 24 0 0 4 ∷ nd 10 0 21 0 ∷ nd 15 41 0 0
+        ∷ nd 14 5 0 0 ∷ nd 16 0 11 2 ∷ nd 14 1 0 0 ∷ nd 14 6 0 0 ∷ nd 39 0 0 0 ∷ nd 39 0 0 0 ∷ nd 30 0 0 2 ∷ nd 15 41 0 0
+        ∷ nd 21 0 6 1 ∷ nd 22 0 0 1 ∷ nd 21 0 7 1 ∷ nd 22 0 0 1 ∷ nd 21 0 7 1 ∷ nd 22 0 0 1 ∷ nd 10 0 18 0 ∷ nd 35 0 0 3
+        ∷ nd 12 0 0 0 ∷ nd 39 0 0 2 ∷ nd 36 16 7 3 ∷ nd 23 0 0 1 ∷ nd 15 41 0 0 ∷ nd 39 0 0 4 ∷ nd 31 30 0 1 ∷ nd 15 124 0 0
+        ∷ nd 34 0 0 1 ∷ nd 15 115 0 0 ∷ nd 34 0 0 1 ∷ nd 15 115 0 0 ∷ nd 36 119 6 3 ∷ nd 15 60 0 0 ∷ nd 39 0 0 1 ∷ nd 32 0 0 1
+        ∷ nd 21 0 6 1 ∷ nd 22 0 0 1 ∷ nd 21 0 7 1 ∷ nd 22 0 0 1 ∷ nd 21 0 7 1 ∷ nd 22 0 0 1 ∷ nd 10 0 18 0 ∷ nd 39 0 0 0
+        ∷ nd 39 0 0 0 ∷ nd 36 3 15 3 ∷ nd 10 0 21 0 ∷ nd 39 0 0 2 ∷ nd 30 0 0 2 ∷ nd 15 41 0 0 ∷ nd 21 0 6 1 ∷ nd 22 0 0 1
+        ∷ nd 10 0 18 0 ∷ nd 32 0 0 1 ∷ nd 10 0 18 0 ∷ nd 39 0 0 0 ∷ nd 39 0 0 0 ∷ nd 32 0 0 1 ∷ nd 10 0 18 0 ∷ []);
+  };
+  declarations = (global 40 (name 124) ∷ global 41 (structLiteral 6 (init 0 (structLiteral 6 (init 0 (null 18) noInit)) noInit))
+      ∷ function 20 27 (60 ∷ 61 ∷ []) (block (then (ifElse (call (null 21) (also (name 41) (also (literal (text 5)) (also
+      (arrayLiteral 11 (also (literal (text 1)) (also (literal (text 6)) none))) none)))) (block empty) (block empty)) (then
+      (assign (nameTarget 41) (structLiteral 6 (init 0 (structLiteral 7 (init 0 (structLiteral 7 (init 0 (null 18) noInit))
+      noInit)) noInit))) (then (ifElse (literal falsity) (block (then (ifNull 16 7 (field 0 (name 41)) (block (then (var 30 (name
+      124)) (then (callStmt (name 115) none) (then (callStmt (name 115) none) (then (ifNull 119 6 (name 60) (block (then
+      (returnValue (structLiteral 6 (init 0 (structLiteral 7 (init 0 (structLiteral 7 (init 0 (null 18) noInit)) noInit))
+      noInit))) empty)) (block empty)) empty))))) (block empty)) (then (ifNull 3 15 (null 21) (block (then (assign (nameTarget 41)
+      (structLiteral 6 (init 0 (null 18) noInit))) (then (returnValue (null 18)) empty))) (block empty)) empty))) (block empty))
+      (then (returnValue (null 18)) empty))))) ∷ []);
+}
+
+pub refused-10-20 : Answers program-refused-10-20 10 15 13 4 (65535 ∷ 65535 ∷ 65535 ∷ 65535 ∷ 65535 ∷ 65535 ∷ 65535 ∷ 65535
+    ∷ 65535 ∷ 65535 ∷ 65535 ∷ 65535 ∷ 65535 ∷ 65535 ∷ 65535 ∷ 65535 ∷ 65535 ∷ 65535 ∷ 65535 ∷ 65535 ∷ 65535 ∷ 65535 ∷ 65535
+    ∷ 65535 ∷ 65535 ∷ 65535 ∷ 65535 ∷ 65535 ∷ 65535 ∷ 65535 ∷ 65535 ∷ 65535 ∷ 65535 ∷ 65535 ∷ 65535 ∷ 65535 ∷ 65535 ∷ 65535
+    ∷ 65535 ∷ 65535 ∷ 65535 ∷ 65535 ∷ 65535 ∷ 65535 ∷ 65535 ∷ 65535 ∷ 65535 ∷ 65535 ∷ 65535 ∷ 65535 ∷ 65535 ∷ 65535 ∷ 65535
+    ∷ 65535 ∷ 65535 ∷ 65535 ∷ 65535 ∷ 65535 ∷ 65535 ∷ 65535 ∷ 65535 ∷ 65535 ∷ 65535 ∷ 65535 ∷ 65535 ∷ 65535 ∷ 65535 ∷ 65535
+    ∷ 65535 ∷ 65535 ∷ 65535 ∷ 65535 ∷ 65535 ∷ 65535 ∷ 65535 ∷ 65535 ∷ 65535 ∷ 65535 ∷ 65535 ∷ 65535 ∷ 65535 ∷ 65535 ∷ 65535
+    ∷ 65535 ∷ 65535 ∷ 65535 ∷ 65535 ∷ 65535 ∷ 65535 ∷ 65535 ∷ 65535 ∷ 65535 ∷ 65535 ∷ 65535 ∷ 65535 ∷ 65535 ∷ 65535 ∷ 65535
+    ∷ 65535 ∷ 65535 ∷ 65535 ∷ 65535 ∷ 65535 ∷ 65535 ∷ 65535 ∷ 65535 ∷ 65535 ∷ 65535 ∷ 65535 ∷ 65535 ∷ 65535 ∷ 65535 ∷ 65535
+    ∷ 65535 ∷ 65535 ∷ 65535 ∷ 65535 ∷ 65535 ∷ 65535 ∷ 65535 ∷ 65535 ∷ 65535 ∷ 65535 ∷ 65535 ∷ 65535 ∷ 65535 ∷ 65535 ∷ 65535
+    ∷ 65535 ∷ 65535 ∷ 65535 ∷ 65535 ∷ 65535 ∷ 65535 ∷ 65535 ∷ 65535 ∷ 65535 ∷ 65535 ∷ 65535 ∷ 65535 ∷ 65535 ∷ 65535 ∷ [])
+unfolding program-refused-10-20 computed isFile
+refused-10-20 = record { file = is-file widest program-refused-10-20 refl; answer = refl }
+
+pub program-refused-10-21 : Program
+program-refused-10-21 = record {
+  tables = record {
+    types = (ty 0 0 0 0 ∷ ty 1 0 0 0 ∷ ty 2 0 0 0 ∷ ty 3 0 0 0 ∷ ty 4 0 0 0 ∷ ty 4 1 0 0 ∷ ty 4 2 0 0 ∷ ty 4 3 0 0 ∷ ty 4 4 0 0
+        ∷ ty 4 77 0 0 ∷ ty 5 0 0 0 ∷ ty 5 4 0 0 ∷ ty 5 2 0 0 ∷ ty 7 4 0 0 ∷ ty 7 9 0 0 ∷ ty 5 9 0 0 ∷ ty 6 3 0 0 ∷ ty 6 0 0 1
+        ∷ ty 6 3 1 1 ∷ ty 7 2 0 0 ∷ ty 5 15 0 0 ∷ ty 6 16 2 3 ∷ ty 5 12 0 0 ∷ ty 7 12 0 0 ∷ ty 5 0 0 0 ∷ []);
+    list = (0 ∷ 9 ∷ 0 ∷ 2 ∷ 1 ∷ []);
+    fields = (fd 0 13 ∷ fd 1 22 ∷ fd 0 10 ∷ fd 1 21 ∷ fd 0 5 ∷ fd 1 6 ∷ fd 2 24 ∷ fd 0 6 ∷ fd 1 19 ∷ fd 2 10 ∷ []);
+    structs = (st 0 0 2 ∷ st 1 2 2 ∷ st 2 4 0 ∷ st 3 4 3 ∷ st 4 7 3 ∷ []);
+    builtIns = (bi 116 16 ∷ bi 117 17 ∷ bi 121 21 ∷ []);
+    nodes = (nd 2 20 21 4 ∷ nd 3 60 0 0 ∷ nd 3 61 0 0 ∷ nd 3 62 0 0 ∷ nd 39 0 0 3 ∷ nd 30 0 0 2 ∷ nd 15 61 0 0 ∷ nd 15 61 0 0
+        ∷ nd 38 0 0 2 ∷ nd 26 12 0 2 ∷ nd 15 62 0 0 ∷ nd 15 62 0 0 ∷ nd 39 0 0 1 ∷ nd 35 0 0 3 ∷ nd 26 9 0 2 ∷ nd 26 0 0 2
+        ∷ nd 15 60 0 0 ∷ nd 15 60 0 0 ∷ nd 24 0 0 2 ∷ nd 15 117 0 0 ∷ nd 13 11851 0 0 ∷ nd 39 0 0 2 ∷ nd 31 110 0 1 ∷ nd 17 0 24 1
+        ∷ nd 10 0 19 0 ∷ nd 35 0 0 3 ∷ nd 15 62 0 0 ∷ nd 39 0 0 3 ∷ nd 34 0 0 1 ∷ nd 15 116 0 0 ∷ nd 34 0 0 1 ∷ nd 15 116 0 0
+        ∷ nd 36 21 12 3 ∷ nd 10 0 23 0 ∷ nd 39 0 0 1 ∷ nd 31 107 0 1 ∷ nd 21 0 4 2 ∷ nd 22 1 0 1 ∷ nd 18 16 22 2 ∷ nd 19 0 0 2
+        ∷ nd 15 110 0 0 ∷ nd 13 21913 0 0 ∷ nd 16 0 12 0 ∷ nd 22 0 0 1 ∷ nd 10 0 13 0 ∷ nd 39 0 0 0 ∷ nd 39 0 0 0 ∷ nd 39 0 0 0
+        ∷ nd 32 0 0 1 ∷ nd 15 116 0 0 ∷ nd 2 21 21 4 ∷ nd 3 60 0 0 ∷ nd 3 61 0 0 ∷ nd 3 62 0 0 ∷ nd 39 0 0 1 ∷ nd 35 0 0 3
+        ∷ nd 11 0 0 0 ∷ nd 39 0 0 1 ∷ nd 32 0 0 1 ∷ nd 15 116 0 0 ∷ nd 39 0 0 1 ∷ nd 32 0 0 1 ∷ nd 15 116 0 0 ∷ nd 2 22 21 4
+        ∷ nd 3 60 0 0 ∷ nd 3 61 0 0 ∷ nd 3 62 0 0 ∷ nd 39 0 0 1 ∷ nd 32 0 0 1 ∷ nd 15 116 0 0 ∷ []);
+  };
+  declarations = (function 20 21 (60 ∷ 61 ∷ 62 ∷ []) (block (then (assign (nameTarget 61) (name 61)) (then (while (binary 12 (name
+      62) (name 62)) (block (then (ifElse (binary 9 (binary 0 (name 60) (name 60)) (call (name 117) (also (literal (integer
+      11851)) none))) (block (then (var 110 (defaultArray 24 (null 19))) (then (ifElse (name 62) (block (then (callStmt (name 116)
+      none) (then (callStmt (name 116) none) (then (ifNull 21 12 (null 23) (block (then (var 107 (structLiteral 4 (init 1
+      (arrayWith 22 16 (index (name 110) (literal (integer 21913))) (arrayLiteral 12 none)) (init 0 (null 13) noInit)))) empty))
+      (block empty)) empty)))) (block empty)) empty))) (block empty)) empty))) (then (returnValue (name 116)) empty)))) ∷ function
+      21 21 (60 ∷ 61 ∷ 62 ∷ []) (block (then (ifElse (literal truth) (block (then (returnValue (name 116)) empty)) (block (then
+      (returnValue (name 116)) empty))) empty)) ∷ function 22 21 (60 ∷ 61 ∷ 62 ∷ []) (block (then (returnValue (name 116)) empty))
+      ∷ []);
+}
+
+pub refused-10-21 : Answers program-refused-10-21 10 16 23 2 (65535 ∷ 65535 ∷ 65535 ∷ 65535 ∷ 65535 ∷ 65535 ∷ 65535 ∷ 65535
+    ∷ 65535 ∷ 65535 ∷ 65535 ∷ 65535 ∷ 65535 ∷ 65535 ∷ 65535 ∷ 65535 ∷ 65535 ∷ 65535 ∷ 65535 ∷ 65535 ∷ 65535 ∷ 65535 ∷ 65535
+    ∷ 65535 ∷ 65535 ∷ 65535 ∷ 65535 ∷ 65535 ∷ 65535 ∷ 65535 ∷ 65535 ∷ 65535 ∷ 65535 ∷ 65535 ∷ 65535 ∷ 65535 ∷ 65535 ∷ 65535
+    ∷ 65535 ∷ 65535 ∷ 65535 ∷ 65535 ∷ 65535 ∷ 65535 ∷ 65535 ∷ 65535 ∷ 65535 ∷ 65535 ∷ 65535 ∷ 65535 ∷ 65535 ∷ 65535 ∷ 65535
+    ∷ 65535 ∷ 65535 ∷ 65535 ∷ 65535 ∷ 65535 ∷ 65535 ∷ 65535 ∷ 65535 ∷ 65535 ∷ 65535 ∷ 65535 ∷ 65535 ∷ 65535 ∷ 65535 ∷ 65535
+    ∷ 65535 ∷ 65535 ∷ 65535 ∷ 65535 ∷ 65535 ∷ 65535 ∷ 65535 ∷ 65535 ∷ 65535 ∷ 65535 ∷ 65535 ∷ 65535 ∷ 65535 ∷ 65535 ∷ 65535
+    ∷ 65535 ∷ 65535 ∷ 65535 ∷ 65535 ∷ 65535 ∷ 65535 ∷ 65535 ∷ 65535 ∷ 65535 ∷ 65535 ∷ 65535 ∷ 65535 ∷ 65535 ∷ 65535 ∷ 65535
+    ∷ 65535 ∷ 65535 ∷ 65535 ∷ 65535 ∷ 65535 ∷ 65535 ∷ 65535 ∷ 65535 ∷ 65535 ∷ 65535 ∷ 65535 ∷ 65535 ∷ 65535 ∷ 65535 ∷ 65535
+    ∷ 65535 ∷ 65535 ∷ 65535 ∷ 65535 ∷ 65535 ∷ 65535 ∷ 65535 ∷ 65535 ∷ 65535 ∷ 65535 ∷ 65535 ∷ 65535 ∷ 65535 ∷ 65535 ∷ 65535
+    ∷ 65535 ∷ 65535 ∷ 65535 ∷ 65535 ∷ 65535 ∷ 65535 ∷ 65535 ∷ 65535 ∷ 65535 ∷ 65535 ∷ 65535 ∷ 65535 ∷ [])
+unfolding program-refused-10-21 computed isFile
+refused-10-21 = record { file = is-file widest program-refused-10-21 refl; answer = refl }
 
 pub program-refused-11-1 : Program
 program-refused-11-1 = record {
   tables = record {
-    types = (ty 0 0 0 0 ∷ ty 1 0 0 0 ∷ ty 2 0 0 0 ∷ ty 3 0 0 0 ∷ ty 4 1 0 0 ∷ ty 4 2 0 0 ∷ ty 4 3 0 0 ∷ ty 7 4 0 0 ∷ ty 7 5 0 0
-        ∷ ty 5 4 0 0 ∷ ty 5 5 0 0 ∷ ty 5 0 0 0 ∷ ty 6 3 0 0 ∷ ty 6 0 0 0 ∷ ty 6 0 0 1 ∷ ty 4 9 0 0 ∷ ty 7 15 0 0 ∷ ty 5 15 0 0
-        ∷ ty 6 3 1 1 ∷ ty 7 2 0 0 ∷ ty 5 2 0 0 ∷ ty 5 0 0 0 ∷ ty 4 1 0 0 ∷ ty 5 7 0 0 ∷ ty 7 11 0 0 ∷ ty 6 5 2 1 ∷ ty 6 4 3 1
-        ∷ ty 5 1 0 0 ∷ ty 6 3 4 2 ∷ ty 5 11 0 0 ∷ ty 7 13 0 0 ∷ ty 6 15 6 0 ∷ ty 6 17 6 1 ∷ ty 7 17 0 0 ∷ ty 6 21 7 0
-        ∷ ty 6 21 7 1 ∷ ty 6 11 8 1 ∷ ty 6 3 9 1 ∷ ty 6 3 10 2 ∷ ty 6 3 12 2 ∷ []);
-    list = (0 ∷ 15 ∷ 4 ∷ 5 ∷ 0 ∷ 1 ∷ 17 ∷ 21 ∷ 22 ∷ 7 ∷ 0 ∷ 0 ∷ 4 ∷ 4 ∷ []);
+    types = (ty 0 0 0 0 ∷ ty 1 0 0 0 ∷ ty 2 0 0 0 ∷ ty 3 0 0 0 ∷ ty 7 2 0 0 ∷ ty 6 4 0 1 ∷ []);
+    list = (0 ∷ []);
     fields = ([]);
     structs = ([]);
     builtIns = ([]);
-    nodes = (nd 1 11 0 1 ∷ nd 16 0 11 2 ∷ nd 13 1 0 0 ∷ nd 11 0 0 0 ∷ []);
+    nodes = (nd 2 10 5 2 ∷ nd 3 20 0 0 ∷ nd 39 0 0 1 ∷ nd 32 0 0 1 ∷ nd 15 20 0 0 ∷ []);
   };
-  declarations = (global 11 (arrayLiteral 11 (also (literal (integer 1)) (also (literal truth) none))) ∷ []);
+  declarations = (function 10 5 (20 ∷ []) (block (then (returnValue (name 20)) empty)) ∷ []);
 }
 
-pub refused-11-1 : Answers program-refused-11-1 11 0 1 (65535 ∷ 65535 ∷ 65535 ∷ 65535 ∷ 65535 ∷ 65535 ∷ 65535 ∷ 65535 ∷ [])
+pub refused-11-1 : Answers program-refused-11-1 11 1 3 1 (65535 ∷ 65535 ∷ 65535 ∷ 65535 ∷ 65535 ∷ 65535 ∷ 65535 ∷ 65535 ∷ 65535
+    ∷ 65535 ∷ [])
 unfolding program-refused-11-1 computed isFile
 refused-11-1 = record { file = is-file widest program-refused-11-1 refl; answer = refl }
 
 pub program-refused-11-2 : Program
 program-refused-11-2 = record {
   tables = record {
-    types = (ty 0 0 0 0 ∷ ty 1 0 0 0 ∷ ty 2 0 0 0 ∷ ty 3 0 0 0 ∷ ty 4 1 0 0 ∷ ty 4 2 0 0 ∷ ty 4 3 0 0 ∷ ty 7 4 0 0 ∷ ty 7 5 0 0
-        ∷ ty 5 4 0 0 ∷ ty 5 5 0 0 ∷ ty 5 0 0 0 ∷ ty 6 3 0 0 ∷ ty 6 0 0 0 ∷ ty 6 0 0 1 ∷ ty 4 9 0 0 ∷ ty 7 15 0 0 ∷ ty 5 15 0 0
-        ∷ ty 6 3 1 1 ∷ ty 7 2 0 0 ∷ ty 5 2 0 0 ∷ ty 5 0 0 0 ∷ ty 4 1 0 0 ∷ ty 5 7 0 0 ∷ ty 7 11 0 0 ∷ ty 6 5 2 1 ∷ ty 6 4 3 1
-        ∷ ty 5 1 0 0 ∷ ty 6 3 4 2 ∷ ty 5 11 0 0 ∷ ty 7 13 0 0 ∷ ty 6 15 6 0 ∷ ty 6 17 6 1 ∷ ty 7 17 0 0 ∷ ty 6 21 7 0
-        ∷ ty 6 21 7 1 ∷ ty 6 11 8 1 ∷ ty 6 3 9 1 ∷ ty 6 3 10 2 ∷ ty 6 3 12 2 ∷ []);
-    list = (0 ∷ 15 ∷ 4 ∷ 5 ∷ 0 ∷ 1 ∷ 17 ∷ 21 ∷ 22 ∷ 7 ∷ 0 ∷ 0 ∷ 4 ∷ 4 ∷ []);
-    fields = (fd 1 16 ∷ fd 2 15 ∷ []);
-    structs = (st 1 0 2 ∷ []);
+    types = (ty 0 0 0 0 ∷ ty 1 0 0 0 ∷ ty 2 0 0 0 ∷ ty 3 0 0 0 ∷ ty 5 0 0 0 ∷ ty 7 2 0 0 ∷ ty 6 3 0 1 ∷ []);
+    list = (5 ∷ []);
+    fields = ([]);
+    structs = ([]);
     builtIns = ([]);
-    nodes = (nd 1 11 0 1 ∷ nd 21 0 4 2 ∷ nd 22 1 0 1 ∷ nd 13 1 0 0 ∷ nd 22 2 0 1 ∷ nd 13 1 0 0 ∷ []);
+    nodes = (nd 2 10 6 2 ∷ nd 3 20 0 0 ∷ nd 39 0 0 2 ∷ nd 36 31 4 3 ∷ nd 15 20 0 0 ∷ nd 39 0 0 0 ∷ nd 39 0 0 0 ∷ nd 33 0 0 0
+        ∷ []);
   };
-  declarations = (global 11 (structLiteral 4 (init 1 (literal (integer 1)) (init 2 (literal (integer 1)) noInit))) ∷ []);
+  declarations = (function 10 6 (20 ∷ []) (block (then (ifNull 31 4 (name 20) (block empty) (block empty)) (then returnVoid
+      empty))) ∷ []);
 }
 
-pub refused-11-2 : Answers program-refused-11-2 11 1 1 (65535 ∷ 65535 ∷ 65535 ∷ 65535 ∷ 65535 ∷ 65535 ∷ 65535 ∷ 65535 ∷ 65535
-    ∷ 65535 ∷ 65535 ∷ 65535 ∷ [])
+pub refused-11-2 : Answers program-refused-11-2 11 1 3 1 (65535 ∷ 65535 ∷ 65535 ∷ 65535 ∷ 65535 ∷ 65535 ∷ 65535 ∷ 65535 ∷ 65535
+    ∷ 65535 ∷ 65535 ∷ 65535 ∷ 65535 ∷ 65535 ∷ 65535 ∷ 65535 ∷ [])
 unfolding program-refused-11-2 computed isFile
 refused-11-2 = record { file = is-file widest program-refused-11-2 refl; answer = refl }
 
 pub program-refused-11-3 : Program
 program-refused-11-3 = record {
   tables = record {
-    types = (ty 0 0 0 0 ∷ ty 1 0 0 0 ∷ ty 2 0 0 0 ∷ ty 3 0 0 0 ∷ ty 4 1 0 0 ∷ ty 4 2 0 0 ∷ ty 4 3 0 0 ∷ ty 7 4 0 0 ∷ ty 7 5 0 0
-        ∷ ty 5 4 0 0 ∷ ty 5 5 0 0 ∷ ty 5 0 0 0 ∷ ty 6 3 0 0 ∷ ty 6 0 0 0 ∷ ty 6 0 0 1 ∷ ty 4 9 0 0 ∷ ty 7 15 0 0 ∷ ty 5 15 0 0
-        ∷ ty 6 3 1 1 ∷ ty 7 2 0 0 ∷ ty 5 2 0 0 ∷ ty 5 0 0 0 ∷ ty 4 1 0 0 ∷ ty 5 7 0 0 ∷ ty 7 11 0 0 ∷ ty 6 5 2 1 ∷ ty 6 4 3 1
-        ∷ ty 5 1 0 0 ∷ ty 6 3 4 2 ∷ ty 5 11 0 0 ∷ ty 7 13 0 0 ∷ ty 6 15 6 0 ∷ ty 6 17 6 1 ∷ ty 7 17 0 0 ∷ ty 6 21 7 0
-        ∷ ty 6 21 7 1 ∷ ty 6 11 8 1 ∷ ty 6 3 9 1 ∷ ty 6 3 10 2 ∷ ty 6 3 12 2 ∷ []);
-    list = (0 ∷ 15 ∷ 4 ∷ 5 ∷ 0 ∷ 1 ∷ 17 ∷ 21 ∷ 22 ∷ 7 ∷ 0 ∷ 0 ∷ 4 ∷ 4 ∷ []);
+    types = (ty 0 0 0 0 ∷ ty 1 0 0 0 ∷ ty 2 0 0 0 ∷ ty 3 0 0 0 ∷ ty 7 2 0 0 ∷ ty 6 3 0 1 ∷ ty 6 3 1 1 ∷ ty 6 3 2 2 ∷ []);
+    list = (4 ∷ 2 ∷ 5 ∷ 6 ∷ []);
     fields = ([]);
     structs = ([]);
     builtIns = ([]);
-    nodes = (nd 2 10 12 1 ∷ nd 39 0 0 2 ∷ nd 36 20 4 3 ∷ nd 10 0 19 0 ∷ nd 39 0 0 1 ∷ nd 31 21 0 1 ∷ nd 15 99 0 0 ∷ nd 39 0 0 0
-        ∷ nd 33 0 0 0 ∷ []);
+    nodes = (nd 2 10 7 3 ∷ nd 3 20 0 0 ∷ nd 3 21 0 0 ∷ nd 39 0 0 2 ∷ nd 30 0 0 2 ∷ nd 15 20 0 0 ∷ nd 15 21 0 0 ∷ nd 33 0 0 0
+        ∷ []);
   };
-  declarations = (function 10 12 ([]) (block (then (ifNull 20 4 (null 19) (block (then (var 21 (name 99)) empty)) (block empty))
-      (then returnVoid empty))) ∷ []);
+  declarations = (function 10 7 (20 ∷ 21 ∷ []) (block (then (assign (nameTarget 20) (name 21)) (then returnVoid empty))) ∷ []);
 }
 
-pub refused-11-3 : Answers program-refused-11-3 11 1 2 (65535 ∷ 65535 ∷ 65535 ∷ 65535 ∷ 65535 ∷ 65535 ∷ 65535 ∷ 65535 ∷ 65535
-    ∷ 65535 ∷ 65535 ∷ 65535 ∷ 65535 ∷ 65535 ∷ 65535 ∷ 65535 ∷ 65535 ∷ 65535 ∷ [])
+pub refused-11-3 : Answers program-refused-11-3 11 1 4 2 (65535 ∷ 65535 ∷ 65535 ∷ 65535 ∷ 65535 ∷ 65535 ∷ 65535 ∷ 65535 ∷ 65535
+    ∷ 65535 ∷ 65535 ∷ 65535 ∷ 65535 ∷ 65535 ∷ 65535 ∷ 65535 ∷ [])
 unfolding program-refused-11-3 computed isFile
 refused-11-3 = record { file = is-file widest program-refused-11-3 refl; answer = refl }
 
 pub program-refused-11-4 : Program
 program-refused-11-4 = record {
   tables = record {
-    types = (ty 0 0 0 0 ∷ ty 1 0 0 0 ∷ ty 2 0 0 0 ∷ ty 3 0 0 0 ∷ ty 4 1 0 0 ∷ ty 4 2 0 0 ∷ ty 4 3 0 0 ∷ ty 7 4 0 0 ∷ ty 7 5 0 0
-        ∷ ty 5 4 0 0 ∷ ty 5 5 0 0 ∷ ty 5 0 0 0 ∷ ty 6 3 0 0 ∷ ty 6 0 0 0 ∷ ty 6 0 0 1 ∷ ty 4 9 0 0 ∷ ty 7 15 0 0 ∷ ty 5 15 0 0
-        ∷ ty 6 3 1 1 ∷ ty 7 2 0 0 ∷ ty 5 2 0 0 ∷ ty 5 0 0 0 ∷ ty 4 1 0 0 ∷ ty 5 7 0 0 ∷ ty 7 11 0 0 ∷ ty 6 5 2 1 ∷ ty 6 4 3 1
-        ∷ ty 5 1 0 0 ∷ ty 6 3 4 2 ∷ ty 5 11 0 0 ∷ ty 7 13 0 0 ∷ ty 6 15 6 0 ∷ ty 6 17 6 1 ∷ ty 7 17 0 0 ∷ ty 6 21 7 0
-        ∷ ty 6 21 7 1 ∷ ty 6 11 8 1 ∷ ty 6 3 9 1 ∷ ty 6 3 10 2 ∷ ty 6 3 12 2 ∷ []);
-    list = (0 ∷ 15 ∷ 4 ∷ 5 ∷ 0 ∷ 1 ∷ 17 ∷ 21 ∷ 22 ∷ 7 ∷ 0 ∷ 0 ∷ 4 ∷ 4 ∷ []);
+    types = (ty 0 0 0 0 ∷ ty 1 0 0 0 ∷ ty 2 0 0 0 ∷ ty 3 0 0 0 ∷ ty 7 2 0 0 ∷ ty 6 1 0 2 ∷ []);
+    list = (4 ∷ 2 ∷ []);
     fields = ([]);
     structs = ([]);
     builtIns = ([]);
-    nodes = (nd 2 10 12 1 ∷ nd 39 0 0 2 ∷ nd 31 20 0 1 ∷ nd 26 10 0 2 ∷ nd 11 0 0 0 ∷ nd 13 1 0 0 ∷ nd 33 0 0 0 ∷ []);
+    nodes = (nd 2 10 5 3 ∷ nd 3 20 0 0 ∷ nd 3 21 0 0 ∷ nd 39 0 0 1 ∷ nd 32 0 0 1 ∷ nd 26 10 0 2 ∷ nd 15 20 0 0 ∷ nd 15 21 0 0
+        ∷ []);
   };
-  declarations = (function 10 12 ([]) (block (then (var 20 (binary 10 (literal truth) (literal (integer 1)))) (then returnVoid
-      empty))) ∷ []);
+  declarations = (function 10 5 (20 ∷ 21 ∷ []) (block (then (returnValue (binary 10 (name 20) (name 21))) empty)) ∷ []);
 }
 
-pub refused-11-4 : Answers program-refused-11-4 11 1 3 (65535 ∷ 65535 ∷ 65535 ∷ 65535 ∷ 65535 ∷ 65535 ∷ 65535 ∷ 65535 ∷ 65535
-    ∷ 65535 ∷ 65535 ∷ 65535 ∷ 65535 ∷ 65535 ∷ [])
+pub refused-11-4 : Answers program-refused-11-4 11 1 5 1 (65535 ∷ 65535 ∷ 65535 ∷ 65535 ∷ 65535 ∷ 65535 ∷ 65535 ∷ 65535 ∷ 65535
+    ∷ 65535 ∷ 65535 ∷ 65535 ∷ 65535 ∷ 65535 ∷ 65535 ∷ 65535 ∷ [])
 unfolding program-refused-11-4 computed isFile
 refused-11-4 = record { file = is-file widest program-refused-11-4 refl; answer = refl }
 
 pub program-refused-11-5 : Program
 program-refused-11-5 = record {
   tables = record {
-    types = (ty 0 0 0 0 ∷ ty 1 0 0 0 ∷ ty 2 0 0 0 ∷ ty 3 0 0 0 ∷ ty 4 1 0 0 ∷ ty 4 2 0 0 ∷ ty 4 3 0 0 ∷ ty 7 4 0 0 ∷ ty 7 5 0 0
-        ∷ ty 5 4 0 0 ∷ ty 5 5 0 0 ∷ ty 5 0 0 0 ∷ ty 6 3 0 0 ∷ ty 6 0 0 0 ∷ ty 6 0 0 1 ∷ ty 4 9 0 0 ∷ ty 7 15 0 0 ∷ ty 5 15 0 0
-        ∷ ty 6 3 1 1 ∷ ty 7 2 0 0 ∷ ty 5 2 0 0 ∷ ty 5 0 0 0 ∷ ty 4 1 0 0 ∷ ty 5 7 0 0 ∷ ty 7 11 0 0 ∷ ty 6 5 2 1 ∷ ty 6 4 3 1
-        ∷ ty 5 1 0 0 ∷ ty 6 3 4 2 ∷ ty 5 11 0 0 ∷ ty 7 13 0 0 ∷ ty 6 15 6 0 ∷ ty 6 17 6 1 ∷ ty 7 17 0 0 ∷ ty 6 21 7 0
-        ∷ ty 6 21 7 1 ∷ ty 6 11 8 1 ∷ ty 6 3 9 1 ∷ ty 6 3 10 2 ∷ ty 6 3 12 2 ∷ []);
-    list = (0 ∷ 15 ∷ 4 ∷ 5 ∷ 0 ∷ 1 ∷ 17 ∷ 21 ∷ 22 ∷ 7 ∷ 0 ∷ 0 ∷ 4 ∷ 4 ∷ []);
+    types = (ty 0 0 0 0 ∷ ty 1 0 0 0 ∷ ty 2 0 0 0 ∷ ty 3 0 0 0 ∷ ty 5 1 0 0 ∷ ty 7 2 0 0 ∷ ty 6 3 0 1 ∷ ty 6 3 1 1 ∷ ty 6 3 2 2
+        ∷ []);
+    list = (5 ∷ 2 ∷ 6 ∷ 7 ∷ []);
     fields = ([]);
     structs = ([]);
     builtIns = ([]);
-    nodes = (nd 2 10 38 3 ∷ nd 3 20 0 0 ∷ nd 3 21 0 0 ∷ nd 39 0 0 2 ∷ nd 34 0 0 3 ∷ nd 15 10 0 0 ∷ nd 13 1 0 0 ∷ nd 11 0 0 0
+    nodes = (nd 2 10 8 3 ∷ nd 3 20 0 0 ∷ nd 3 21 0 0 ∷ nd 39 0 0 2 ∷ nd 31 31 0 1 ∷ nd 18 22 4 2 ∷ nd 13 3 0 0 ∷ nd 15 22 0 0
         ∷ nd 33 0 0 0 ∷ []);
   };
-  declarations = (function 10 38 (20 ∷ 21 ∷ []) (block (then (callStmt (name 10) (also (literal (integer 1)) (also (literal truth)
-      none))) (then returnVoid empty))) ∷ []);
+  declarations = (function 10 8 (20 ∷ 21 ∷ []) (block (then (var 31 (arrayWith 4 22 (literal (integer 3)) (name 22))) (then
+      returnVoid empty))) ∷ []);
 }
 
-pub refused-11-5 : Answers program-refused-11-5 11 1 4 (65535 ∷ 65535 ∷ 65535 ∷ 65535 ∷ 65535 ∷ 65535 ∷ 65535 ∷ 65535 ∷ 65535
+pub refused-11-5 : Answers program-refused-11-5 11 1 5 1 (65535 ∷ 65535 ∷ 65535 ∷ 65535 ∷ 65535 ∷ 65535 ∷ 65535 ∷ 65535 ∷ 65535
     ∷ 65535 ∷ 65535 ∷ 65535 ∷ 65535 ∷ 65535 ∷ 65535 ∷ 65535 ∷ 65535 ∷ 65535 ∷ [])
 unfolding program-refused-11-5 computed isFile
 refused-11-5 = record { file = is-file widest program-refused-11-5 refl; answer = refl }
@@ -1273,65 +1672,62 @@ refused-11-5 = record { file = is-file widest program-refused-11-5 refl; answer 
 pub program-refused-11-6 : Program
 program-refused-11-6 = record {
   tables = record {
-    types = (ty 0 0 0 0 ∷ ty 1 0 0 0 ∷ ty 2 0 0 0 ∷ ty 3 0 0 0 ∷ ty 6 3 0 0 ∷ ty 6 0 0 0 ∷ ty 6 0 0 1 ∷ ty 6 3 1 2 ∷ ty 7 2 0 0
-        ∷ ty 5 0 0 0 ∷ ty 5 9 0 0 ∷ ty 7 9 0 0 ∷ ty 5 1 0 0 ∷ ty 6 3 3 1 ∷ ty 6 9 4 1 ∷ ty 4 9 0 0 ∷ ty 7 15 0 0 ∷ ty 5 15 0 0
-        ∷ []);
-    list = (0 ∷ 0 ∷ 0 ∷ 8 ∷ 9 ∷ []);
+    types = (ty 0 0 0 0 ∷ ty 1 0 0 0 ∷ ty 2 0 0 0 ∷ ty 3 0 0 0 ∷ ty 7 2 0 0 ∷ ty 6 3 0 1 ∷ ty 5 5 0 0 ∷ ty 6 3 1 1 ∷ ty 5 7 0 0
+        ∷ ty 6 3 2 2 ∷ []);
+    list = (4 ∷ 2 ∷ 5 ∷ 7 ∷ []);
     fields = ([]);
     structs = ([]);
     builtIns = ([]);
-    nodes = (nd 2 10 4 1 ∷ nd 39 0 0 3 ∷ nd 31 20 0 1 ∷ nd 13 1 0 0 ∷ nd 31 20 0 1 ∷ nd 16 0 9 1 ∷ nd 11 0 0 0 ∷ nd 33 0 0 0
-        ∷ []);
+    nodes = (nd 2 10 9 3 ∷ nd 3 20 0 0 ∷ nd 3 21 0 0 ∷ nd 39 0 0 2 ∷ nd 31 31 0 1 ∷ nd 16 0 6 2 ∷ nd 15 20 0 0 ∷ nd 15 21 0 0
+        ∷ nd 33 0 0 0 ∷ []);
   };
-  declarations = (function 10 4 ([]) (block (then (var 20 (literal (integer 1))) (then (var 20 (arrayLiteral 9 (also (literal
-      truth) none))) (then returnVoid empty)))) ∷ []);
+  declarations = (function 10 9 (20 ∷ 21 ∷ []) (block (then (var 31 (arrayLiteral 6 (also (name 20) (also (name 21) none)))) (then
+      returnVoid empty))) ∷ []);
 }
 
-pub refused-11-6 : Answers program-refused-11-6 11 1 5 (65535 ∷ 65535 ∷ 65535 ∷ 65535 ∷ 65535 ∷ 65535 ∷ 65535 ∷ 65535 ∷ 65535
-    ∷ 65535 ∷ 65535 ∷ 65535 ∷ 65535 ∷ 65535 ∷ 65535 ∷ 65535 ∷ [])
+pub refused-11-6 : Answers program-refused-11-6 11 1 5 6 (65535 ∷ 65535 ∷ 65535 ∷ 65535 ∷ 65535 ∷ 65535 ∷ 65535 ∷ 65535 ∷ 65535
+    ∷ 65535 ∷ 65535 ∷ 65535 ∷ 65535 ∷ 65535 ∷ 65535 ∷ 65535 ∷ 65535 ∷ 65535 ∷ [])
 unfolding program-refused-11-6 computed isFile
 refused-11-6 = record { file = is-file widest program-refused-11-6 refl; answer = refl }
 
 pub program-refused-11-7 : Program
 program-refused-11-7 = record {
   tables = record {
-    types = (ty 0 0 0 0 ∷ ty 1 0 0 0 ∷ ty 2 0 0 0 ∷ ty 3 0 0 0 ∷ ty 6 3 0 0 ∷ ty 6 0 0 0 ∷ ty 6 0 0 1 ∷ ty 6 3 1 2 ∷ ty 7 2 0 0
-        ∷ ty 5 0 0 0 ∷ ty 5 9 0 0 ∷ ty 7 9 0 0 ∷ ty 5 1 0 0 ∷ ty 6 3 3 1 ∷ ty 6 9 4 1 ∷ ty 4 9 0 0 ∷ ty 7 15 0 0 ∷ ty 5 15 0 0
+    types = (ty 0 0 0 0 ∷ ty 1 0 0 0 ∷ ty 2 0 0 0 ∷ ty 3 0 0 0 ∷ ty 7 2 0 0 ∷ ty 6 3 0 1 ∷ ty 6 3 1 1 ∷ ty 6 3 2 2 ∷ ty 6 3 4 3
         ∷ []);
-    list = (0 ∷ 0 ∷ 0 ∷ 8 ∷ 9 ∷ []);
+    list = (4 ∷ 2 ∷ 6 ∷ 0 ∷ 5 ∷ 6 ∷ 7 ∷ []);
     fields = ([]);
     structs = ([]);
     builtIns = ([]);
-    nodes = (nd 2 10 4 1 ∷ nd 39 0 0 3 ∷ nd 31 20 0 1 ∷ nd 11 0 0 0 ∷ nd 31 21 0 1 ∷ nd 18 20 12 2 ∷ nd 13 1 0 0 ∷ nd 15 20 0 0
-        ∷ nd 33 0 0 0 ∷ []);
+    nodes = (nd 2 10 8 4 ∷ nd 3 20 0 0 ∷ nd 3 21 0 0 ∷ nd 3 30 0 0 ∷ nd 39 0 0 2 ∷ nd 34 0 0 3 ∷ nd 15 30 0 0 ∷ nd 11 0 0 0
+        ∷ nd 11 0 0 0 ∷ nd 33 0 0 0 ∷ []);
   };
-  declarations = (function 10 4 ([]) (block (then (var 20 (literal truth)) (then (var 21 (arrayWith 12 20 (literal (integer 1))
-      (name 20))) (then returnVoid empty)))) ∷ []);
+  declarations = (function 10 8 (20 ∷ 21 ∷ 30 ∷ []) (block (then (callStmt (name 30) (also (literal truth) (also (literal truth)
+      none))) (then returnVoid empty))) ∷ []);
 }
 
-pub refused-11-7 : Answers program-refused-11-7 11 1 5 (65535 ∷ 65535 ∷ 65535 ∷ 65535 ∷ 65535 ∷ 65535 ∷ 65535 ∷ 65535 ∷ 65535
-    ∷ 65535 ∷ 65535 ∷ 65535 ∷ 65535 ∷ 65535 ∷ 65535 ∷ 65535 ∷ 65535 ∷ 65535 ∷ [])
+pub refused-11-7 : Answers program-refused-11-7 11 1 5 1 (65535 ∷ 65535 ∷ 65535 ∷ 65535 ∷ 65535 ∷ 65535 ∷ 65535 ∷ 65535 ∷ 65535
+    ∷ 65535 ∷ 65535 ∷ 65535 ∷ 65535 ∷ 65535 ∷ 65535 ∷ 65535 ∷ 65535 ∷ 65535 ∷ 65535 ∷ 65535 ∷ [])
 unfolding program-refused-11-7 computed isFile
 refused-11-7 = record { file = is-file widest program-refused-11-7 refl; answer = refl }
 
 pub program-refused-11-8 : Program
 program-refused-11-8 = record {
   tables = record {
-    types = (ty 0 0 0 0 ∷ ty 1 0 0 0 ∷ ty 2 0 0 0 ∷ ty 3 0 0 0 ∷ ty 6 3 0 0 ∷ ty 6 0 0 0 ∷ ty 6 0 0 1 ∷ ty 6 3 1 2 ∷ ty 7 2 0 0
-        ∷ ty 5 0 0 0 ∷ ty 5 9 0 0 ∷ ty 7 9 0 0 ∷ ty 5 1 0 0 ∷ ty 6 3 3 1 ∷ ty 6 9 4 1 ∷ ty 4 9 0 0 ∷ ty 7 15 0 0 ∷ ty 5 15 0 0
+    types = (ty 0 0 0 0 ∷ ty 1 0 0 0 ∷ ty 2 0 0 0 ∷ ty 3 0 0 0 ∷ ty 7 2 0 0 ∷ ty 6 3 0 1 ∷ ty 6 3 1 1 ∷ ty 6 0 2 2 ∷ ty 6 3 4 3
         ∷ []);
-    list = (0 ∷ 0 ∷ 0 ∷ 8 ∷ 9 ∷ []);
+    list = (4 ∷ 2 ∷ 6 ∷ 0 ∷ 5 ∷ 6 ∷ 7 ∷ []);
     fields = ([]);
     structs = ([]);
     builtIns = ([]);
-    nodes = (nd 2 10 4 1 ∷ nd 39 0 0 3 ∷ nd 31 10 0 1 ∷ nd 13 1 0 0 ∷ nd 38 0 0 2 ∷ nd 12 0 0 0 ∷ nd 39 0 0 1 ∷ nd 30 0 0 2
-        ∷ nd 15 10 0 0 ∷ nd 11 0 0 0 ∷ nd 33 0 0 0 ∷ []);
+    nodes = (nd 2 10 8 4 ∷ nd 3 20 0 0 ∷ nd 3 21 0 0 ∷ nd 3 30 0 0 ∷ nd 39 0 0 2 ∷ nd 31 31 0 1 ∷ nd 24 0 0 3 ∷ nd 15 30 0 0
+        ∷ nd 11 0 0 0 ∷ nd 11 0 0 0 ∷ nd 33 0 0 0 ∷ []);
   };
-  declarations = (function 10 4 ([]) (block (then (var 10 (literal (integer 1))) (then (while (literal falsity) (block (then
-      (assign (nameTarget 10) (literal truth)) empty))) (then returnVoid empty)))) ∷ []);
+  declarations = (function 10 8 (20 ∷ 21 ∷ 30 ∷ []) (block (then (var 31 (call (name 30) (also (literal truth) (also (literal
+      truth) none)))) (then returnVoid empty))) ∷ []);
 }
 
-pub refused-11-8 : Answers program-refused-11-8 11 1 7 (65535 ∷ 65535 ∷ 65535 ∷ 65535 ∷ 65535 ∷ 65535 ∷ 65535 ∷ 65535 ∷ 65535
+pub refused-11-8 : Answers program-refused-11-8 11 1 6 1 (65535 ∷ 65535 ∷ 65535 ∷ 65535 ∷ 65535 ∷ 65535 ∷ 65535 ∷ 65535 ∷ 65535
     ∷ 65535 ∷ 65535 ∷ 65535 ∷ 65535 ∷ 65535 ∷ 65535 ∷ 65535 ∷ 65535 ∷ 65535 ∷ 65535 ∷ 65535 ∷ 65535 ∷ 65535 ∷ [])
 unfolding program-refused-11-8 computed isFile
 refused-11-8 = record { file = is-file widest program-refused-11-8 refl; answer = refl }
@@ -1339,103 +1735,134 @@ refused-11-8 = record { file = is-file widest program-refused-11-8 refl; answer 
 pub program-refused-11-9 : Program
 program-refused-11-9 = record {
   tables = record {
-    types = (ty 0 0 0 0 ∷ ty 1 0 0 0 ∷ ty 2 0 0 0 ∷ ty 3 0 0 0 ∷ ty 6 3 0 0 ∷ ty 6 0 0 0 ∷ ty 6 0 0 1 ∷ ty 6 3 1 2 ∷ ty 7 2 0 0
-        ∷ ty 5 0 0 0 ∷ ty 5 9 0 0 ∷ ty 7 9 0 0 ∷ ty 5 1 0 0 ∷ ty 6 3 3 1 ∷ ty 6 9 4 1 ∷ ty 4 9 0 0 ∷ ty 7 15 0 0 ∷ ty 5 15 0 0
+    types = (ty 0 0 0 0 ∷ ty 1 0 0 0 ∷ ty 2 0 0 0 ∷ ty 3 0 0 0 ∷ ty 5 0 0 0 ∷ ty 7 2 0 0 ∷ ty 6 3 0 1 ∷ ty 6 3 1 1 ∷ ty 6 3 2 2
         ∷ []);
-    list = (0 ∷ 0 ∷ 0 ∷ 8 ∷ 9 ∷ []);
+    list = (5 ∷ 2 ∷ 6 ∷ 7 ∷ []);
     fields = ([]);
     structs = ([]);
     builtIns = ([]);
-    nodes = (nd 2 10 5 1 ∷ nd 39 0 0 3 ∷ nd 31 20 0 1 ∷ nd 11 0 0 0 ∷ nd 38 0 0 2 ∷ nd 12 0 0 0 ∷ nd 39 0 0 2 ∷ nd 31 20 0 1
-        ∷ nd 13 1 0 0 ∷ nd 32 0 0 1 ∷ nd 15 20 0 0 ∷ nd 32 0 0 1 ∷ nd 15 20 0 0 ∷ []);
+    nodes = (nd 1 11 0 1 ∷ nd 16 0 4 3 ∷ nd 13 1 0 0 ∷ nd 11 0 0 0 ∷ nd 13 3 0 0 ∷ nd 2 10 8 3 ∷ nd 3 20 0 0 ∷ nd 3 21 0 0
+        ∷ nd 39 0 0 2 ∷ nd 30 0 0 2 ∷ nd 15 21 0 0 ∷ nd 15 20 0 0 ∷ nd 33 0 0 0 ∷ nd 2 12 8 3 ∷ nd 3 20 0 0 ∷ nd 3 21 0 0
+        ∷ nd 39 0 0 3 ∷ nd 30 0 0 2 ∷ nd 15 21 0 0 ∷ nd 15 20 0 0 ∷ nd 30 0 0 2 ∷ nd 15 21 0 0 ∷ nd 15 20 0 0 ∷ nd 33 0 0 0 ∷ []);
   };
-  declarations = (function 10 5 ([]) (block (then (var 20 (literal truth)) (then (while (literal falsity) (block (then (var 20
-      (literal (integer 1))) (then (returnValue (name 20)) empty)))) (then (returnValue (name 20)) empty)))) ∷ []);
+  declarations = (global 11 (arrayLiteral 4 (also (literal (integer 1)) (also (literal truth) (also (literal (integer 3)) none))))
+      ∷ function 10 8 (20 ∷ 21 ∷ []) (block (then (assign (nameTarget 21) (name 20)) (then returnVoid empty))) ∷ function 12 8 (20
+      ∷ 21 ∷ []) (block (then (assign (nameTarget 21) (name 20)) (then (assign (nameTarget 21) (name 20)) (then returnVoid
+      empty)))) ∷ []);
 }
 
-pub refused-11-9 : Answers program-refused-11-9 11 1 11 (65535 ∷ 65535 ∷ 65535 ∷ 65535 ∷ 65535 ∷ 65535 ∷ 65535 ∷ 65535 ∷ 65535
+pub refused-11-9 : Answers program-refused-11-9 11 2 1 2 (65535 ∷ 65535 ∷ 65535 ∷ 65535 ∷ 65535 ∷ 65535 ∷ 65535 ∷ 65535 ∷ 65535
     ∷ 65535 ∷ 65535 ∷ 65535 ∷ 65535 ∷ 65535 ∷ 65535 ∷ 65535 ∷ 65535 ∷ 65535 ∷ 65535 ∷ 65535 ∷ 65535 ∷ 65535 ∷ 65535 ∷ 65535
-    ∷ 65535 ∷ 65535 ∷ [])
+    ∷ 65535 ∷ 65535 ∷ 65535 ∷ 65535 ∷ 65535 ∷ 65535 ∷ 65535 ∷ 65535 ∷ 65535 ∷ 65535 ∷ 65535 ∷ 65535 ∷ 65535 ∷ 65535 ∷ 65535
+    ∷ 65535 ∷ 65535 ∷ 65535 ∷ 65535 ∷ 65535 ∷ 65535 ∷ 65535 ∷ 65535 ∷ 65535 ∷ [])
 unfolding program-refused-11-9 computed isFile
 refused-11-9 = record { file = is-file widest program-refused-11-9 refl; answer = refl }
 
 pub program-refused-11-10 : Program
 program-refused-11-10 = record {
   tables = record {
-    types = (ty 0 0 0 0 ∷ ty 1 0 0 0 ∷ ty 2 0 0 0 ∷ ty 3 0 0 0 ∷ ty 4 0 0 0 ∷ ty 4 1 0 0 ∷ ty 7 4 0 0 ∷ ty 7 5 0 0 ∷ ty 6 3 0 0
-        ∷ ty 6 3 0 1 ∷ ty 6 3 1 2 ∷ []);
-    list = (0 ∷ 0 ∷ 0 ∷ []);
-    fields = (fd 256 0 ∷ fd 511 1 ∷ fd 65534 6 ∷ fd 513 0 ∷ fd 0 4 ∷ fd 12 1 ∷ []);
-    structs = (st 0 0 4 ∷ st 1 4 2 ∷ []);
+    types = (ty 0 0 0 0 ∷ ty 1 0 0 0 ∷ ty 2 0 0 0 ∷ ty 3 0 0 0 ∷ ty 4 81 0 0 ∷ ty 5 0 0 0 ∷ ty 4 68 0 0 ∷ []);
+    list = ([]);
+    fields = (fd 1 4 ∷ []);
+    structs = (st 68 0 1 ∷ []);
     builtIns = ([]);
-    nodes = (nd 2 10 9 2 ∷ nd 3 20 0 0 ∷ nd 39 0 0 3 ∷ nd 31 30 0 1 ∷ nd 21 0 5 2 ∷ nd 22 0 0 1 ∷ nd 12 0 0 0 ∷ nd 22 12 0 1
-        ∷ nd 21 0 4 4 ∷ nd 22 513 0 1 ∷ nd 13 1 0 0 ∷ nd 22 65534 0 1 ∷ nd 10 0 6 0 ∷ nd 22 511 0 1 ∷ nd 12 0 0 0 ∷ nd 22 256 0 1
-        ∷ nd 13 1 0 0 ∷ nd 31 31 0 1 ∷ nd 13 1 0 0 ∷ nd 33 0 0 0 ∷ nd 1 40 0 1 ∷ nd 21 0 4 4 ∷ nd 22 513 0 1 ∷ nd 13 1 0 0
-        ∷ nd 22 65534 0 1 ∷ nd 10 0 6 0 ∷ nd 22 511 0 1 ∷ nd 12 0 0 0 ∷ nd 22 256 0 1 ∷ nd 13 1 0 0 ∷ nd 2 11 8 1 ∷ nd 39 0 0 1
-        ∷ nd 33 0 0 0 ∷ []);
+    nodes = (nd 1 11 0 1 ∷ nd 16 0 5 4 ∷ nd 13 1 0 0 ∷ nd 13 1 0 0 ∷ nd 13 1 0 0 ∷ nd 13 1 0 0 ∷ nd 1 12 0 1 ∷ nd 21 0 6 1
+        ∷ nd 22 1 0 1 ∷ nd 13 1 0 0 ∷ []);
   };
-  declarations = (function 10 9 (20 ∷ []) (block (then (var 30 (structLiteral 5 (init 0 (literal falsity) (init 12 (structLiteral
-      4 (init 513 (literal (integer 1)) (init 65534 (null 6) (init 511 (literal falsity) (init 256 (literal (integer 1))
-      noInit))))) noInit)))) (then (var 31 (literal (integer 1))) (then returnVoid empty)))) ∷ global 40 (structLiteral 4 (init
-      513 (literal (integer 1)) (init 65534 (null 6) (init 511 (literal falsity) (init 256 (literal (integer 1)) noInit)))))
-      ∷ function 11 8 ([]) (block (then returnVoid empty)) ∷ []);
+  declarations = (global 11 (arrayLiteral 5 (also (literal (integer 1)) (also (literal (integer 1)) (also (literal (integer 1))
+      (also (literal (integer 1)) none))))) ∷ global 12 (structLiteral 6 (init 1 (literal (integer 1)) noInit)) ∷ []);
 }
 
-pub refused-11-10 : Answers program-refused-11-10 11 7 4 (65535 ∷ 65535 ∷ 65535 ∷ 65535 ∷ 65535 ∷ 65535 ∷ 65535 ∷ 65535 ∷ 65535
-    ∷ 65535 ∷ 65535 ∷ 65535 ∷ 65535 ∷ 65535 ∷ 65535 ∷ 65535 ∷ 65535 ∷ 65535 ∷ 65535 ∷ 65535 ∷ 65535 ∷ 65535 ∷ 65535 ∷ 65535
-    ∷ 65535 ∷ 65535 ∷ 65535 ∷ 65535 ∷ 65535 ∷ 65535 ∷ 65535 ∷ 65535 ∷ 65535 ∷ 65535 ∷ 65535 ∷ 65535 ∷ 65535 ∷ 65535 ∷ 65535
-    ∷ 65535 ∷ 65535 ∷ 65535 ∷ 65535 ∷ 65535 ∷ 65535 ∷ 65535 ∷ 65535 ∷ 65535 ∷ 65535 ∷ 65535 ∷ 65535 ∷ 65535 ∷ 65535 ∷ 65535
-    ∷ 65535 ∷ 65535 ∷ 65535 ∷ 65535 ∷ 65535 ∷ 65535 ∷ 65535 ∷ 65535 ∷ 65535 ∷ 65535 ∷ 65535 ∷ 65535 ∷ [])
+pub refused-11-10 : Answers program-refused-11-10 11 2 7 5 (65535 ∷ 65535 ∷ 65535 ∷ 65535 ∷ 65535 ∷ 65535 ∷ 65535 ∷ 65535 ∷ 65535
+    ∷ 65535 ∷ 65535 ∷ 65535 ∷ 65535 ∷ 65535 ∷ 65535 ∷ 65535 ∷ 65535 ∷ 65535 ∷ 65535 ∷ 65535 ∷ [])
 unfolding program-refused-11-10 computed isFile
 refused-11-10 = record { file = is-file widest program-refused-11-10 refl; answer = refl }
+
+pub program-refused-11-11 : Program
+program-refused-11-11 = record {
+  tables = record {
+    types = (ty 0 0 0 0 ∷ ty 1 0 0 0 ∷ ty 2 0 0 0 ∷ ty 3 0 0 0 ∷ ty 6 3 0 1 ∷ ty 4 68 0 0 ∷ ty 7 2 0 0 ∷ ty 6 3 1 1 ∷ ty 6 3 2 2
+        ∷ []);
+    list = (2 ∷ 6 ∷ 7 ∷ 4 ∷ []);
+    fields = (fd 1 4 ∷ fd 2 0 ∷ []);
+    structs = (st 68 0 2 ∷ []);
+    builtIns = ([]);
+    nodes = (nd 2 10 8 3 ∷ nd 3 20 0 0 ∷ nd 3 21 0 0 ∷ nd 39 0 0 2 ∷ nd 31 31 0 1 ∷ nd 21 0 5 2 ∷ nd 22 1 0 1 ∷ nd 13 1 0 0
+        ∷ nd 22 2 0 1 ∷ nd 13 1 0 0 ∷ nd 33 0 0 0 ∷ []);
+  };
+  declarations = (function 10 8 (20 ∷ 21 ∷ []) (block (then (var 31 (structLiteral 5 (init 1 (literal (integer 1)) (init 2
+      (literal (integer 1)) noInit)))) (then returnVoid empty))) ∷ []);
+}
+
+pub refused-11-11 : Answers program-refused-11-11 11 3 5 1 (65535 ∷ 65535 ∷ 65535 ∷ 65535 ∷ 65535 ∷ 65535 ∷ 65535 ∷ 65535 ∷ 65535
+    ∷ 65535 ∷ 65535 ∷ 65535 ∷ 65535 ∷ 65535 ∷ 65535 ∷ 65535 ∷ 65535 ∷ 65535 ∷ 65535 ∷ 65535 ∷ 65535 ∷ 65535 ∷ [])
+unfolding program-refused-11-11 computed isFile
+refused-11-11 = record { file = is-file widest program-refused-11-11 refl; answer = refl }
 
 pub program-refused-12-1 : Program
 program-refused-12-1 = record {
   tables = record {
-    types = (ty 0 0 0 0 ∷ ty 1 0 0 0 ∷ ty 2 0 0 0 ∷ ty 3 0 0 0 ∷ ty 4 1 0 0 ∷ ty 4 2 0 0 ∷ ty 4 3 0 0 ∷ ty 7 4 0 0 ∷ ty 7 5 0 0
-        ∷ ty 5 4 0 0 ∷ ty 5 5 0 0 ∷ ty 5 0 0 0 ∷ ty 6 3 0 0 ∷ ty 6 0 0 0 ∷ ty 6 0 0 1 ∷ ty 4 9 0 0 ∷ ty 7 15 0 0 ∷ ty 5 15 0 0
-        ∷ ty 6 3 1 1 ∷ ty 7 2 0 0 ∷ ty 5 2 0 0 ∷ ty 5 0 0 0 ∷ ty 4 1 0 0 ∷ ty 5 7 0 0 ∷ ty 7 11 0 0 ∷ ty 6 5 2 1 ∷ ty 6 4 3 1
-        ∷ ty 5 1 0 0 ∷ ty 6 3 4 2 ∷ ty 5 11 0 0 ∷ ty 7 13 0 0 ∷ ty 6 15 6 0 ∷ ty 6 17 6 1 ∷ ty 7 17 0 0 ∷ ty 6 21 7 0
-        ∷ ty 6 21 7 1 ∷ ty 6 11 8 1 ∷ ty 6 3 9 1 ∷ ty 6 3 10 2 ∷ ty 6 3 12 2 ∷ []);
-    list = (0 ∷ 15 ∷ 4 ∷ 5 ∷ 0 ∷ 1 ∷ 17 ∷ 21 ∷ 22 ∷ 7 ∷ 0 ∷ 0 ∷ 4 ∷ 4 ∷ []);
+    types = (ty 0 0 0 0 ∷ ty 1 0 0 0 ∷ ty 2 0 0 0 ∷ ty 3 0 0 0 ∷ ty 7 2 0 0 ∷ ty 6 3 0 1 ∷ ty 6 3 1 1 ∷ ty 6 3 2 2 ∷ ty 6 3 4 3
+        ∷ []);
+    list = (4 ∷ 2 ∷ 6 ∷ 0 ∷ 5 ∷ 6 ∷ 7 ∷ []);
     fields = ([]);
     structs = ([]);
     builtIns = ([]);
-    nodes = (nd 2 10 12 1 ∷ nd 39 0 0 2 ∷ nd 34 0 0 2 ∷ nd 15 10 0 0 ∷ nd 13 1 0 0 ∷ nd 33 0 0 0 ∷ []);
+    nodes = (nd 2 10 8 4 ∷ nd 3 20 0 0 ∷ nd 3 21 0 0 ∷ nd 3 30 0 0 ∷ nd 39 0 0 2 ∷ nd 34 0 0 2 ∷ nd 15 30 0 0 ∷ nd 15 20 0 0
+        ∷ nd 33 0 0 0 ∷ []);
   };
-  declarations = (function 10 12 ([]) (block (then (callStmt (name 10) (also (literal (integer 1)) none)) (then returnVoid
+  declarations = (function 10 8 (20 ∷ 21 ∷ 30 ∷ []) (block (then (callStmt (name 30) (also (name 20) none)) (then returnVoid
       empty))) ∷ []);
 }
 
-pub refused-12-1 : Answers program-refused-12-1 12 1 2 (65535 ∷ 65535 ∷ 65535 ∷ 65535 ∷ 65535 ∷ 65535 ∷ 65535 ∷ 65535 ∷ 65535
-    ∷ 65535 ∷ 65535 ∷ 65535 ∷ [])
+pub refused-12-1 : Answers program-refused-12-1 12 1 5 0 (65535 ∷ 65535 ∷ 65535 ∷ 65535 ∷ 65535 ∷ 65535 ∷ 65535 ∷ 65535 ∷ 65535
+    ∷ 65535 ∷ 65535 ∷ 65535 ∷ 65535 ∷ 65535 ∷ 65535 ∷ 65535 ∷ 65535 ∷ 65535 ∷ [])
 unfolding program-refused-12-1 computed isFile
 refused-12-1 = record { file = is-file widest program-refused-12-1 refl; answer = refl }
 
 pub program-refused-12-2 : Program
 program-refused-12-2 = record {
   tables = record {
-    types = (ty 0 0 0 0 ∷ ty 1 0 0 0 ∷ ty 2 0 0 0 ∷ ty 3 0 0 0 ∷ ty 4 1 0 0 ∷ ty 4 2 0 0 ∷ ty 4 3 0 0 ∷ ty 7 4 0 0 ∷ ty 7 5 0 0
-        ∷ ty 5 4 0 0 ∷ ty 5 5 0 0 ∷ ty 5 0 0 0 ∷ ty 6 3 0 0 ∷ ty 6 0 0 0 ∷ ty 6 0 0 1 ∷ ty 4 9 0 0 ∷ ty 7 15 0 0 ∷ ty 5 15 0 0
-        ∷ ty 6 3 1 1 ∷ ty 7 2 0 0 ∷ ty 5 2 0 0 ∷ ty 5 0 0 0 ∷ ty 4 1 0 0 ∷ ty 5 7 0 0 ∷ ty 7 11 0 0 ∷ ty 6 5 2 1 ∷ ty 6 4 3 1
-        ∷ ty 5 1 0 0 ∷ ty 6 3 4 2 ∷ ty 5 11 0 0 ∷ ty 7 13 0 0 ∷ ty 6 15 6 0 ∷ ty 6 17 6 1 ∷ ty 7 17 0 0 ∷ ty 6 21 7 0
-        ∷ ty 6 21 7 1 ∷ ty 6 11 8 1 ∷ ty 6 3 9 1 ∷ ty 6 3 10 2 ∷ ty 6 3 12 2 ∷ []);
-    list = (0 ∷ 15 ∷ 4 ∷ 5 ∷ 0 ∷ 1 ∷ 17 ∷ 21 ∷ 22 ∷ 7 ∷ 0 ∷ 0 ∷ 4 ∷ 4 ∷ []);
+    types = (ty 0 0 0 0 ∷ ty 1 0 0 0 ∷ ty 2 0 0 0 ∷ ty 3 0 0 0 ∷ ty 7 2 0 0 ∷ ty 6 3 0 1 ∷ ty 6 3 1 1 ∷ ty 6 0 2 2 ∷ ty 6 3 4 3
+        ∷ []);
+    list = (4 ∷ 2 ∷ 6 ∷ 0 ∷ 5 ∷ 6 ∷ 7 ∷ []);
     fields = ([]);
     structs = ([]);
     builtIns = ([]);
-    nodes = (nd 2 10 13 1 ∷ nd 39 0 0 1 ∷ nd 32 0 0 1 ∷ nd 24 0 0 2 ∷ nd 15 10 0 0 ∷ nd 15 99 0 0 ∷ []);
+    nodes = (nd 2 10 8 4 ∷ nd 3 20 0 0 ∷ nd 3 21 0 0 ∷ nd 3 30 0 0 ∷ nd 39 0 0 2 ∷ nd 31 31 0 1 ∷ nd 24 0 0 2 ∷ nd 15 30 0 0
+        ∷ nd 15 20 0 0 ∷ nd 33 0 0 0 ∷ []);
   };
-  declarations = (function 10 13 ([]) (block (then (returnValue (call (name 10) (also (name 99) none))) empty)) ∷ []);
+  declarations = (function 10 8 (20 ∷ 21 ∷ 30 ∷ []) (block (then (var 31 (call (name 30) (also (name 20) none))) (then returnVoid
+      empty))) ∷ []);
 }
 
-pub refused-12-2 : Answers program-refused-12-2 12 1 3 (65535 ∷ 65535 ∷ 65535 ∷ 65535 ∷ 65535 ∷ 65535 ∷ 65535 ∷ 65535 ∷ 65535
-    ∷ 65535 ∷ 65535 ∷ 65535 ∷ [])
+pub refused-12-2 : Answers program-refused-12-2 12 1 6 0 (65535 ∷ 65535 ∷ 65535 ∷ 65535 ∷ 65535 ∷ 65535 ∷ 65535 ∷ 65535 ∷ 65535
+    ∷ 65535 ∷ 65535 ∷ 65535 ∷ 65535 ∷ 65535 ∷ 65535 ∷ 65535 ∷ 65535 ∷ 65535 ∷ 65535 ∷ 65535 ∷ [])
 unfolding program-refused-12-2 computed isFile
 refused-12-2 = record { file = is-file widest program-refused-12-2 refl; answer = refl }
 
 pub program-refused-12-3 : Program
 program-refused-12-3 = record {
+  tables = record {
+    types = (ty 0 0 0 0 ∷ ty 1 0 0 0 ∷ ty 2 0 0 0 ∷ ty 3 0 0 0 ∷ ty 7 2 0 0 ∷ ty 6 3 0 1 ∷ ty 6 3 1 1 ∷ ty 6 3 2 2 ∷ []);
+    list = (4 ∷ 2 ∷ 5 ∷ 6 ∷ []);
+    fields = ([]);
+    structs = ([]);
+    builtIns = ([]);
+    nodes = (nd 2 10 7 3 ∷ nd 3 20 0 0 ∷ nd 3 21 0 0 ∷ nd 39 0 0 3 ∷ nd 30 0 0 2 ∷ nd 15 21 0 0 ∷ nd 15 20 0 0 ∷ nd 34 0 0 1
+        ∷ nd 15 20 0 0 ∷ nd 33 0 0 0 ∷ []);
+  };
+  declarations = (function 10 7 (20 ∷ 21 ∷ []) (block (then (assign (nameTarget 21) (name 20)) (then (callStmt (name 20) none)
+      (then returnVoid empty)))) ∷ []);
+}
+
+pub refused-12-3 : Answers program-refused-12-3 12 1 7 4 (65535 ∷ 65535 ∷ 65535 ∷ 65535 ∷ 65535 ∷ 65535 ∷ 65535 ∷ 65535 ∷ 65535
+    ∷ 65535 ∷ 65535 ∷ 65535 ∷ 65535 ∷ 65535 ∷ 65535 ∷ 65535 ∷ 65535 ∷ 65535 ∷ 65535 ∷ 65535 ∷ [])
+unfolding program-refused-12-3 computed isFile
+refused-12-3 = record { file = is-file widest program-refused-12-3 refl; answer = refl }
+
+pub program-refused-12-4 : Program
+program-refused-12-4 = record {
   tables = record {
     types = (ty 0 0 0 0 ∷ ty 1 0 0 0 ∷ ty 2 0 0 0 ∷ ty 3 0 0 0 ∷ ty 4 0 0 0 ∷ ty 7 4 0 0 ∷ ty 6 3 0 0 ∷ ty 6 3 0 1 ∷ ty 6 3 1 2
         ∷ []);
@@ -1450,34 +1877,104 @@ program-refused-12-3 = record {
       18 (literal (integer 1)) noInit))))) ∷ function 10 8 (20 ∷ 21 ∷ []) (block (then returnVoid empty)) ∷ []);
 }
 
-pub refused-12-3 : Answers program-refused-12-3 12 2 1 (65535 ∷ 65535 ∷ 65535 ∷ 65535 ∷ 65535 ∷ 65535 ∷ 65535 ∷ 65535 ∷ 65535
-    ∷ 65535 ∷ 65535 ∷ 65535 ∷ 65535 ∷ 65535 ∷ 65535 ∷ 65535 ∷ 65535 ∷ 65535 ∷ 65535 ∷ 65535 ∷ 65535 ∷ 65535 ∷ 65535 ∷ 65535
-    ∷ 65535 ∷ 65535 ∷ 65535 ∷ 65535 ∷ 65535 ∷ 65535 ∷ [])
-unfolding program-refused-12-3 computed isFile
-refused-12-3 = record { file = is-file widest program-refused-12-3 refl; answer = refl }
-
-pub program-refused-12-4 : Program
-program-refused-12-4 = record {
-  tables = record {
-    types = (ty 0 0 0 0 ∷ ty 1 0 0 0 ∷ ty 2 0 0 0 ∷ ty 3 0 0 0 ∷ ty 4 0 0 0 ∷ ty 7 4 0 0 ∷ ty 6 3 0 0 ∷ ty 6 3 0 1 ∷ ty 6 3 1 2
-        ∷ []);
-    list = (0 ∷ 0 ∷ 0 ∷ []);
-    fields = (fd 6 5 ∷ []);
-    structs = (st 0 0 1 ∷ []);
-    builtIns = ([]);
-    nodes = (nd 2 10 6 1 ∷ nd 39 0 0 2 ∷ nd 31 30 0 1 ∷ nd 21 0 4 1 ∷ nd 22 6 0 1 ∷ nd 21 0 4 2 ∷ nd 22 65535 0 1 ∷ nd 21 0 4 1
-        ∷ nd 22 6 0 1 ∷ nd 10 0 5 0 ∷ nd 22 6 0 1 ∷ nd 21 0 4 1 ∷ nd 22 6 0 1 ∷ nd 10 0 5 0 ∷ nd 33 0 0 0 ∷ []);
-  };
-  declarations = (function 10 6 ([]) (block (then (var 30 (structLiteral 4 (init 6 (structLiteral 4 (init 65535 (structLiteral 4
-      (init 6 (null 5) noInit)) (init 6 (structLiteral 4 (init 6 (null 5) noInit)) noInit))) noInit))) (then returnVoid empty)))
-      ∷ []);
-}
-
-pub refused-12-4 : Answers program-refused-12-4 12 3 5 (65535 ∷ 65535 ∷ 65535 ∷ 65535 ∷ 65535 ∷ 65535 ∷ 65535 ∷ 65535 ∷ 65535
+pub refused-12-4 : Answers program-refused-12-4 12 2 1 0 (65535 ∷ 65535 ∷ 65535 ∷ 65535 ∷ 65535 ∷ 65535 ∷ 65535 ∷ 65535 ∷ 65535
     ∷ 65535 ∷ 65535 ∷ 65535 ∷ 65535 ∷ 65535 ∷ 65535 ∷ 65535 ∷ 65535 ∷ 65535 ∷ 65535 ∷ 65535 ∷ 65535 ∷ 65535 ∷ 65535 ∷ 65535
     ∷ 65535 ∷ 65535 ∷ 65535 ∷ 65535 ∷ 65535 ∷ 65535 ∷ [])
 unfolding program-refused-12-4 computed isFile
 refused-12-4 = record { file = is-file widest program-refused-12-4 refl; answer = refl }
+
+pub program-refused-12-5 : Program
+program-refused-12-5 = record {
+  tables = record {
+    types = (ty 0 0 0 0 ∷ ty 1 0 0 0 ∷ ty 2 0 0 0 ∷ ty 3 0 0 0 ∷ ty 5 0 0 0 ∷ ty 4 68 0 0 ∷ []);
+    list = ([]);
+    fields = (fd 1 0 ∷ fd 1 0 ∷ []);
+    structs = (st 68 0 2 ∷ []);
+    builtIns = ([]);
+    nodes = (nd 1 11 0 1 ∷ nd 16 0 4 4 ∷ nd 13 1 0 0 ∷ nd 13 1 0 0 ∷ nd 13 1 0 0 ∷ nd 13 1 0 0 ∷ nd 1 12 0 1 ∷ nd 21 0 5 2
+        ∷ nd 22 1 0 1 ∷ nd 16 0 4 1 ∷ nd 13 1 0 0 ∷ nd 22 2 0 1 ∷ nd 16 0 4 2 ∷ nd 13 1 0 0 ∷ nd 13 1 0 0 ∷ []);
+  };
+  declarations = (global 11 (arrayLiteral 4 (also (literal (integer 1)) (also (literal (integer 1)) (also (literal (integer 1))
+      (also (literal (integer 1)) none))))) ∷ global 12 (structLiteral 5 (init 1 (arrayLiteral 4 (also (literal (integer 1))
+      none)) (init 2 (arrayLiteral 4 (also (literal (integer 1)) (also (literal (integer 1)) none))) noInit))) ∷ []);
+}
+
+pub refused-12-5 : Answers program-refused-12-5 12 2 7 4 (65535 ∷ 65535 ∷ 65535 ∷ 65535 ∷ 65535 ∷ 65535 ∷ 65535 ∷ 65535 ∷ 65535
+    ∷ 65535 ∷ 65535 ∷ 65535 ∷ 65535 ∷ 65535 ∷ 65535 ∷ 65535 ∷ 65535 ∷ 65535 ∷ 65535 ∷ 65535 ∷ 65535 ∷ 65535 ∷ 65535 ∷ 65535
+    ∷ 65535 ∷ 65535 ∷ 65535 ∷ 65535 ∷ 65535 ∷ 65535 ∷ [])
+unfolding program-refused-12-5 computed isFile
+refused-12-5 = record { file = is-file widest program-refused-12-5 refl; answer = refl }
+
+pub program-refused-12-6 : Program
+program-refused-12-6 = record {
+  tables = record {
+    types = (ty 0 0 0 0 ∷ ty 1 0 0 0 ∷ ty 2 0 0 0 ∷ ty 3 0 0 0 ∷ ty 6 3 0 1 ∷ ty 4 68 0 0 ∷ ty 7 2 0 0 ∷ ty 6 3 1 1 ∷ ty 6 3 2 2
+        ∷ []);
+    list = (2 ∷ 6 ∷ 7 ∷ 4 ∷ []);
+    fields = (fd 1 4 ∷ fd 2 0 ∷ []);
+    structs = (st 68 0 2 ∷ []);
+    builtIns = ([]);
+    nodes = (nd 2 10 8 3 ∷ nd 3 20 0 0 ∷ nd 3 21 0 0 ∷ nd 39 0 0 2 ∷ nd 31 31 0 1 ∷ nd 21 0 5 2 ∷ nd 22 1 0 1 ∷ nd 15 20 0 0
+        ∷ nd 22 1 0 1 ∷ nd 15 20 0 0 ∷ nd 33 0 0 0 ∷ []);
+  };
+  declarations = (function 10 8 (20 ∷ 21 ∷ []) (block (then (var 31 (structLiteral 5 (init 1 (name 20) (init 1 (name 20)
+      noInit)))) (then returnVoid empty))) ∷ []);
+}
+
+pub refused-12-6 : Answers program-refused-12-6 12 3 5 0 (65535 ∷ 65535 ∷ 65535 ∷ 65535 ∷ 65535 ∷ 65535 ∷ 65535 ∷ 65535 ∷ 65535
+    ∷ 65535 ∷ 65535 ∷ 65535 ∷ 65535 ∷ 65535 ∷ 65535 ∷ 65535 ∷ 65535 ∷ 65535 ∷ 65535 ∷ 65535 ∷ 65535 ∷ 65535 ∷ [])
+unfolding program-refused-12-6 computed isFile
+refused-12-6 = record { file = is-file widest program-refused-12-6 refl; answer = refl }
+
+pub program-refused-12-7 : Program
+program-refused-12-7 = record {
+  tables = record {
+    types = (ty 0 0 0 0 ∷ ty 1 0 0 0 ∷ ty 2 0 0 0 ∷ ty 3 0 0 0 ∷ ty 6 3 0 1 ∷ ty 4 68 0 0 ∷ ty 6 0 1 1 ∷ ty 5 6 0 0 ∷ ty 7 2 0 0
+        ∷ ty 6 3 2 1 ∷ ty 6 3 3 2 ∷ []);
+    list = (2 ∷ 0 ∷ 8 ∷ 9 ∷ 4 ∷ []);
+    fields = (fd 1 4 ∷ fd 2 0 ∷ []);
+    structs = (st 68 0 2 ∷ []);
+    builtIns = ([]);
+    nodes = (nd 2 10 10 3 ∷ nd 3 20 0 0 ∷ nd 3 21 0 0 ∷ nd 39 0 0 3 ∷ nd 30 0 0 2 ∷ nd 15 21 0 0 ∷ nd 15 20 0 0 ∷ nd 31 31 0 1
+        ∷ nd 21 0 5 2 ∷ nd 22 1 0 1 ∷ nd 13 1 0 0 ∷ nd 22 2 0 1 ∷ nd 24 0 0 1 ∷ nd 19 0 0 2 ∷ nd 16 0 7 0 ∷ nd 13 0 0 0
+        ∷ nd 33 0 0 0 ∷ []);
+  };
+  declarations = (function 10 10 (20 ∷ 21 ∷ []) (block (then (assign (nameTarget 21) (name 20)) (then (var 31 (structLiteral 5
+      (init 1 (literal (integer 1)) (init 2 (call (index (arrayLiteral 7 none) (literal (integer 0))) none) noInit)))) (then
+      returnVoid empty)))) ∷ []);
+}
+
+pub refused-12-7 : Answers program-refused-12-7 12 3 12 4 (65535 ∷ 65535 ∷ 65535 ∷ 65535 ∷ 65535 ∷ 65535 ∷ 65535 ∷ 65535 ∷ 65535
+    ∷ 65535 ∷ 65535 ∷ 65535 ∷ 65535 ∷ 65535 ∷ 65535 ∷ 65535 ∷ 65535 ∷ 65535 ∷ 65535 ∷ 65535 ∷ 65535 ∷ 65535 ∷ 65535 ∷ 65535
+    ∷ 65535 ∷ 65535 ∷ 65535 ∷ 65535 ∷ 65535 ∷ 65535 ∷ 65535 ∷ 65535 ∷ 65535 ∷ 65535 ∷ [])
+unfolding program-refused-12-7 computed isFile
+refused-12-7 = record { file = is-file widest program-refused-12-7 refl; answer = refl }
+
+pub program-refused-12-8 : Program
+program-refused-12-8 = record {
+  tables = record {
+    types = (ty 0 0 0 0 ∷ ty 1 0 0 0 ∷ ty 2 0 0 0 ∷ ty 3 0 0 0 ∷ ty 4 0 0 0 ∷ ty 4 1 0 0 ∷ ty 7 4 0 0 ∷ ty 7 5 0 0 ∷ ty 6 3 0 0
+        ∷ ty 6 3 0 1 ∷ ty 6 3 1 2 ∷ []);
+    list = (0 ∷ 0 ∷ 0 ∷ []);
+    fields = (fd 9 1 ∷ fd 18 0 ∷ fd 12 0 ∷ fd 65534 0 ∷ fd 65279 4 ∷ fd 257 7 ∷ []);
+    structs = (st 0 0 3 ∷ st 1 3 3 ∷ []);
+    builtIns = ([]);
+    nodes = (nd 1 40 0 1 ∷ nd 21 0 4 3 ∷ nd 22 12 0 1 ∷ nd 13 1 0 0 ∷ nd 22 18 0 1 ∷ nd 13 1 0 0 ∷ nd 22 9 0 1 ∷ nd 12 0 0 0
+        ∷ nd 2 10 8 1 ∷ nd 39 0 0 3 ∷ nd 31 30 0 1 ∷ nd 21 0 4 3 ∷ nd 22 18 0 1 ∷ nd 13 1 0 0 ∷ nd 22 12 0 1 ∷ nd 13 1 0 0
+        ∷ nd 22 10 0 1 ∷ nd 12 0 0 0 ∷ nd 31 31 0 1 ∷ nd 13 1 0 0 ∷ nd 33 0 0 0 ∷ []);
+  };
+  declarations = (global 40 (structLiteral 4 (init 12 (literal (integer 1)) (init 18 (literal (integer 1)) (init 9 (literal
+      falsity) noInit)))) ∷ function 10 8 ([]) (block (then (var 30 (structLiteral 4 (init 18 (literal (integer 1)) (init 12
+      (literal (integer 1)) (init 10 (literal falsity) noInit))))) (then (var 31 (literal (integer 1))) (then returnVoid empty))))
+      ∷ []);
+}
+
+pub refused-12-8 : Answers program-refused-12-8 12 6 11 3 (65535 ∷ 65535 ∷ 65535 ∷ 65535 ∷ 65535 ∷ 65535 ∷ 65535 ∷ 65535 ∷ 65535
+    ∷ 65535 ∷ 65535 ∷ 65535 ∷ 65535 ∷ 65535 ∷ 65535 ∷ 65535 ∷ 65535 ∷ 65535 ∷ 65535 ∷ 65535 ∷ 65535 ∷ 65535 ∷ 65535 ∷ 65535
+    ∷ 65535 ∷ 65535 ∷ 65535 ∷ 65535 ∷ 65535 ∷ 65535 ∷ 65535 ∷ 65535 ∷ 65535 ∷ 65535 ∷ 65535 ∷ 65535 ∷ 65535 ∷ 65535 ∷ 65535
+    ∷ 65535 ∷ 65535 ∷ 65535 ∷ [])
+unfolding program-refused-12-8 computed isFile
+refused-12-8 = record { file = is-file widest program-refused-12-8 refl; answer = refl }
 
 pub program-refused-13-1 : Program
 program-refused-13-1 = record {
@@ -1496,78 +1993,231 @@ program-refused-13-1 = record {
   declarations = (function 10 13 ([]) (block (then returnVoid empty)) ∷ []);
 }
 
-pub refused-13-1 : Answers program-refused-13-1 13 1 2 (65535 ∷ 65535 ∷ 65535 ∷ 65535 ∷ 65535 ∷ 65535 ∷ [])
+pub refused-13-1 : Answers program-refused-13-1 13 1 2 0 (65535 ∷ 65535 ∷ 65535 ∷ 65535 ∷ 65535 ∷ 65535 ∷ [])
 unfolding program-refused-13-1 computed isFile
 refused-13-1 = record { file = is-file widest program-refused-13-1 refl; answer = refl }
 
 pub program-refused-13-2 : Program
 program-refused-13-2 = record {
   tables = record {
-    types = (ty 0 0 0 0 ∷ ty 1 0 0 0 ∷ ty 2 0 0 0 ∷ ty 3 0 0 0 ∷ ty 6 3 0 0 ∷ ty 6 0 0 0 ∷ ty 6 0 0 1 ∷ ty 6 3 1 2 ∷ ty 7 2 0 0
-        ∷ ty 5 0 0 0 ∷ ty 5 9 0 0 ∷ ty 7 9 0 0 ∷ ty 5 1 0 0 ∷ ty 6 3 3 1 ∷ ty 6 9 4 1 ∷ ty 4 9 0 0 ∷ ty 7 15 0 0 ∷ ty 5 15 0 0
-        ∷ []);
-    list = (0 ∷ 0 ∷ 0 ∷ 8 ∷ 9 ∷ []);
+    types = (ty 0 0 0 0 ∷ ty 1 0 0 0 ∷ ty 2 0 0 0 ∷ ty 3 0 0 0 ∷ ty 7 2 0 0 ∷ ty 6 3 0 1 ∷ ty 6 3 1 1 ∷ ty 6 3 2 2 ∷ []);
+    list = (4 ∷ 2 ∷ 5 ∷ 6 ∷ []);
     fields = ([]);
     structs = ([]);
     builtIns = ([]);
-    nodes = (nd 2 10 4 1 ∷ nd 39 0 0 2 ∷ nd 38 0 0 2 ∷ nd 12 0 0 0 ∷ nd 39 0 0 2 ∷ nd 31 20 0 1 ∷ nd 13 1 0 0 ∷ nd 32 0 0 1
-        ∷ nd 15 20 0 0 ∷ nd 33 0 0 0 ∷ []);
+    nodes = (nd 2 10 7 3 ∷ nd 3 20 0 0 ∷ nd 3 21 0 0 ∷ nd 39 0 0 2 ∷ nd 32 0 0 1 ∷ nd 26 10 0 2 ∷ nd 15 20 0 0 ∷ nd 15 20 0 0
+        ∷ nd 33 0 0 0 ∷ []);
   };
-  declarations = (function 10 4 ([]) (block (then (while (literal falsity) (block (then (var 20 (literal (integer 1))) (then
-      (returnValue (name 20)) empty)))) (then returnVoid empty))) ∷ []);
+  declarations = (function 10 7 (20 ∷ 21 ∷ []) (block (then (returnValue (binary 10 (name 20) (name 20))) (then returnVoid
+      empty))) ∷ []);
 }
 
-pub refused-13-2 : Answers program-refused-13-2 13 1 7 (65535 ∷ 65535 ∷ 65535 ∷ 65535 ∷ 65535 ∷ 65535 ∷ 65535 ∷ 65535 ∷ 65535
-    ∷ 65535 ∷ 65535 ∷ 65535 ∷ 65535 ∷ 65535 ∷ 65535 ∷ 65535 ∷ 65535 ∷ 65535 ∷ 65535 ∷ 65535 ∷ [])
+pub refused-13-2 : Answers program-refused-13-2 13 1 4 0 (65535 ∷ 65535 ∷ 65535 ∷ 65535 ∷ 65535 ∷ 65535 ∷ 65535 ∷ 65535 ∷ 65535
+    ∷ 65535 ∷ 65535 ∷ 65535 ∷ 65535 ∷ 65535 ∷ 65535 ∷ 65535 ∷ 65535 ∷ 65535 ∷ [])
 unfolding program-refused-13-2 computed isFile
 refused-13-2 = record { file = is-file widest program-refused-13-2 refl; answer = refl }
 
 pub program-refused-13-3 : Program
 program-refused-13-3 = record {
   tables = record {
-    types = (ty 0 0 0 0 ∷ ty 1 0 0 0 ∷ ty 2 0 0 0 ∷ ty 3 0 0 0 ∷ ty 6 3 0 0 ∷ ty 6 0 0 0 ∷ ty 6 0 0 1 ∷ ty 6 3 1 2 ∷ ty 7 2 0 0
-        ∷ ty 5 0 0 0 ∷ ty 5 9 0 0 ∷ ty 7 9 0 0 ∷ ty 5 1 0 0 ∷ ty 6 3 3 1 ∷ ty 6 9 4 1 ∷ ty 4 9 0 0 ∷ ty 7 15 0 0 ∷ ty 5 15 0 0
+    types = (ty 0 0 0 0 ∷ ty 1 0 0 0 ∷ ty 2 0 0 0 ∷ ty 3 0 0 0 ∷ ty 7 2 0 0 ∷ ty 6 3 0 1 ∷ ty 6 3 1 1 ∷ ty 6 0 2 2 ∷ ty 6 3 4 3
         ∷ []);
-    list = (0 ∷ 0 ∷ 0 ∷ 8 ∷ 9 ∷ []);
+    list = (4 ∷ 2 ∷ 6 ∷ 0 ∷ 5 ∷ 6 ∷ 7 ∷ []);
     fields = ([]);
     structs = ([]);
-    builtIns = (bi 12 4 ∷ []);
-    nodes = (nd 2 10 5 1 ∷ nd 39 0 0 2 ∷ nd 38 0 0 2 ∷ nd 12 0 0 0 ∷ nd 39 0 0 2 ∷ nd 31 12 0 1 ∷ nd 15 10 0 0 ∷ nd 34 0 0 1
-        ∷ nd 15 12 0 0 ∷ nd 32 0 0 1 ∷ nd 13 1 0 0 ∷ []);
+    builtIns = ([]);
+    nodes = (nd 2 10 8 4 ∷ nd 3 20 0 0 ∷ nd 3 21 0 0 ∷ nd 3 30 0 0 ∷ nd 39 0 0 2 ∷ nd 34 0 0 2 ∷ nd 15 30 0 0 ∷ nd 15 20 0 0
+        ∷ nd 33 0 0 0 ∷ []);
   };
-  declarations = (function 10 5 ([]) (block (then (while (literal falsity) (block (then (var 12 (name 10)) (then (callStmt (name
-      12) none) empty)))) (then (returnValue (literal (integer 1))) empty))) ∷ []);
+  declarations = (function 10 8 (20 ∷ 21 ∷ 30 ∷ []) (block (then (callStmt (name 30) (also (name 20) none)) (then returnVoid
+      empty))) ∷ []);
 }
 
-pub refused-13-3 : Answers program-refused-13-3 13 2 7 (65535 ∷ 65535 ∷ 65535 ∷ 65535 ∷ 65535 ∷ 65535 ∷ 65535 ∷ 65535 ∷ 65535
-    ∷ 65535 ∷ 65535 ∷ 65535 ∷ 65535 ∷ 65535 ∷ 65535 ∷ 65535 ∷ 65535 ∷ 65535 ∷ 65535 ∷ 65535 ∷ 65535 ∷ 65535 ∷ [])
+pub refused-13-3 : Answers program-refused-13-3 13 1 5 0 (65535 ∷ 65535 ∷ 65535 ∷ 65535 ∷ 65535 ∷ 65535 ∷ 65535 ∷ 65535 ∷ 65535
+    ∷ 65535 ∷ 65535 ∷ 65535 ∷ 65535 ∷ 65535 ∷ 65535 ∷ 65535 ∷ 65535 ∷ 65535 ∷ [])
 unfolding program-refused-13-3 computed isFile
 refused-13-3 = record { file = is-file widest program-refused-13-3 refl; answer = refl }
 
 pub program-refused-13-4 : Program
 program-refused-13-4 = record {
   tables = record {
-    types = (ty 0 0 0 0 ∷ ty 1 0 0 0 ∷ ty 2 0 0 0 ∷ ty 3 0 0 0 ∷ ty 6 3 0 0 ∷ ty 6 0 0 0 ∷ ty 6 0 0 1 ∷ ty 6 3 1 2 ∷ ty 7 2 0 0
-        ∷ ty 5 0 0 0 ∷ ty 5 9 0 0 ∷ ty 7 9 0 0 ∷ ty 5 1 0 0 ∷ ty 6 3 3 1 ∷ ty 6 9 4 1 ∷ ty 4 9 0 0 ∷ ty 7 15 0 0 ∷ ty 5 15 0 0
+    types = (ty 0 0 0 0 ∷ ty 1 0 0 0 ∷ ty 2 0 0 0 ∷ ty 3 0 0 0 ∷ ty 7 2 0 0 ∷ ty 6 3 0 1 ∷ ty 6 3 1 1 ∷ ty 6 3 2 2 ∷ ty 6 3 4 3
         ∷ []);
-    list = (0 ∷ 0 ∷ 0 ∷ 8 ∷ 9 ∷ []);
+    list = (4 ∷ 2 ∷ 6 ∷ 0 ∷ 5 ∷ 6 ∷ 7 ∷ []);
     fields = ([]);
     structs = ([]);
-    builtIns = (bi 12 4 ∷ []);
-    nodes = (nd 2 10 5 1 ∷ nd 39 0 0 3 ∷ nd 38 0 0 2 ∷ nd 12 0 0 0 ∷ nd 39 0 0 1 ∷ nd 31 12 0 1 ∷ nd 15 10 0 0 ∷ nd 31 21 0 1
-        ∷ nd 24 0 0 1 ∷ nd 15 12 0 0 ∷ nd 32 0 0 1 ∷ nd 13 1 0 0 ∷ []);
+    builtIns = ([]);
+    nodes = (nd 2 10 8 4 ∷ nd 3 20 0 0 ∷ nd 3 21 0 0 ∷ nd 3 30 0 0 ∷ nd 39 0 0 2 ∷ nd 31 31 0 1 ∷ nd 24 0 0 2 ∷ nd 15 30 0 0
+        ∷ nd 15 20 0 0 ∷ nd 33 0 0 0 ∷ []);
   };
-  declarations = (function 10 5 ([]) (block (then (while (literal falsity) (block (then (var 12 (name 10)) empty))) (then (var 21
-      (call (name 12) none)) (then (returnValue (literal (integer 1))) empty)))) ∷ []);
+  declarations = (function 10 8 (20 ∷ 21 ∷ 30 ∷ []) (block (then (var 31 (call (name 30) (also (name 20) none))) (then returnVoid
+      empty))) ∷ []);
 }
 
-pub refused-13-4 : Answers program-refused-13-4 13 2 8 (65535 ∷ 65535 ∷ 65535 ∷ 65535 ∷ 65535 ∷ 65535 ∷ 65535 ∷ 65535 ∷ 65535
-    ∷ 65535 ∷ 65535 ∷ 65535 ∷ 65535 ∷ 65535 ∷ 65535 ∷ 65535 ∷ 65535 ∷ 65535 ∷ 65535 ∷ 65535 ∷ 65535 ∷ 65535 ∷ 65535 ∷ 65535 ∷ [])
+pub refused-13-4 : Answers program-refused-13-4 13 1 6 0 (65535 ∷ 65535 ∷ 65535 ∷ 65535 ∷ 65535 ∷ 65535 ∷ 65535 ∷ 65535 ∷ 65535
+    ∷ 65535 ∷ 65535 ∷ 65535 ∷ 65535 ∷ 65535 ∷ 65535 ∷ 65535 ∷ 65535 ∷ 65535 ∷ 65535 ∷ 65535 ∷ [])
 unfolding program-refused-13-4 computed isFile
 refused-13-4 = record { file = is-file widest program-refused-13-4 refl; answer = refl }
 
+pub program-refused-13-5 : Program
+program-refused-13-5 = record {
+  tables = record {
+    types = (ty 0 0 0 0 ∷ ty 1 0 0 0 ∷ ty 2 0 0 0 ∷ ty 3 0 0 0 ∷ ty 7 2 0 0 ∷ ty 6 3 0 1 ∷ ty 6 3 1 1 ∷ ty 6 3 2 2 ∷ []);
+    list = (4 ∷ 2 ∷ 5 ∷ 6 ∷ []);
+    fields = ([]);
+    structs = ([]);
+    builtIns = ([]);
+    nodes = (nd 2 10 7 3 ∷ nd 3 20 0 0 ∷ nd 3 21 0 0 ∷ nd 39 0 0 3 ∷ nd 30 0 0 2 ∷ nd 15 21 0 0 ∷ nd 15 20 0 0 ∷ nd 32 0 0 1
+        ∷ nd 13 1 0 0 ∷ nd 33 0 0 0 ∷ []);
+  };
+  declarations = (function 10 7 (20 ∷ 21 ∷ []) (block (then (assign (nameTarget 21) (name 20)) (then (returnValue (literal
+      (integer 1))) (then returnVoid empty)))) ∷ []);
+}
+
+pub refused-13-5 : Answers program-refused-13-5 13 1 7 4 (65535 ∷ 65535 ∷ 65535 ∷ 65535 ∷ 65535 ∷ 65535 ∷ 65535 ∷ 65535 ∷ 65535
+    ∷ 65535 ∷ 65535 ∷ 65535 ∷ 65535 ∷ 65535 ∷ 65535 ∷ 65535 ∷ 65535 ∷ 65535 ∷ 65535 ∷ 65535 ∷ [])
+unfolding program-refused-13-5 computed isFile
+refused-13-5 = record { file = is-file widest program-refused-13-5 refl; answer = refl }
+
+pub program-refused-13-6 : Program
+program-refused-13-6 = record {
+  tables = record {
+    types = (ty 0 0 0 0 ∷ ty 1 0 0 0 ∷ ty 2 0 0 0 ∷ ty 3 0 0 0 ∷ ty 7 2 0 0 ∷ ty 6 3 0 1 ∷ ty 6 3 1 1 ∷ ty 6 3 2 2 ∷ []);
+    list = (4 ∷ 2 ∷ 5 ∷ 6 ∷ []);
+    fields = ([]);
+    structs = ([]);
+    builtIns = ([]);
+    nodes = (nd 2 10 7 3 ∷ nd 3 20 0 0 ∷ nd 3 21 0 0 ∷ nd 39 0 0 3 ∷ nd 30 0 0 2 ∷ nd 15 21 0 0 ∷ nd 15 20 0 0 ∷ nd 31 31 0 1
+        ∷ nd 24 0 0 2 ∷ nd 15 20 0 0 ∷ nd 14 1 0 0 ∷ nd 33 0 0 0 ∷ []);
+  };
+  declarations = (function 10 7 (20 ∷ 21 ∷ []) (block (then (assign (nameTarget 21) (name 20)) (then (var 31 (call (name 20) (also
+      (literal (text 1)) none))) (then returnVoid empty)))) ∷ []);
+}
+
+pub refused-13-6 : Answers program-refused-13-6 13 1 8 4 (65535 ∷ 65535 ∷ 65535 ∷ 65535 ∷ 65535 ∷ 65535 ∷ 65535 ∷ 65535 ∷ 65535
+    ∷ 65535 ∷ 65535 ∷ 65535 ∷ 65535 ∷ 65535 ∷ 65535 ∷ 65535 ∷ 65535 ∷ 65535 ∷ 65535 ∷ 65535 ∷ 65535 ∷ 65535 ∷ 65535 ∷ 65535 ∷ [])
+unfolding program-refused-13-6 computed isFile
+refused-13-6 = record { file = is-file widest program-refused-13-6 refl; answer = refl }
+
+pub program-refused-13-7 : Program
+program-refused-13-7 = record {
+  tables = record {
+    types = (ty 0 0 0 0 ∷ ty 1 0 0 0 ∷ ty 2 0 0 0 ∷ ty 3 0 0 0 ∷ ty 6 3 0 0 ∷ ty 6 3 0 1 ∷ ty 6 3 1 1 ∷ ty 6 3 2 1 ∷ ty 7 2 0 0
+        ∷ ty 5 0 0 0 ∷ ty 6 3 3 2 ∷ ty 6 0 5 1 ∷ ty 6 3 6 2 ∷ ty 6 0 8 0 ∷ []);
+    list = (0 ∷ 1 ∷ 2 ∷ 0 ∷ 1 ∷ 8 ∷ 9 ∷ 0 ∷ []);
+    fields = ([]);
+    structs = ([]);
+    builtIns = (bi 50 4 ∷ bi 60 5 ∷ bi 61 6 ∷ bi 62 7 ∷ []);
+    nodes = (nd 1 40 0 1 ∷ nd 13 1 0 0 ∷ nd 2 10 13 1 ∷ nd 39 0 0 4 ∷ nd 38 0 0 2 ∷ nd 11 0 0 0 ∷ nd 39 0 0 1 ∷ nd 36 21 2 3
+        ∷ nd 10 0 8 0 ∷ nd 39 0 0 4 ∷ nd 34 0 0 2 ∷ nd 15 10 0 0 ∷ nd 26 6 0 2 ∷ nd 26 1 0 2 ∷ nd 13 1 0 0 ∷ nd 13 1 0 0
+        ∷ nd 26 1 0 2 ∷ nd 13 1 0 0 ∷ nd 13 1 0 0 ∷ nd 34 0 0 2 ∷ nd 15 61 0 0 ∷ nd 26 6 0 2 ∷ nd 20 0 0 1 ∷ nd 16 0 9 0
+        ∷ nd 13 1 0 0 ∷ nd 34 0 0 2 ∷ nd 15 61 0 0 ∷ nd 11 0 0 0 ∷ nd 31 10 0 1 ∷ nd 20 0 0 1 ∷ nd 18 20 9 2 ∷ nd 13 1 0 0
+        ∷ nd 15 20 0 0 ∷ nd 39 0 0 1 ∷ nd 31 20 0 1 ∷ nd 18 20 9 2 ∷ nd 26 1 0 2 ∷ nd 13 1 0 0 ∷ nd 13 1 0 0 ∷ nd 15 20 0 0
+        ∷ nd 31 20 0 1 ∷ nd 20 0 0 1 ∷ nd 18 10 9 2 ∷ nd 13 1 0 0 ∷ nd 15 10 0 0 ∷ nd 31 10 0 1 ∷ nd 15 20 0 0 ∷ nd 32 0 0 1
+        ∷ nd 15 20 0 0 ∷ []);
+  };
+  declarations = (global 40 (literal (integer 1)) ∷ function 10 13 ([]) (block (then (while (literal truth) (block (then (ifNull
+      21 2 (null 8) (block (then (callStmt (name 10) (also (binary 6 (binary 1 (literal (integer 1)) (literal (integer 1)))
+      (binary 1 (literal (integer 1)) (literal (integer 1)))) none)) (then (callStmt (name 61) (also (binary 6 (lengthOf
+      (arrayLiteral 9 none)) (literal (integer 1))) none)) (then (callStmt (name 61) (also (literal truth) none)) (then (var 10
+      (lengthOf (arrayWith 9 20 (literal (integer 1)) (name 20)))) empty))))) (block (then (var 20 (arrayWith 9 20 (binary 1
+      (literal (integer 1)) (literal (integer 1))) (name 20))) empty))) empty))) (then (var 20 (lengthOf (arrayWith 9 10 (literal
+      (integer 1)) (name 10)))) (then (var 10 (name 20)) (then (returnValue (name 20)) empty))))) ∷ []);
+}
+
+pub refused-13-7 : Answers program-refused-13-7 13 6 10 1 (65535 ∷ 65535 ∷ 65535 ∷ 65535 ∷ 65535 ∷ 65535 ∷ 65535 ∷ 65535 ∷ 65535
+    ∷ 65535 ∷ 65535 ∷ 65535 ∷ 65535 ∷ 65535 ∷ 65535 ∷ 65535 ∷ 65535 ∷ 65535 ∷ 65535 ∷ 65535 ∷ 65535 ∷ 65535 ∷ 65535 ∷ 65535
+    ∷ 65535 ∷ 65535 ∷ 65535 ∷ 65535 ∷ 65535 ∷ 65535 ∷ 65535 ∷ 65535 ∷ 65535 ∷ 65535 ∷ 65535 ∷ 65535 ∷ 65535 ∷ 65535 ∷ 65535
+    ∷ 65535 ∷ 65535 ∷ 65535 ∷ 65535 ∷ 65535 ∷ 65535 ∷ 65535 ∷ 65535 ∷ 65535 ∷ 65535 ∷ 65535 ∷ 65535 ∷ 65535 ∷ 65535 ∷ 65535
+    ∷ 65535 ∷ 65535 ∷ 65535 ∷ 65535 ∷ 65535 ∷ 65535 ∷ 65535 ∷ 65535 ∷ 65535 ∷ 65535 ∷ 65535 ∷ 65535 ∷ 65535 ∷ 65535 ∷ 65535
+    ∷ 65535 ∷ 65535 ∷ 65535 ∷ 65535 ∷ 65535 ∷ 65535 ∷ 65535 ∷ 65535 ∷ 65535 ∷ 65535 ∷ 65535 ∷ 65535 ∷ 65535 ∷ 65535 ∷ 65535
+    ∷ 65535 ∷ 65535 ∷ 65535 ∷ 65535 ∷ 65535 ∷ 65535 ∷ 65535 ∷ 65535 ∷ 65535 ∷ 65535 ∷ 65535 ∷ 65535 ∷ 65535 ∷ 65535 ∷ [])
+unfolding program-refused-13-7 computed isFile
+refused-13-7 = record { file = is-file widest program-refused-13-7 refl; answer = refl }
+
+pub program-refused-13-8 : Program
+program-refused-13-8 = record {
+  tables = record {
+    types = (ty 0 0 0 0 ∷ ty 1 0 0 0 ∷ ty 2 0 0 0 ∷ ty 3 0 0 0 ∷ ty 4 0 0 0 ∷ ty 4 1 0 0 ∷ ty 4 2 0 0 ∷ ty 4 3 0 0 ∷ ty 4 77 0 0
+        ∷ ty 5 0 0 0 ∷ ty 5 4 0 0 ∷ ty 5 2 0 0 ∷ ty 7 4 0 0 ∷ ty 7 8 0 0 ∷ ty 5 8 0 0 ∷ ty 6 3 0 0 ∷ ty 6 0 0 1 ∷ ty 6 3 1 1
+        ∷ ty 6 3 2 0 ∷ ty 6 11 2 3 ∷ ty 7 10 0 0 ∷ ty 7 17 0 0 ∷ ty 6 11 5 1 ∷ ty 7 10 0 0 ∷ ty 5 12 0 0 ∷ ty 6 15 6 1
+        ∷ ty 7 5 0 0 ∷ ty 7 9 0 0 ∷ ty 5 8 0 0 ∷ ty 6 0 7 1 ∷ ty 6 4 8 3 ∷ ty 5 6 0 0 ∷ ty 5 9 0 0 ∷ ty 7 14 0 0 ∷ ty 6 16 11 2
+        ∷ ty 5 30 0 0 ∷ []);
+    list = (0 ∷ 8 ∷ 12 ∷ 2 ∷ 7 ∷ 4 ∷ 0 ∷ 0 ∷ 26 ∷ 7 ∷ 10 ∷ 11 ∷ 18 ∷ []);
+    fields = (fd 0 23 ∷ fd 1 27 ∷ fd 2 32 ∷ fd 0 23 ∷ fd 1 27 ∷ fd 2 32 ∷ fd 3 26 ∷ fd 4 10 ∷ fd 0 23 ∷ fd 1 27 ∷ fd 2 32
+        ∷ fd 13 25 ∷ fd 4 29 ∷ fd 5 32 ∷ fd 0 20 ∷ []);
+    structs = (st 0 0 3 ∷ st 1 3 5 ∷ st 2 8 6 ∷ st 3 14 1 ∷ []);
+    builtIns = (bi 115 15 ∷ bi 116 16 ∷ bi 118 18 ∷ bi 119 19 ∷ bi 122 22 ∷ bi 125 25 ∷ bi 129 29 ∷ bi 130 30 ∷ bi 134 34 ∷ []);
+    nodes = (nd 2 20 29 2 ∷ nd 3 60 0 0 ∷ nd 39 0 0 5 ∷ nd 30 0 0 2 ∷ nd 15 60 0 0 ∷ nd 26 14 0 2 ∷ nd 13 40586 0 0
+        ∷ nd 13 65187 0 0 ∷ nd 34 0 0 1 ∷ nd 15 118 0 0 ∷ nd 37 0 0 3 ∷ nd 12 0 0 0 ∷ nd 40 0 0 0 ∷ nd 39 0 0 1 ∷ nd 31 65 0 1
+        ∷ nd 15 130 0 0 ∷ nd 31 118 0 1 ∷ nd 18 15 31 2 ∷ nd 24 0 0 2 ∷ nd 15 116 0 0 ∷ nd 24 0 0 2 ∷ nd 15 116 0 0
+        ∷ nd 13 52008 0 0 ∷ nd 21 0 6 6 ∷ nd 22 5 0 1 ∷ nd 18 48 32 2 ∷ nd 13 31949 0 0 ∷ nd 16 0 9 0 ∷ nd 22 4 0 1
+        ∷ nd 15 116 0 0 ∷ nd 22 0 0 1 ∷ nd 16 0 10 0 ∷ nd 22 2 0 1 ∷ nd 16 0 32 1 ∷ nd 16 0 9 0 ∷ nd 22 1 0 1 ∷ nd 17 0 9 1
+        ∷ nd 15 15 0 0 ∷ nd 22 13 0 1 ∷ nd 15 125 0 0 ∷ nd 33 0 0 0 ∷ nd 1 40 0 1 ∷ nd 15 119 0 0 ∷ nd 1 41 0 1 ∷ nd 13 3761 0 0
+        ∷ []);
+  };
+  declarations = (function 20 29 (60 ∷ []) (block (then (assign (nameTarget 60) (binary 14 (literal (integer 40586)) (literal
+      (integer 65187)))) (then (callStmt (name 118) none) (then (for noVar (condition (literal falsity)) noStep (block (then (var
+      65 (name 130)) empty))) (then (var 118 (arrayWith 31 15 (call (name 116) (also (call (name 116) (also (literal (integer
+      52008)) none)) none)) (structLiteral 6 (init 5 (arrayWith 32 48 (literal (integer 31949)) (arrayLiteral 9 none)) (init 4
+      (name 116) (init 0 (arrayLiteral 10 none) (init 2 (arrayLiteral 32 (also (arrayLiteral 9 none) none)) (init 1 (defaultArray
+      9 (name 15)) (init 13 (name 125) noInit))))))))) (then returnVoid empty)))))) ∷ global 40 (name 119) ∷ global 41 (literal
+      (integer 3761)) ∷ []);
+}
+
+pub refused-13-8 : Answers program-refused-13-8 13 20 40 27 (65535 ∷ 65535 ∷ 65535 ∷ 65535 ∷ 65535 ∷ 65535 ∷ 65535 ∷ 65535 ∷ 65535
+    ∷ 65535 ∷ 65535 ∷ 65535 ∷ 65535 ∷ 65535 ∷ 65535 ∷ 65535 ∷ 65535 ∷ 65535 ∷ 65535 ∷ 65535 ∷ 65535 ∷ 65535 ∷ 65535 ∷ 65535
+    ∷ 65535 ∷ 65535 ∷ 65535 ∷ 65535 ∷ 65535 ∷ 65535 ∷ 65535 ∷ 65535 ∷ 65535 ∷ 65535 ∷ 65535 ∷ 65535 ∷ 65535 ∷ 65535 ∷ 65535
+    ∷ 65535 ∷ 65535 ∷ 65535 ∷ 65535 ∷ 65535 ∷ 65535 ∷ 65535 ∷ 65535 ∷ 65535 ∷ 65535 ∷ 65535 ∷ 65535 ∷ 65535 ∷ 65535 ∷ 65535
+    ∷ 65535 ∷ 65535 ∷ 65535 ∷ 65535 ∷ 65535 ∷ 65535 ∷ 65535 ∷ 65535 ∷ 65535 ∷ 65535 ∷ 65535 ∷ 65535 ∷ 65535 ∷ 65535 ∷ 65535
+    ∷ 65535 ∷ 65535 ∷ 65535 ∷ 65535 ∷ 65535 ∷ 65535 ∷ 65535 ∷ 65535 ∷ 65535 ∷ 65535 ∷ 65535 ∷ 65535 ∷ 65535 ∷ 65535 ∷ 65535
+    ∷ 65535 ∷ 65535 ∷ 65535 ∷ 65535 ∷ 65535 ∷ 65535 ∷ [])
+unfolding program-refused-13-8 computed isFile
+refused-13-8 = record { file = is-file widest program-refused-13-8 refl; answer = refl }
+
 pub program-refused-14-1 : Program
 program-refused-14-1 = record {
+  tables = record {
+    types = (ty 0 0 0 0 ∷ ty 1 0 0 0 ∷ ty 2 0 0 0 ∷ ty 3 0 0 0 ∷ ty 7 2 0 0 ∷ ty 6 3 0 1 ∷ ty 6 3 1 1 ∷ ty 6 3 2 2 ∷ []);
+    list = (4 ∷ 2 ∷ 5 ∷ 6 ∷ []);
+    fields = ([]);
+    structs = ([]);
+    builtIns = ([]);
+    nodes = (nd 2 10 7 3 ∷ nd 3 20 0 0 ∷ nd 3 21 0 0 ∷ nd 39 0 0 1 ∷ nd 30 0 0 2 ∷ nd 15 21 0 0 ∷ nd 15 20 0 0 ∷ []);
+  };
+  declarations = (function 10 7 (20 ∷ 21 ∷ []) (block (then (assign (nameTarget 21) (name 20)) empty)) ∷ []);
+}
+
+pub refused-14-1 : Answers program-refused-14-1 14 1 0 4 (65535 ∷ 65535 ∷ 65535 ∷ 65535 ∷ 65535 ∷ 65535 ∷ 65535 ∷ 65535 ∷ 65535
+    ∷ 65535 ∷ 65535 ∷ 65535 ∷ 65535 ∷ 65535 ∷ [])
+unfolding program-refused-14-1 computed isFile
+refused-14-1 = record { file = is-file widest program-refused-14-1 refl; answer = refl }
+
+pub program-refused-14-2 : Program
+program-refused-14-2 = record {
+  tables = record {
+    types = (ty 0 0 0 0 ∷ ty 1 0 0 0 ∷ ty 2 0 0 0 ∷ ty 3 0 0 0 ∷ ty 4 1 0 0 ∷ ty 4 2 0 0 ∷ ty 4 3 0 0 ∷ ty 7 4 0 0 ∷ ty 7 5 0 0
+        ∷ ty 5 4 0 0 ∷ ty 5 5 0 0 ∷ ty 5 0 0 0 ∷ ty 6 3 0 0 ∷ ty 6 0 0 0 ∷ ty 6 0 0 1 ∷ ty 4 9 0 0 ∷ ty 7 15 0 0 ∷ ty 5 15 0 0
+        ∷ ty 6 3 1 1 ∷ ty 7 2 0 0 ∷ ty 5 2 0 0 ∷ ty 5 0 0 0 ∷ ty 4 1 0 0 ∷ ty 5 7 0 0 ∷ ty 7 11 0 0 ∷ ty 6 5 2 1 ∷ ty 6 4 3 1
+        ∷ ty 5 1 0 0 ∷ ty 6 3 4 2 ∷ ty 5 11 0 0 ∷ ty 7 13 0 0 ∷ ty 6 15 6 0 ∷ ty 6 17 6 1 ∷ ty 7 17 0 0 ∷ ty 6 21 7 0
+        ∷ ty 6 21 7 1 ∷ ty 6 11 8 1 ∷ ty 6 3 9 1 ∷ ty 6 3 10 2 ∷ ty 6 3 12 2 ∷ []);
+    list = (0 ∷ 15 ∷ 4 ∷ 5 ∷ 0 ∷ 1 ∷ 17 ∷ 21 ∷ 22 ∷ 7 ∷ 0 ∷ 0 ∷ 4 ∷ 4 ∷ []);
+    fields = ([]);
+    structs = ([]);
+    builtIns = ([]);
+    nodes = (nd 2 10 12 1 ∷ nd 39 0 0 2 ∷ nd 38 0 0 2 ∷ nd 11 0 0 0 ∷ nd 39 0 0 0 ∷ nd 31 20 0 1 ∷ nd 13 1 0 0 ∷ []);
+  };
+  declarations = (function 10 12 ([]) (block (then (while (literal truth) (block empty)) (then (var 20 (literal (integer 1)))
+      empty))) ∷ []);
+}
+
+pub refused-14-2 : Answers program-refused-14-2 14 1 0 0 (65535 ∷ 65535 ∷ 65535 ∷ 65535 ∷ 65535 ∷ 65535 ∷ 65535 ∷ 65535 ∷ 65535
+    ∷ 65535 ∷ 65535 ∷ 65535 ∷ 65535 ∷ 65535 ∷ [])
+unfolding program-refused-14-2 computed isFile
+refused-14-2 = record { file = is-file widest program-refused-14-2 refl; answer = refl }
+
+pub program-refused-14-3 : Program
+program-refused-14-3 = record {
   tables = record {
     types = (ty 0 0 0 0 ∷ ty 1 0 0 0 ∷ ty 2 0 0 0 ∷ ty 3 0 0 0 ∷ ty 4 1 0 0 ∷ ty 4 2 0 0 ∷ ty 4 3 0 0 ∷ ty 7 4 0 0 ∷ ty 7 5 0 0
         ∷ ty 5 4 0 0 ∷ ty 5 5 0 0 ∷ ty 5 0 0 0 ∷ ty 6 3 0 0 ∷ ty 6 0 0 0 ∷ ty 6 0 0 1 ∷ ty 4 9 0 0 ∷ ty 7 15 0 0 ∷ ty 5 15 0 0
@@ -1585,13 +2235,13 @@ program-refused-14-1 = record {
       empty))) (then returnVoid empty))) ∷ []);
 }
 
-pub refused-14-1 : Answers program-refused-14-1 14 1 2 (65535 ∷ 65535 ∷ 65535 ∷ 65535 ∷ 65535 ∷ 65535 ∷ 65535 ∷ 65535 ∷ 65535
+pub refused-14-3 : Answers program-refused-14-3 14 1 2 1 (65535 ∷ 65535 ∷ 65535 ∷ 65535 ∷ 65535 ∷ 65535 ∷ 65535 ∷ 65535 ∷ 65535
     ∷ 65535 ∷ 65535 ∷ 65535 ∷ 65535 ∷ 65535 ∷ 65535 ∷ 65535 ∷ 65535 ∷ 65535 ∷ [])
-unfolding program-refused-14-1 computed isFile
-refused-14-1 = record { file = is-file widest program-refused-14-1 refl; answer = refl }
+unfolding program-refused-14-3 computed isFile
+refused-14-3 = record { file = is-file widest program-refused-14-3 refl; answer = refl }
 
-pub program-refused-14-2 : Program
-program-refused-14-2 = record {
+pub program-refused-14-4 : Program
+program-refused-14-4 = record {
   tables = record {
     types = (ty 0 0 0 0 ∷ ty 1 0 0 0 ∷ ty 2 0 0 0 ∷ ty 3 0 0 0 ∷ ty 6 3 0 0 ∷ ty 6 0 0 0 ∷ ty 6 0 0 1 ∷ ty 6 3 1 2 ∷ ty 7 2 0 0
         ∷ ty 5 0 0 0 ∷ ty 5 9 0 0 ∷ ty 7 9 0 0 ∷ ty 5 1 0 0 ∷ ty 6 3 3 1 ∷ ty 6 9 4 1 ∷ ty 4 9 0 0 ∷ ty 7 15 0 0 ∷ ty 5 15 0 0
@@ -1609,36 +2259,54 @@ program-refused-14-2 = record {
       20 (literal (integer 1))) (then returnVoid empty))))) ∷ []);
 }
 
-pub refused-14-2 : Answers program-refused-14-2 14 1 4 (65535 ∷ 65535 ∷ 65535 ∷ 65535 ∷ 65535 ∷ 65535 ∷ 65535 ∷ 65535 ∷ 65535
+pub refused-14-4 : Answers program-refused-14-4 14 1 4 0 (65535 ∷ 65535 ∷ 65535 ∷ 65535 ∷ 65535 ∷ 65535 ∷ 65535 ∷ 65535 ∷ 65535
     ∷ 65535 ∷ 65535 ∷ 65535 ∷ 65535 ∷ 65535 ∷ 65535 ∷ 65535 ∷ 65535 ∷ 65535 ∷ 65535 ∷ 65535 ∷ 65535 ∷ 65535 ∷ 65535 ∷ 65535
     ∷ 65535 ∷ 65535 ∷ 65535 ∷ 65535 ∷ 65535 ∷ 65535 ∷ 65535 ∷ 65535 ∷ 65535 ∷ 65535 ∷ [])
-unfolding program-refused-14-2 computed isFile
-refused-14-2 = record { file = is-file widest program-refused-14-2 refl; answer = refl }
+unfolding program-refused-14-4 computed isFile
+refused-14-4 = record { file = is-file widest program-refused-14-4 refl; answer = refl }
 
-pub program-refused-14-3 : Program
-program-refused-14-3 = record {
+pub program-refused-14-5 : Program
+program-refused-14-5 = record {
   tables = record {
-    types = (ty 0 0 0 0 ∷ ty 1 0 0 0 ∷ ty 2 0 0 0 ∷ ty 3 0 0 0 ∷ ty 6 3 0 0 ∷ ty 6 0 0 0 ∷ ty 6 0 0 1 ∷ ty 6 3 1 2 ∷ ty 7 2 0 0
-        ∷ ty 5 0 0 0 ∷ ty 5 9 0 0 ∷ ty 7 9 0 0 ∷ ty 5 1 0 0 ∷ ty 6 3 3 1 ∷ ty 6 9 4 1 ∷ ty 4 9 0 0 ∷ ty 7 15 0 0 ∷ ty 5 15 0 0
-        ∷ []);
-    list = (0 ∷ 0 ∷ 0 ∷ 8 ∷ 9 ∷ []);
+    types = (ty 0 0 0 0 ∷ ty 1 0 0 0 ∷ ty 2 0 0 0 ∷ ty 3 0 0 0 ∷ ty 7 2 0 0 ∷ ty 6 3 0 1 ∷ ty 6 3 1 1 ∷ ty 6 3 2 2 ∷ []);
+    list = (4 ∷ 2 ∷ 5 ∷ 6 ∷ []);
     fields = ([]);
     structs = ([]);
     builtIns = ([]);
-    nodes = (nd 2 10 4 1 ∷ nd 39 0 0 2 ∷ nd 38 0 0 2 ∷ nd 12 0 0 0 ∷ nd 39 0 0 3 ∷ nd 31 20 0 1 ∷ nd 13 1 0 0 ∷ nd 33 0 0 0
-        ∷ nd 31 20 0 1 ∷ nd 13 1 0 0 ∷ nd 33 0 0 0 ∷ []);
+    nodes = (nd 2 10 7 3 ∷ nd 3 20 0 0 ∷ nd 3 21 0 0 ∷ nd 39 0 0 2 ∷ nd 37 0 0 3 ∷ nd 40 0 0 0 ∷ nd 33 0 0 0 ∷ nd 39 0 0 1
+        ∷ nd 30 0 0 2 ∷ nd 15 21 0 0 ∷ nd 15 20 0 0 ∷ nd 33 0 0 0 ∷ []);
   };
-  declarations = (function 10 4 ([]) (block (then (while (literal falsity) (block (then (var 20 (literal (integer 1))) (then
-      returnVoid (then (var 20 (literal (integer 1))) empty))))) (then returnVoid empty))) ∷ []);
+  declarations = (function 10 7 (20 ∷ 21 ∷ []) (block (then (for noVar noCondition (step returnVoid) (block (then (assign
+      (nameTarget 21) (name 20)) empty))) (then returnVoid empty))) ∷ []);
 }
 
-pub refused-14-3 : Answers program-refused-14-3 14 1 7 (65535 ∷ 65535 ∷ 65535 ∷ 65535 ∷ 65535 ∷ 65535 ∷ 65535 ∷ 65535 ∷ 65535
-    ∷ 65535 ∷ 65535 ∷ 65535 ∷ 65535 ∷ 65535 ∷ 65535 ∷ 65535 ∷ 65535 ∷ 65535 ∷ 65535 ∷ 65535 ∷ 65535 ∷ 65535 ∷ [])
-unfolding program-refused-14-3 computed isFile
-refused-14-3 = record { file = is-file widest program-refused-14-3 refl; answer = refl }
+pub refused-14-5 : Answers program-refused-14-5 14 1 6 0 (65535 ∷ 65535 ∷ 65535 ∷ 65535 ∷ 65535 ∷ 65535 ∷ 65535 ∷ 65535 ∷ 65535
+    ∷ 65535 ∷ 65535 ∷ 65535 ∷ 65535 ∷ 65535 ∷ 65535 ∷ 65535 ∷ 65535 ∷ 65535 ∷ 65535 ∷ 65535 ∷ 65535 ∷ 65535 ∷ 65535 ∷ 65535 ∷ [])
+unfolding program-refused-14-5 computed isFile
+refused-14-5 = record { file = is-file widest program-refused-14-5 refl; answer = refl }
 
-pub program-refused-14-4 : Program
-program-refused-14-4 = record {
+pub program-refused-14-6 : Program
+program-refused-14-6 = record {
+  tables = record {
+    types = (ty 0 0 0 0 ∷ ty 1 0 0 0 ∷ ty 2 0 0 0 ∷ ty 3 0 0 0 ∷ ty 7 2 0 0 ∷ ty 6 3 0 1 ∷ ty 6 3 1 1 ∷ ty 6 3 2 2 ∷ []);
+    list = (4 ∷ 2 ∷ 5 ∷ 6 ∷ []);
+    fields = ([]);
+    structs = ([]);
+    builtIns = ([]);
+    nodes = (nd 2 10 7 3 ∷ nd 3 20 0 0 ∷ nd 3 21 0 0 ∷ nd 39 0 0 4 ∷ nd 30 0 0 2 ∷ nd 15 21 0 0 ∷ nd 15 20 0 0 ∷ nd 33 0 0 0
+        ∷ nd 30 0 0 2 ∷ nd 15 21 0 0 ∷ nd 15 20 0 0 ∷ nd 33 0 0 0 ∷ []);
+  };
+  declarations = (function 10 7 (20 ∷ 21 ∷ []) (block (then (assign (nameTarget 21) (name 20)) (then returnVoid (then (assign
+      (nameTarget 21) (name 20)) (then returnVoid empty))))) ∷ []);
+}
+
+pub refused-14-6 : Answers program-refused-14-6 14 1 7 4 (65535 ∷ 65535 ∷ 65535 ∷ 65535 ∷ 65535 ∷ 65535 ∷ 65535 ∷ 65535 ∷ 65535
+    ∷ 65535 ∷ 65535 ∷ 65535 ∷ 65535 ∷ 65535 ∷ 65535 ∷ 65535 ∷ 65535 ∷ 65535 ∷ 65535 ∷ 65535 ∷ 65535 ∷ 65535 ∷ 65535 ∷ 65535 ∷ [])
+unfolding program-refused-14-6 computed isFile
+refused-14-6 = record { file = is-file widest program-refused-14-6 refl; answer = refl }
+
+pub program-refused-14-7 : Program
+program-refused-14-7 = record {
   tables = record {
     types = (ty 0 0 0 0 ∷ ty 1 0 0 0 ∷ ty 2 0 0 0 ∷ ty 3 0 0 0 ∷ ty 6 3 0 0 ∷ ty 6 3 0 1 ∷ ty 6 0 1 0 ∷ ty 6 0 1 1 ∷ ty 7 2 0 0
         ∷ []);
@@ -1651,13 +2319,13 @@ program-refused-14-4 = record {
   declarations = (global 40 (literal truth) ∷ global 41 (literal (integer 1)) ∷ function 10 5 (20 ∷ []) (block empty) ∷ []);
 }
 
-pub refused-14-4 : Answers program-refused-14-4 14 4 4 (65535 ∷ 65535 ∷ 65535 ∷ 65535 ∷ 65535 ∷ 65535 ∷ 65535 ∷ 65535 ∷ 65535
+pub refused-14-7 : Answers program-refused-14-7 14 4 4 0 (65535 ∷ 65535 ∷ 65535 ∷ 65535 ∷ 65535 ∷ 65535 ∷ 65535 ∷ 65535 ∷ 65535
     ∷ 65535 ∷ 65535 ∷ 65535 ∷ 65535 ∷ 65535 ∷ [])
-unfolding program-refused-14-4 computed isFile
-refused-14-4 = record { file = is-file widest program-refused-14-4 refl; answer = refl }
+unfolding program-refused-14-7 computed isFile
+refused-14-7 = record { file = is-file widest program-refused-14-7 refl; answer = refl }
 
-pub program-refused-14-5 : Program
-program-refused-14-5 = record {
+pub program-refused-14-8 : Program
+program-refused-14-8 = record {
   tables = record {
     types = (ty 0 0 0 0 ∷ ty 1 0 0 0 ∷ ty 2 0 0 0 ∷ ty 3 0 0 0 ∷ ty 6 3 0 0 ∷ ty 6 3 0 1 ∷ ty 6 0 1 0 ∷ ty 6 0 1 1 ∷ ty 7 2 0 0
         ∷ []);
@@ -1674,15 +2342,15 @@ program-refused-14-5 = record {
       41) (literal (integer 2))) (then (assign (nameTarget 41) (literal (integer 2))) empty))))) empty)) ∷ []);
 }
 
-pub refused-14-5 : Answers program-refused-14-5 14 4 4 (65535 ∷ 65535 ∷ 65535 ∷ 65535 ∷ 65535 ∷ 65535 ∷ 65535 ∷ 65535 ∷ 65535
+pub refused-14-8 : Answers program-refused-14-8 14 4 4 2 (65535 ∷ 65535 ∷ 65535 ∷ 65535 ∷ 65535 ∷ 65535 ∷ 65535 ∷ 65535 ∷ 65535
     ∷ 65535 ∷ 65535 ∷ 65535 ∷ 65535 ∷ 65535 ∷ 65535 ∷ 65535 ∷ 65535 ∷ 65535 ∷ 65535 ∷ 65535 ∷ 65535 ∷ 65535 ∷ 65535 ∷ 65535
     ∷ 65535 ∷ 65535 ∷ 65535 ∷ 65535 ∷ 65535 ∷ 65535 ∷ 65535 ∷ 65535 ∷ 65535 ∷ 65535 ∷ 65535 ∷ 65535 ∷ 65535 ∷ 65535 ∷ 65535
     ∷ 65535 ∷ 65535 ∷ 65535 ∷ [])
-unfolding program-refused-14-5 computed isFile
-refused-14-5 = record { file = is-file widest program-refused-14-5 refl; answer = refl }
+unfolding program-refused-14-8 computed isFile
+refused-14-8 = record { file = is-file widest program-refused-14-8 refl; answer = refl }
 
-pub program-refused-14-6 : Program
-program-refused-14-6 = record {
+pub program-refused-14-9 : Program
+program-refused-14-9 = record {
   tables = record {
     types = (ty 0 0 0 0 ∷ ty 1 0 0 0 ∷ ty 2 0 0 0 ∷ ty 3 0 0 0 ∷ ty 6 3 0 0 ∷ ty 6 3 0 1 ∷ ty 6 0 1 0 ∷ ty 6 0 1 1 ∷ ty 7 2 0 0
         ∷ []);
@@ -1708,7 +2376,7 @@ program-refused-14-6 = record {
       empty))) empty))) ∷ []);
 }
 
-pub refused-14-6 : Answers program-refused-14-6 14 4 6 (65535 ∷ 65535 ∷ 65535 ∷ 65535 ∷ 65535 ∷ 65535 ∷ 65535 ∷ 65535 ∷ 65535
+pub refused-14-9 : Answers program-refused-14-9 14 4 6 1 (65535 ∷ 65535 ∷ 65535 ∷ 65535 ∷ 65535 ∷ 65535 ∷ 65535 ∷ 65535 ∷ 65535
     ∷ 65535 ∷ 65535 ∷ 65535 ∷ 65535 ∷ 65535 ∷ 65535 ∷ 65535 ∷ 65535 ∷ 65535 ∷ 65535 ∷ 65535 ∷ 65535 ∷ 65535 ∷ 65535 ∷ 65535
     ∷ 65535 ∷ 65535 ∷ 65535 ∷ 65535 ∷ 65535 ∷ 65535 ∷ 65535 ∷ 65535 ∷ 65535 ∷ 65535 ∷ 65535 ∷ 65535 ∷ 65535 ∷ 65535 ∷ 65535
     ∷ 65535 ∷ 65535 ∷ 65535 ∷ 65535 ∷ 65535 ∷ 65535 ∷ 65535 ∷ 65535 ∷ 65535 ∷ 65535 ∷ 65535 ∷ 65535 ∷ 65535 ∷ 65535 ∷ 65535
@@ -1716,11 +2384,40 @@ pub refused-14-6 : Answers program-refused-14-6 14 4 6 (65535 ∷ 65535 ∷ 6553
     ∷ 65535 ∷ 65535 ∷ 65535 ∷ 65535 ∷ 65535 ∷ 65535 ∷ 65535 ∷ 65535 ∷ 65535 ∷ 65535 ∷ 65535 ∷ 65535 ∷ 65535 ∷ 65535 ∷ 65535
     ∷ 65535 ∷ 65535 ∷ 65535 ∷ 65535 ∷ 65535 ∷ 65535 ∷ 65535 ∷ 65535 ∷ 65535 ∷ 65535 ∷ 65535 ∷ 65535 ∷ 65535 ∷ 65535 ∷ 65535
     ∷ 65535 ∷ 65535 ∷ 65535 ∷ [])
-unfolding program-refused-14-6 computed isFile
-refused-14-6 = record { file = is-file widest program-refused-14-6 refl; answer = refl }
+unfolding program-refused-14-9 computed isFile
+refused-14-9 = record { file = is-file widest program-refused-14-9 refl; answer = refl }
 
-pub program-refused-14-7 : Program
-program-refused-14-7 = record {
+pub program-refused-14-10 : Program
+program-refused-14-10 = record {
+  tables = record {
+    types = (ty 0 0 0 0 ∷ ty 1 0 0 0 ∷ ty 2 0 0 0 ∷ ty 3 0 0 0 ∷ ty 6 3 0 0 ∷ ty 6 3 0 1 ∷ ty 6 0 1 0 ∷ ty 6 0 1 1 ∷ ty 7 2 0 0
+        ∷ []);
+    list = (1 ∷ 1 ∷ []);
+    fields = ([]);
+    structs = ([]);
+    builtIns = (bi 50 4 ∷ []);
+    nodes = (nd 1 40 0 1 ∷ nd 11 0 0 0 ∷ nd 1 41 0 1 ∷ nd 13 1 0 0 ∷ nd 2 10 5 2 ∷ nd 3 20 0 0 ∷ nd 39 0 0 2 ∷ nd 37 0 0 3
+        ∷ nd 11 0 0 0 ∷ nd 35 0 0 3 ∷ nd 11 0 0 0 ∷ nd 39 0 0 1 ∷ nd 33 0 0 0 ∷ nd 39 0 0 1 ∷ nd 33 0 0 0 ∷ nd 39 0 0 2
+        ∷ nd 38 0 0 2 ∷ nd 11 0 0 0 ∷ nd 39 0 0 2 ∷ nd 34 0 0 1 ∷ nd 15 50 0 0 ∷ nd 33 0 0 0 ∷ nd 36 100 2 3 ∷ nd 10 0 8 0
+        ∷ nd 39 0 0 1 ∷ nd 38 0 0 2 ∷ nd 11 0 0 0 ∷ nd 39 0 0 0 ∷ nd 39 0 0 1 ∷ nd 33 0 0 0 ∷ nd 33 0 0 0 ∷ []);
+  };
+  declarations = (global 40 (literal truth) ∷ global 41 (literal (integer 1)) ∷ function 10 5 (20 ∷ []) (block (then (for noVar
+      (condition (literal truth)) (step (ifElse (literal truth) (block (then returnVoid empty)) (block (then returnVoid empty))))
+      (block (then (while (literal truth) (block (then (callStmt (name 50) none) (then returnVoid empty)))) (then (ifNull 100 2
+      (null 8) (block (then (while (literal truth) (block empty)) empty)) (block (then returnVoid empty))) empty)))) (then
+      returnVoid empty))) ∷ []);
+}
+
+pub refused-14-10 : Answers program-refused-14-10 14 4 9 0 (65535 ∷ 65535 ∷ 65535 ∷ 65535 ∷ 65535 ∷ 65535 ∷ 65535 ∷ 65535 ∷ 65535
+    ∷ 65535 ∷ 65535 ∷ 65535 ∷ 65535 ∷ 65535 ∷ 65535 ∷ 65535 ∷ 65535 ∷ 65535 ∷ 65535 ∷ 65535 ∷ 65535 ∷ 65535 ∷ 65535 ∷ 65535
+    ∷ 65535 ∷ 65535 ∷ 65535 ∷ 65535 ∷ 65535 ∷ 65535 ∷ 65535 ∷ 65535 ∷ 65535 ∷ 65535 ∷ 65535 ∷ 65535 ∷ 65535 ∷ 65535 ∷ 65535
+    ∷ 65535 ∷ 65535 ∷ 65535 ∷ 65535 ∷ 65535 ∷ 65535 ∷ 65535 ∷ 65535 ∷ 65535 ∷ 65535 ∷ 65535 ∷ 65535 ∷ 65535 ∷ 65535 ∷ 65535
+    ∷ 65535 ∷ 65535 ∷ 65535 ∷ 65535 ∷ 65535 ∷ 65535 ∷ 65535 ∷ 65535 ∷ [])
+unfolding program-refused-14-10 computed isFile
+refused-14-10 = record { file = is-file widest program-refused-14-10 refl; answer = refl }
+
+pub program-refused-14-11 : Program
+program-refused-14-11 = record {
   tables = record {
     types = (ty 0 0 0 0 ∷ ty 1 0 0 0 ∷ ty 2 0 0 0 ∷ ty 3 0 0 0 ∷ ty 6 3 0 0 ∷ ty 6 3 0 1 ∷ ty 6 0 1 0 ∷ ty 6 0 1 1 ∷ ty 7 2 0 0
         ∷ []);
@@ -1739,15 +2436,15 @@ program-refused-14-7 = record {
       (literal (integer 1))) empty)))) (then (returnValue (literal (integer 1))) empty))) ∷ []);
 }
 
-pub refused-14-7 : Answers program-refused-14-7 14 4 12 (65535 ∷ 65535 ∷ 65535 ∷ 65535 ∷ 65535 ∷ 65535 ∷ 65535 ∷ 65535 ∷ 65535
+pub refused-14-11 : Answers program-refused-14-11 14 4 12 1 (65535 ∷ 65535 ∷ 65535 ∷ 65535 ∷ 65535 ∷ 65535 ∷ 65535 ∷ 65535 ∷ 65535
     ∷ 65535 ∷ 65535 ∷ 65535 ∷ 65535 ∷ 65535 ∷ 65535 ∷ 65535 ∷ 65535 ∷ 65535 ∷ 65535 ∷ 65535 ∷ 65535 ∷ 65535 ∷ 65535 ∷ 65535
     ∷ 65535 ∷ 65535 ∷ 65535 ∷ 65535 ∷ 65535 ∷ 65535 ∷ 65535 ∷ 65535 ∷ 65535 ∷ 65535 ∷ 65535 ∷ 65535 ∷ 65535 ∷ 65535 ∷ 65535
     ∷ 65535 ∷ 65535 ∷ 65535 ∷ 65535 ∷ 65535 ∷ 65535 ∷ 65535 ∷ 65535 ∷ 65535 ∷ 65535 ∷ 65535 ∷ 65535 ∷ 65535 ∷ [])
-unfolding program-refused-14-7 computed isFile
-refused-14-7 = record { file = is-file widest program-refused-14-7 refl; answer = refl }
+unfolding program-refused-14-11 computed isFile
+refused-14-11 = record { file = is-file widest program-refused-14-11 refl; answer = refl }
 
-pub program-refused-14-8 : Program
-program-refused-14-8 = record {
+pub program-refused-14-12 : Program
+program-refused-14-12 = record {
   tables = record {
     types = (ty 0 0 0 0 ∷ ty 1 0 0 0 ∷ ty 2 0 0 0 ∷ ty 3 0 0 0 ∷ ty 6 3 0 0 ∷ ty 6 3 0 1 ∷ ty 6 0 1 0 ∷ ty 6 0 1 1 ∷ ty 7 2 0 0
         ∷ []);
@@ -1765,15 +2462,15 @@ program-refused-14-8 = record {
       empty))))) ∷ []);
 }
 
-pub refused-14-8 : Answers program-refused-14-8 14 4 15 (65535 ∷ 65535 ∷ 65535 ∷ 65535 ∷ 65535 ∷ 65535 ∷ 65535 ∷ 65535 ∷ 65535
+pub refused-14-12 : Answers program-refused-14-12 14 4 15 0 (65535 ∷ 65535 ∷ 65535 ∷ 65535 ∷ 65535 ∷ 65535 ∷ 65535 ∷ 65535 ∷ 65535
     ∷ 65535 ∷ 65535 ∷ 65535 ∷ 65535 ∷ 65535 ∷ 65535 ∷ 65535 ∷ 65535 ∷ 65535 ∷ 65535 ∷ 65535 ∷ 65535 ∷ 65535 ∷ 65535 ∷ 65535
     ∷ 65535 ∷ 65535 ∷ 65535 ∷ 65535 ∷ 65535 ∷ 65535 ∷ 65535 ∷ 65535 ∷ 65535 ∷ 65535 ∷ 65535 ∷ 65535 ∷ 65535 ∷ 65535 ∷ 65535
     ∷ 65535 ∷ 65535 ∷ 65535 ∷ 65535 ∷ 65535 ∷ 65535 ∷ 65535 ∷ [])
-unfolding program-refused-14-8 computed isFile
-refused-14-8 = record { file = is-file widest program-refused-14-8 refl; answer = refl }
+unfolding program-refused-14-12 computed isFile
+refused-14-12 = record { file = is-file widest program-refused-14-12 refl; answer = refl }
 
-pub program-refused-14-9 : Program
-program-refused-14-9 = record {
+pub program-refused-14-13 : Program
+program-refused-14-13 = record {
   tables = record {
     types = (ty 0 0 0 0 ∷ ty 1 0 0 0 ∷ ty 2 0 0 0 ∷ ty 3 0 0 0 ∷ ty 6 3 0 0 ∷ ty 6 3 0 1 ∷ ty 6 0 1 0 ∷ ty 6 0 1 1 ∷ ty 7 2 0 0
         ∷ []);
@@ -1790,15 +2487,15 @@ program-refused-14-9 = record {
       empty)) (block (then returnVoid empty))) (then returnVoid empty)))) ∷ function 11 5 (20 ∷ []) (block empty) ∷ []);
 }
 
-pub refused-14-9 : Answers program-refused-14-9 14 5 9 (65535 ∷ 65535 ∷ 65535 ∷ 65535 ∷ 65535 ∷ 65535 ∷ 65535 ∷ 65535 ∷ 65535
+pub refused-14-13 : Answers program-refused-14-13 14 5 9 2 (65535 ∷ 65535 ∷ 65535 ∷ 65535 ∷ 65535 ∷ 65535 ∷ 65535 ∷ 65535 ∷ 65535
     ∷ 65535 ∷ 65535 ∷ 65535 ∷ 65535 ∷ 65535 ∷ 65535 ∷ 65535 ∷ 65535 ∷ 65535 ∷ 65535 ∷ 65535 ∷ 65535 ∷ 65535 ∷ 65535 ∷ 65535
     ∷ 65535 ∷ 65535 ∷ 65535 ∷ 65535 ∷ 65535 ∷ 65535 ∷ 65535 ∷ 65535 ∷ 65535 ∷ 65535 ∷ 65535 ∷ 65535 ∷ 65535 ∷ 65535 ∷ 65535
     ∷ 65535 ∷ 65535 ∷ 65535 ∷ [])
-unfolding program-refused-14-9 computed isFile
-refused-14-9 = record { file = is-file widest program-refused-14-9 refl; answer = refl }
+unfolding program-refused-14-13 computed isFile
+refused-14-13 = record { file = is-file widest program-refused-14-13 refl; answer = refl }
 
-pub program-refused-14-10 : Program
-program-refused-14-10 = record {
+pub program-refused-14-14 : Program
+program-refused-14-14 = record {
   tables = record {
     types = (ty 0 0 0 0 ∷ ty 1 0 0 0 ∷ ty 2 0 0 0 ∷ ty 3 0 0 0 ∷ ty 4 0 0 0 ∷ ty 4 1 0 0 ∷ ty 4 77 0 0 ∷ ty 5 0 0 0 ∷ ty 5 4 0 0
         ∷ ty 5 2 0 0 ∷ ty 7 4 0 0 ∷ ty 7 6 0 0 ∷ ty 5 6 0 0 ∷ ty 6 3 0 0 ∷ ty 6 0 0 1 ∷ ty 6 3 1 1 ∷ ty 5 4 0 0 ∷ ty 5 8 0 0
@@ -1823,37 +2520,55 @@ program-refused-14-10 = record {
       (arrayLiteral 9 (also (literal (text 3)) none)) ∷ global 42 (structLiteral 5 (init 0 (literal (text 4)) noInit)) ∷ []);
 }
 
-pub refused-14-10 : Answers program-refused-14-10 14 12 24 (65535 ∷ 65535 ∷ 65535 ∷ 65535 ∷ 65535 ∷ 65535 ∷ 65535 ∷ 65535 ∷ 65535
+pub refused-14-14 : Answers program-refused-14-14 14 12 24 32 (65535 ∷ 65535 ∷ 65535 ∷ 65535 ∷ 65535 ∷ 65535 ∷ 65535 ∷ 65535
     ∷ 65535 ∷ 65535 ∷ 65535 ∷ 65535 ∷ 65535 ∷ 65535 ∷ 65535 ∷ 65535 ∷ 65535 ∷ 65535 ∷ 65535 ∷ 65535 ∷ 65535 ∷ 65535 ∷ 65535
     ∷ 65535 ∷ 65535 ∷ 65535 ∷ 65535 ∷ 65535 ∷ 65535 ∷ 65535 ∷ 65535 ∷ 65535 ∷ 65535 ∷ 65535 ∷ 65535 ∷ 65535 ∷ 65535 ∷ 65535
     ∷ 65535 ∷ 65535 ∷ 65535 ∷ 65535 ∷ 65535 ∷ 65535 ∷ 65535 ∷ 65535 ∷ 65535 ∷ 65535 ∷ 65535 ∷ 65535 ∷ 65535 ∷ 65535 ∷ 65535
     ∷ 65535 ∷ 65535 ∷ 65535 ∷ 65535 ∷ 65535 ∷ 65535 ∷ 65535 ∷ 65535 ∷ 65535 ∷ 65535 ∷ 65535 ∷ 65535 ∷ 65535 ∷ 65535 ∷ 65535
     ∷ 65535 ∷ 65535 ∷ 65535 ∷ 65535 ∷ 65535 ∷ 65535 ∷ 65535 ∷ 65535 ∷ 65535 ∷ 65535 ∷ 65535 ∷ 65535 ∷ 65535 ∷ 65535 ∷ 65535
-    ∷ 65535 ∷ 65535 ∷ 65535 ∷ 65535 ∷ 65535 ∷ 65535 ∷ [])
-unfolding program-refused-14-10 computed isFile
-refused-14-10 = record { file = is-file widest program-refused-14-10 refl; answer = refl }
+    ∷ 65535 ∷ 65535 ∷ 65535 ∷ 65535 ∷ 65535 ∷ 65535 ∷ 65535 ∷ [])
+unfolding program-refused-14-14 computed isFile
+refused-14-14 = record { file = is-file widest program-refused-14-14 refl; answer = refl }
 
 pub program-refused-15-1 : Program
 program-refused-15-1 = record {
   tables = record {
-    types = (ty 0 0 0 0 ∷ ty 1 0 0 0 ∷ ty 2 0 0 0 ∷ ty 3 0 0 0 ∷ ty 6 3 0 0 ∷ ty 6 0 0 0 ∷ ty 6 0 0 1 ∷ ty 6 3 1 2 ∷ ty 7 2 0 0
-        ∷ ty 5 0 0 0 ∷ ty 5 9 0 0 ∷ ty 7 9 0 0 ∷ ty 5 1 0 0 ∷ ty 6 3 3 1 ∷ ty 6 9 4 1 ∷ ty 4 9 0 0 ∷ ty 7 15 0 0 ∷ ty 5 15 0 0
-        ∷ []);
-    list = (0 ∷ 0 ∷ 0 ∷ 8 ∷ 9 ∷ []);
+    types = (ty 0 0 0 0 ∷ ty 1 0 0 0 ∷ ty 2 0 0 0 ∷ ty 3 0 0 0 ∷ ty 7 2 0 0 ∷ ty 6 3 0 1 ∷ ty 6 3 1 1 ∷ ty 6 3 2 2 ∷ []);
+    list = (4 ∷ 2 ∷ 5 ∷ 6 ∷ []);
     fields = ([]);
     structs = ([]);
     builtIns = ([]);
-    nodes = (nd 2 10 4 1 ∷ nd 39 0 0 2 ∷ nd 37 0 0 3 ∷ nd 40 0 0 0 ∷ nd 30 0 0 2 ∷ nd 15 10 0 0 ∷ nd 13 1 0 0 ∷ nd 39 0 0 0
-        ∷ nd 33 0 0 0 ∷ []);
+    nodes = (nd 2 10 7 3 ∷ nd 3 20 0 0 ∷ nd 3 21 0 0 ∷ nd 39 0 0 2 ∷ nd 30 0 0 2 ∷ nd 15 10 0 0 ∷ nd 26 10 0 2 ∷ nd 15 20 0 0
+        ∷ nd 15 20 0 0 ∷ nd 33 0 0 0 ∷ []);
   };
-  declarations = (function 10 4 ([]) (block (then (for noVar noCondition (step (assign (nameTarget 10) (literal (integer 1))))
-      (block empty)) (then returnVoid empty))) ∷ []);
+  declarations = (function 10 7 (20 ∷ 21 ∷ []) (block (then (assign (nameTarget 10) (binary 10 (name 20) (name 20))) (then
+      returnVoid empty))) ∷ []);
 }
 
-pub refused-15-1 : Answers program-refused-15-1 15 1 4 (65535 ∷ 65535 ∷ 65535 ∷ 65535 ∷ 65535 ∷ 65535 ∷ 65535 ∷ 65535 ∷ 65535
-    ∷ 65535 ∷ 65535 ∷ 65535 ∷ 65535 ∷ 65535 ∷ 65535 ∷ 65535 ∷ 65535 ∷ 65535 ∷ [])
+pub refused-15-1 : Answers program-refused-15-1 15 1 4 0 (65535 ∷ 65535 ∷ 65535 ∷ 65535 ∷ 65535 ∷ 65535 ∷ 65535 ∷ 65535 ∷ 65535
+    ∷ 65535 ∷ 65535 ∷ 65535 ∷ 65535 ∷ 65535 ∷ 65535 ∷ 65535 ∷ 65535 ∷ 65535 ∷ 65535 ∷ 65535 ∷ [])
 unfolding program-refused-15-1 computed isFile
 refused-15-1 = record { file = is-file widest program-refused-15-1 refl; answer = refl }
+
+pub program-refused-15-2 : Program
+program-refused-15-2 = record {
+  tables = record {
+    types = (ty 0 0 0 0 ∷ ty 1 0 0 0 ∷ ty 2 0 0 0 ∷ ty 3 0 0 0 ∷ ty 7 2 0 0 ∷ ty 6 3 0 1 ∷ ty 6 3 1 1 ∷ ty 6 3 2 2 ∷ []);
+    list = (4 ∷ 2 ∷ 5 ∷ 6 ∷ []);
+    fields = ([]);
+    structs = ([]);
+    builtIns = ([]);
+    nodes = (nd 2 10 7 3 ∷ nd 3 20 0 0 ∷ nd 3 21 0 0 ∷ nd 39 0 0 3 ∷ nd 30 0 0 2 ∷ nd 15 21 0 0 ∷ nd 15 20 0 0 ∷ nd 30 0 0 2
+        ∷ nd 15 10 0 0 ∷ nd 15 21 0 0 ∷ nd 33 0 0 0 ∷ []);
+  };
+  declarations = (function 10 7 (20 ∷ 21 ∷ []) (block (then (assign (nameTarget 21) (name 20)) (then (assign (nameTarget 10) (name
+      21)) (then returnVoid empty)))) ∷ []);
+}
+
+pub refused-15-2 : Answers program-refused-15-2 15 1 7 4 (65535 ∷ 65535 ∷ 65535 ∷ 65535 ∷ 65535 ∷ 65535 ∷ 65535 ∷ 65535 ∷ 65535
+    ∷ 65535 ∷ 65535 ∷ 65535 ∷ 65535 ∷ 65535 ∷ 65535 ∷ 65535 ∷ 65535 ∷ 65535 ∷ 65535 ∷ 65535 ∷ 65535 ∷ 65535 ∷ [])
+unfolding program-refused-15-2 computed isFile
+refused-15-2 = record { file = is-file widest program-refused-15-2 refl; answer = refl }
 
 pub program-refused-16-1 : Program
 program-refused-16-1 = record {
@@ -1873,7 +2588,28 @@ program-refused-16-1 = record {
       ∷ []);
 }
 
-pub refused-16-1 : Answers program-refused-16-1 16 1 3 (65535 ∷ 65535 ∷ 65535 ∷ 65535 ∷ 65535 ∷ 65535 ∷ 65535 ∷ 65535 ∷ 65535
+pub refused-16-1 : Answers program-refused-16-1 16 1 3 0 (65535 ∷ 65535 ∷ 65535 ∷ 65535 ∷ 65535 ∷ 65535 ∷ 65535 ∷ 65535 ∷ 65535
     ∷ 65535 ∷ 65535 ∷ 65535 ∷ [])
 unfolding program-refused-16-1 computed isFile
 refused-16-1 = record { file = is-file widest program-refused-16-1 refl; answer = refl }
+
+pub program-refused-16-2 : Program
+program-refused-16-2 = record {
+  tables = record {
+    types = (ty 0 0 0 0 ∷ ty 1 0 0 0 ∷ ty 2 0 0 0 ∷ ty 3 0 0 0 ∷ ty 5 2 0 0 ∷ ty 7 2 0 0 ∷ ty 6 3 0 1 ∷ ty 6 3 1 1 ∷ ty 6 3 2 2
+        ∷ []);
+    list = (5 ∷ 2 ∷ 6 ∷ 7 ∷ []);
+    fields = ([]);
+    structs = ([]);
+    builtIns = ([]);
+    nodes = (nd 2 10 8 3 ∷ nd 3 20 0 0 ∷ nd 3 21 0 0 ∷ nd 39 0 0 3 ∷ nd 30 0 0 2 ∷ nd 15 21 0 0 ∷ nd 15 20 0 0 ∷ nd 31 31 0 1
+        ∷ nd 17 0 4 1 ∷ nd 13 1 0 0 ∷ nd 33 0 0 0 ∷ []);
+  };
+  declarations = (function 10 8 (20 ∷ 21 ∷ []) (block (then (assign (nameTarget 21) (name 20)) (then (var 31 (defaultArray 4
+      (literal (integer 1)))) (then returnVoid empty)))) ∷ []);
+}
+
+pub refused-16-2 : Answers program-refused-16-2 16 1 8 4 (65535 ∷ 65535 ∷ 65535 ∷ 65535 ∷ 65535 ∷ 65535 ∷ 65535 ∷ 65535 ∷ 65535
+    ∷ 65535 ∷ 65535 ∷ 65535 ∷ 65535 ∷ 65535 ∷ 65535 ∷ 65535 ∷ 65535 ∷ 65535 ∷ 65535 ∷ 65535 ∷ 65535 ∷ 65535 ∷ [])
+unfolding program-refused-16-2 computed isFile
+refused-16-2 = record { file = is-file widest program-refused-16-2 refl; answer = refl }

@@ -19,7 +19,7 @@ use Rattle.typing_rules.specs.Contexts.{Scope, binds, isFresh, Context, 
 use Rattle.typing_rules.specs.Labels.{gives, marks, Label, Labels, unlabelled}
 use Rattle.typing_rules.specs.Rules.{ExprRule, StmtRule, BlockRule, Typed, Marked, Ends, TypedAll, both, VarsChain, ConditionHolds, StepGoesOn, Chain, typ-assn, typ-decl, typ-rett, typ-retvoid, typ-scall, typ-if, typ-ifq, typ-while, typ-for, typ-block, whileMark}
 use Rattle.typing_rules.specs.Derivations.{At, Node, expression, statement, blocked, AtVars, at-var, in-var, in-vars, AtCondition, in-condition, InStmt, in-target, in-assigned, in-initial, in-returned, in-called, in-passed, in-test, in-then, in-else, in-nullable, in-some, in-null, in-for-vars, in-for-condition, in-for-step, in-for-body, in-while-test, in-while-body, AtStep, at-step, in-step, AtBlock, here-block, in-block, AtStmts, at-stmt, in-stmt, in-stmts, RuleAt, DerivesBlock, isEmpty}
-use Rattle.typing_rules.specs.Judge.{ok, markedAs, isKind, referred, isBelow, argumentsBelow, done, ends, executeVars, judgeCondition, execute, executeStep, executeBlock, executeAll}
+use Rattle.typing_rules.specs.Judge.{ok, markedAs, isKind, referred, isBelow, argumentsBelow, done, ends, executeVars, judgeCondition, execute, executeStep, executeBlock, executeAll, executing, executingAll, executingVars, judgingCondition}
 use Rattle.typing_rules.proofs.Claims.{File, Value, ScopeFits, fits-bind, ContextFits, eraseScope, eraseContext, eraseLabel, erase, gatherVars, gatherCondition, gatherStmt, gatherStep, gatherBlock, gatherStmts, eraseBindings}
 use Rattle.typing_rules.proofs.LawsBridge.{fresh-erase, assigns-erase, is-base, is-void, function-parts, nullable-parts, below-sub, arguments-below, arguments-many, typesOf, Values, erase-append}
 use Rattle.typing_rules.proofs.LawsExecute.{vars-ok, condition-ok, assign-ok, var-ok, return-ok, return-void-ok, call-ok, if-ok, if-null-ok, for-ok, while-ok, step-ok, block-ok, then-ok}
@@ -305,7 +305,7 @@ module _ (T : Tables) (F : File T) (C : Context ℕ) (D : Labels Ty) (rt n : ℕ
 
 module _ (T : Tables) (C : Context ℕ) (D : Labels Ty) (rt n : ℕ) (Γ : Scope ℕ) where
   no-step : D n ≡ unlabelled → AcceptedStep T C D rt noStep n Γ
-  unfolding gatherStep execute
+  unfolding gatherStep executing
   no-step z = record { labels = unlabelled ∷ []; accepts = refl; same = same-unlabelled T D n z }
 
   step-case : (s : Stmt) → Marked D n (eraseScope T Γ) 0 → AcceptedStmt T C D rt false s n Γ → AcceptedStep T C D rt (step s) n Γ
@@ -317,7 +317,7 @@ module _ (T : Tables) (C : Context ℕ) (D : Labels Ty) (rt n : ℕ) (Γ : Scope
   }
 
   no-stmts : (previous p q : ℕ) → q ≡ p → AcceptedStmts T C D rt empty n previous p Γ q
-  unfolding gatherStmts executeAll erase
+  unfolding gatherStmts executingAll erase
   no-stmts previous p q z = record { labels = []; accepts = rw z; same = refl }
 
   -- the statements after the first, which go on from its mark and the scope after it
@@ -375,7 +375,7 @@ module _ (T : Tables) (F : File T) (C : Context ℕ) (f : ContextFits T C) (D : 
   complete-condition : (c : Condition) (m n : ℕ) (Γ : Scope ℕ) → ScopeFits T Γ → ConditionStands T m c
       → ((i : ℕ) (u : Node) → AtCondition c m i u → RuleAt T (eraseContext T C) D rt i u) → ConditionHolds D m (eraseScope T Γ) c
       → AcceptedCondition T C D c m n Γ
-  unfolding ConditionHolds judgeCondition gatherCondition
+  unfolding ConditionHolds judgingCondition gatherCondition
   complete-condition noCondition m n Γ g s d h = record { labels = unlabelled ∷ []; accepts = refl; same = same-unlabelled T D m h }
   complete-condition (condition a) m n Γ g s d h =
       condition-case T F C D a m n Γ h (complete T F C f D a m Γ g s (record { rule = λ i u w. d i (expression u) (in-condition w) }) (h .scope))
@@ -383,7 +383,7 @@ module _ (T : Tables) (F : File T) (C : Context ℕ) (f : ContextFits T C) (D : 
   complete-vars : (vs : Vars) (n : ℕ) (Γ : Scope ℕ) (Δ : Scope Ty) → ScopeFits T Γ → VarsStand T n vs
       → ((m : ℕ) (u : Node) → AtVars vs n m u → RuleAt T (eraseContext T C) D rt m u) → VarsChain D n vs (eraseScope T Γ) Δ
       → AcceptedVars T C D vs n Γ Δ
-  unfolding VarsChain executeVars gatherVars erase
+  unfolding VarsChain executingVars gatherVars erase
   complete-vars noVar n Γ Δ g s d c = record { scope = Γ; labels = []; accepts = refl; after = c; fits = g; same = refl }
   complete-vars (nextVar x a vs) n Γ Δ g s d c =
       next-case T F C D x a vs n Γ Δ rt g c (d n (statement false (var x a)) at-var)

@@ -15,17 +15,18 @@ use Rattle.oat.specs.TypeRules.{kindAt, isReferenceKind}
 use Rattle.oat.specs.Types.{Ty, int, bool, string, void, struct, array, function, nullable, Tys, noTy, andTy, writtenParams, written, typeOf, Field, Struct, structOf, found, lookup, structsOf}
 use Rattle.oat.specs.Subtyping.{Sub, sub-subret-rttyp, SubAll, sub-none, sub-also, Formed, wf-typok-ref, wf-typok-refq, wf-rtypok-typ}
 use Rattle.oat.specs.Decide.{kindOf, below, isFormed}
+use Rattle.oat.specs.Pairs.{lengthTys}
 use Rattle.oat.specs.Syntax.{Expr, Inits, noInit, init, countInits, Target, nameTarget, indexTarget, fieldTarget}
 use Rattle.oat.proofs.LawsWritten.{type-int, type-bool, type-string, type-void, type-struct, type-array, type-function, type-nullable}
 use Rattle.oat.proofs.LawsSame.{iff-then, and-says, never}
 use Rattle.oat.proofs.LawsSubtyping.{isRef, not-void, ret-left, below-is}
-use Rattle.oat.proofs.LawsBelow.{howMany, params-many}
+use Rattle.oat.proofs.LawsWritten.{params-many}
 use Rattle.oat.proofs.LawsFormed.{nullable-formed, ref-formed, value-formed, formed-is}
 use Rattle.typing_rules.specs.Contexts.{Bindings, unbound, bind, Scope, Hit, hit, miss, nearest, find, isMiss, isFreshAt, isFresh, Entry, Context, findName, isFixed}
 use Rattle.typing_rules.specs.Operators.{baseType}
 use Rattle.typing_rules.specs.Labels.{Label, Labels}
 use Rattle.typing_rules.specs.Rules.{SubEach, each-none, each-also, HasDefault, default-int, default-bool, default-null, Member, has, lacks, member, InitsBelow, below-noInit, below-init, namesFit, assigns}
-use Rattle.typing_rules.specs.Judge.{isKind, referred, isBelow, formed, hasDefault, eachBelow, argumentsBelow, number, fieldOf, isBelowMember, initsBelow, assignsTo}
+use Rattle.typing_rules.specs.Judge.{isKind, referred, isBelow, formed, hasDefault, eachBelow, argumentsBelow, number, fieldOf, isBelowMember, initsBelow, assignsTo, argumentsAsked, eachAsked, initsAsked}
 use Rattle.typing_rules.proofs.Claims.{File, Value, BindingsFit, ScopeFits, fits-empty, fits-bind, NamesFit, fits-none, fits-name, ContextFits, eraseBindings, eraseScope, eraseNames, eraseContext, eraseLabel, erase, Holds}
 use Rattle.typing_rules.proofs.LawsFields.{memberOf, memberIn, member-is, from-lookup, from-number, number-value}
 
@@ -286,10 +287,10 @@ module _ {H : List Struct} where
   all-parts (sub-also s r) = (s, r)
 
   -- types that are matched are of equal number
-  same-many : {ts us : Tys} → SubAll H ts us → howMany ts ≡ howMany us
-  unfolding howMany
+  same-many : {ts us : Tys} → SubAll H ts us → lengthTys ts ≡ lengthTys us
+  unfolding lengthTys
   same-many sub-none = refl
-  same-many (sub-also s r) = ap suc (same-many r)
+  same-many (sub-also s r) = ap (λ n. 1 + n) (same-many r)
 
   init-parts : {fs : List Field} {x : ℕ} {a : Expr} {is : Inits} {t : Ty} {ts : Tys} → InitsBelow H fs (init x a is) (andTy t ts)
       → ((u : Ty) × (member x fs ≡ has u) × Sub H t u) × InitsBelow H fs is ts
@@ -301,10 +302,10 @@ module _ {H : List Struct} where
       iff-then (formed-is H (nullable r))
       (λ h. wf-typok-ref (nullable-formed (value-formed refl h)), λ h. wf-rtypok-typ (wf-typok-refq (ref-formed k h)))
 
-types-many : (T : Tables) (ts : List ℕ) → howMany (typesOf T ts) ≡ length ts
-unfolding howMany typesOf
+types-many : (T : Tables) (ts : List ℕ) → lengthTys (typesOf T ts) ≡ length ts
+unfolding lengthTys typesOf
 types-many T [] = refl
-types-many T (t ∷ ts) = ap suc (types-many T ts)
+types-many T (t ∷ ts) = omega (arith, types-many T ts)
 
 -- subtyping and well-formedness of values
 module _ (T : Tables) (F : File T) (C : Context ℕ) where
@@ -331,7 +332,7 @@ module _ (T : Tables) (F : File T) (C : Context ℕ) where
 
   pub each-below : (ts : List ℕ) (u : ℕ) → Values T ts → Value T u
       → (eachBelow T C ts u ≡ true) ↔ SubEach (C .structs) (typeOf T u) (typesOf T ts)
-  unfolding eachBelow typesOf
+  unfolding eachAsked typesOf
   each-below [] u values-none w = holds each-none
   each-below (t ∷ ts) u (values-also v vs) w =
       iff-then (and-says (isBelow T C t u) (eachBelow T C ts u) (below-sub t u v w) (each-below ts u vs w))
@@ -340,7 +341,7 @@ module _ (T : Tables) (F : File T) (C : Context ℕ) where
   -- `c` parameters from the entry p on
   params-below : (ts : List ℕ) (p c : ℕ) → Values T ts → length ts ≡ c
       → (argumentsBelow T C ts p ≡ true) ↔ SubAll (C .structs) (typesOf T ts) (writtenParams (typeOf T) T p c)
-  unfolding argumentsBelow typesOf writtenParams
+  unfolding argumentsAsked typesOf writtenParams
   params-below [] p zero values-none l = holds sub-none
   params-below [] p (suc c) values-none l = absurd (omega arith)
   params-below (t ∷ ts) p zero (values-also v vs) l = absurd (omega arith)
@@ -368,7 +369,7 @@ module _ (T : Tables) (F : File T) (C : Context ℕ) where
 
   each-init : (fs : List Field) (is : Inits) (ts : List ℕ) → Values T ts → length ts ≡ countInits is
       → (initsBelow T C fs is ts ≡ true) ↔ InitsBelow (C .structs) fs is (typesOf T ts)
-  unfolding initsBelow typesOf
+  unfolding initsAsked typesOf
   each-init fs noInit [] values-none l = holds below-noInit
   each-init fs noInit (t ∷ ts) (values-also v vs) l = absurd (omega arith)
   each-init fs (init x a is) [] values-none l = absurd (omega arith)

@@ -14,22 +14,23 @@ use Rattle.oat.specs.Types.{writtenParams, written, firstTypes, typeOf, structO
 use Rattle.oat.specs.TypeRules.{isReferenceKind, isLowerValue, paramCount, takenBefore, unusedBC, baseRule, arrayRule, paramsRight, functionRule, nullableRule, typeRule, partsOf, firstParts, partsAt, eachTypeRight, typesRight}
 use Rattle.oat.specs.TableRules.{fieldRule, fieldsBefore, structRule, structsRight, hasKind, builtInRule, tablesRight}
 use Rattle.oat.specs.Decide.{sameTy, beginsWith, structBelow, tests, below, forms, isFormed}
+use Rattle.oat.specs.Pairs.{lengthTys, compareSame, comparison, compare}
 use Rattle.oat.specs.Syntax.{Literal, truth, falsity, integer, text, Expr, null, literal, name, arrayLiteral, defaultArray, arrayWith, index, lengthOf, structLiteral, field, call, unary, binary, Exprs, none, also, Inits, noInit, init, targetExpr, Vars, noVar, nextVar, Condition, noCondition, condition, Stmt, assign, var, returnValue, returnVoid, callStmt, ifElse, ifNull, for, while, Step, noStep, step, Block, block, Stmts, empty, then, Decl, global, function, size, sizeTarget, sizeVars, sizeCondition, sizeStep, sizeBlock, sizeStmt, sizeDecl, sizeDecls, count, countInits, countVars, countStmts, depthDecls, isConstant}
 use Rattle.oat.specs.Nodes.{Node, hasReferenceKind, LiteralStands, Stands, StandAll, InitsStand, VarsStand, ConditionStands, StmtStands, StepStands, BlockStands, StmtsStand, ParametersStand, DeclStands, DeclsStand}
 use Rattle.oat.specs.ProgramFile.{Limits, Program, Counts, IsFile}
 use Rattle.oat.proofs.LawsBlank.{meant-file}
 use Rattle.typing_rules.specs.Contexts.{nearest, isFreshAt, findName, isFixed}
 use Rattle.typing_rules.specs.Rules.{namesFit, eachOnce, namedTimes, declaredTimes, member}
-use Rattle.typing_rules.specs.Judge.{eachBelow, argumentsBelow, fieldAmong, fieldOf, initsBelow, judge, executeVars, judgeCondition, execute, assignsTo}
+use Rattle.typing_rules.specs.Judge.{eachAsked, argumentsAsked, fieldAmong, fieldOf, initsAsked, assignsTo, executing, executingVars, judging, judgingCondition}
 use Rattle.typing_rules.specs.Steps.{headings, globals, bodies, stepsOf, hasField, distinctFields, isAmong, distinctNames, parameters}
-use Rattle.typing_rules.specs.Check.{fieldsFormed, runStep, rowsOf, parameterRows, stepRows, rowsBegin, run, segmentAt, rowsFrom, Answer, checkOf}
+use Rattle.typing_rules.specs.Check.{fieldsFormed, rowsOf, parameterRows, stepRows, rowsBegin, run, runPairs, segmentAt, rowsFrom, Answer, checkOf, stepping}
 
 -- to unfold this is to unfold all that the definition of the check computes with
 unfoldable pub computed : Program → Answer
-unfolding checkOf stepsOf tabulate headings globals bodies run runStep judge execute executeVars judgeCondition findName isFixed stepRows rowsOf
+unfolding checkOf stepsOf tabulate headings globals bodies run stepping judging executing executingVars judgingCondition findName isFixed stepRows rowsOf
     rowsBegin segmentAt rowsFrom nearest isFreshAt typeOf written writtenParams firstTypes structOf lookup below tests sameTy beginsWith structBelow
-    forms isFormed eachBelow argumentsBelow fieldAmong fieldOf initsBelow namesFit eachOnce namedTimes declaredTimes member assignsTo hasField
-    distinctFields isAmong distinctNames parameters fieldsFormed parameterRows
+    forms isFormed compare comparison compareSame lengthTys eachAsked argumentsAsked fieldAmong fieldOf initsAsked namesFit eachOnce namedTimes declaredTimes member assignsTo hasField
+    distinctFields isAmong distinctNames parameters fieldsFormed parameterRows runPairs
 computed p = checkOf p
 
 pub data Trial (A : Type 0) : Type 0 where

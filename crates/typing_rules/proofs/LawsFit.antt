@@ -14,7 +14,7 @@ use Rattle.typing_rules.specs.Contexts.{Scope, binds, find, Context, fin
 use Rattle.typing_rules.specs.Labels.{Label}
 use Rattle.typing_rules.specs.Operators.{isEquality, operandType, unaryType}
 use Rattle.typing_rules.specs.Rules.{namesFit}
-use Rattle.typing_rules.specs.Judge.{ok, typedAs, isKind, referred, isBelow, formed, hasDefault, eachBelow, argumentsBelow, fieldOf, initsBelow, judge, judges, judgeInits}
+use Rattle.typing_rules.specs.Judge.{ok, typedAs, isKind, referred, isBelow, formed, hasDefault, eachBelow, argumentsBelow, fieldOf, initsBelow, judge, judges, judgeInits, judging}
 use Rattle.typing_rules.proofs.Claims.{File, Value, ScopeFits, fits-bind, ContextFits}
 use Rattle.typing_rules.proofs.LawsBridge.{base-value}
 use Rattle.typing_rules.proofs.LawsOutcome.{ok-is, then-ok, needs-ok, declared-ok, named-ok, field-ok}
@@ -34,7 +34,7 @@ module _ {T : Tables} (F : File T) {C : Context ℕ} (f : ContextFits T C) where
   whole e n Γ g s t a L j = fit-tail (sound T F C f e n Γ a L g s j .value) (t a L j)
 
   mutual
-    unfolding judge
+    unfolding judging
 
     expr-tail : (e : Expr) (n : ℕ) (Γ : Scope ℕ) → ScopeFits T Γ → Stands T n e → (a : ℕ) (L : List (Label ℕ)) → judge T C e n Γ ≡ ok a L → Tail T a L
     expr-tail (null t) n Γ g s a L j = needs-ok (formed T C t) _ _ _ j λ q k. ok-is (Tail T) k (tail fit-none)

@@ -10,7 +10,7 @@ use Rattle.oat.specs.Nodes.{VarsStand, ConditionStands, StmtStands, StepStands,
 use Rattle.typing_rules.specs.Contexts.{Scope, binds, isFresh, Context, inner}
 use Rattle.typing_rules.specs.Labels.{Label}
 use Rattle.typing_rules.specs.Derivations.{isEmpty}
-use Rattle.typing_rules.specs.Judge.{ok, isKind, referred, isBelow, argumentsBelow, judge, judges, Done, assignsTo, executeVars, judgeCondition, execute, executeStep, executeBlock, executeAll}
+use Rattle.typing_rules.specs.Judge.{ok, isKind, referred, isBelow, argumentsBelow, judge, judges, Done, assignsTo, executeVars, judgeCondition, execute, executeStep, executeBlock, executeAll, executing, executingVars, judgingCondition}
 use Rattle.typing_rules.proofs.Claims.{File, ScopeFits, fits-bind, ContextFits}
 use Rattle.typing_rules.proofs.CompleteStmts.{reference-value}
 use Rattle.typing_rules.proofs.LawsFit.{expr-fit, exprs-fit}
@@ -28,7 +28,7 @@ DoneFits T d L = Scoped T (d .scope) L
 
 module _ {T : Tables} (F : File T) {C : Context ℕ} (f : ContextFits T C) where
   vars-fit : (vs : Vars) (n : ℕ) (Γ : Scope ℕ) → ScopeFits T Γ → VarsStand T n vs → (Δ : Scope ℕ) (L : List (Label ℕ)) → executeVars T C vs n Γ ≡ ok Δ L → Scoped T Δ L
-  unfolding executeVars
+  unfolding executingVars
   vars-fit noVar n Γ g s Δ L j = ok-is (Scoped T) j (record { scope = g; labels = fit-none })
   vars-fit (nextVar x a vs) n Γ g s Δ L j =
       then-ok (judge T C a (n + 1) Γ) _ j λ t M i k1.
@@ -39,7 +39,7 @@ module _ {T : Tables} (F : File T) {C : Context ℕ} (f : ContextFits T C) where
       ok-is (Scoped T) k3 (record { scope = r .scope; labels = fit-label tt (fit-append (expr-fit F f a (n + 1) Γ g (s .1) t M i) (r .labels)) })
 
   condition-fit : (c : Condition) (m n : ℕ) (Γ : Scope ℕ) → ScopeFits T Γ → ConditionStands T m c → (Δ : Scope ℕ) (L : List (Label ℕ)) → judgeCondition T C c m n Γ ≡ ok Δ L → LabelsFit T L
-  unfolding judgeCondition
+  unfolding judgingCondition
   condition-fit noCondition m n Γ g s Δ L j = ok-is (λ Δ L. LabelsFit T L) j (fit-label tt fit-none)
   condition-fit (condition a) m n Γ g s Δ L j =
       then-ok (judge T C a m Γ) _ j λ t M i k1.
@@ -48,7 +48,7 @@ module _ {T : Tables} (F : File T) {C : Context ℕ} (f : ContextFits T C) where
 
   module _ (rt : ℕ) where
     mutual
-      unfolding execute
+      unfolding executing
 
       stmt-fit : (last : Bool) (s : Stmt) (n : ℕ) (Γ : Scope ℕ) → ScopeFits T Γ → StmtStands T n s → (d : Done) (L : List (Label ℕ)) → execute T C rt last s n Γ ≡ ok d L → DoneFits T d L
       stmt-fit last (assign t a) n Γ g s d L j =

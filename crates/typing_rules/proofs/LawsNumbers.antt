@@ -15,9 +15,9 @@ use Rattle.typing_rules.specs.Labels.{Label}
 use Rattle.typing_rules.specs.Operators.{isEquality, operandType, unaryType}
 use Rattle.typing_rules.specs.Rules.{namesFit}
 use Rattle.typing_rules.specs.Derivations.{isEmpty}
-use Rattle.typing_rules.specs.Judge.{Out, ok, no, andThen, needs, isKind, referred, isBelow, formed, hasDefault, eachBelow, argumentsBelow, named, Number, number, unknown, fieldOf, fieldType, onDeclared, initsBelow, judge, judges, judgeInits, assignsTo, executeVars, judgeCondition, execute, executeStep, executeBlock, executeAll}
+use Rattle.typing_rules.specs.Judge.{Out, ok, no, andThen, needs, isKind, referred, isBelow, formed, hasDefault, eachBelow, argumentsBelow, named, Number, number, unknown, fieldOf, fieldType, onDeclared, initsBelow, judge, judges, judgeInits, assignsTo, executeVars, judgeCondition, execute, executeStep, executeBlock, executeAll, executing, executingVars, judging, judgingCondition}
 use Rattle.typing_rules.specs.Steps.{Step as CheckStep, structName, builtIn, heading, globalValue, structFields, body, stepsOf, distinctFields, distinctNames, parameters, emptyContext}
-use Rattle.typing_rules.specs.Check.{isMissing, fieldsFormed, runStep, Segment, Ran, accepted, refused, withSegment, onStep, run}
+use Rattle.typing_rules.specs.Check.{isMissing, fieldsFormed, runStep, Segment, Ran, accepted, refused, withSegment, onStep, run, stepping}
 use Rattle.typing_rules.proofs.Theorem.{runOf}
 
 -- o is accepted, or refused under one of the numbers Q
@@ -51,7 +51,7 @@ field-in unknown n Γ L h = no-in 8 h
 -- expressions
 module _ {Q : ℕ → Type 0} (p8 : Q 8) (p9 : Q 9) (p10 : Q 10) (p11 : Q 11) (p12 : Q 12) (p13 : Q 13) (p16 : Q 16) (T : Tables) (C : Context ℕ) where
   mutual
-    unfolding judge
+    unfolding judging
 
     expr-in : (e : Expr) (n : ℕ) (Γ : Scope ℕ) → InRange Q (judge T C e n Γ)
     expr-in (null t) n Γ = needs-in (formed T C t) n 9 p9 ok-in
@@ -120,7 +120,7 @@ module _ {Q : ℕ → Type 0} (p8 : Q 8) (p9 : Q 9) (p10 : Q 10) (p11 : Q 11) (p
         ok-in
 
   condition-in : (c : Condition) (m n : ℕ) (Γ : Scope ℕ) → InRange Q (judgeCondition T C c m n Γ)
-  unfolding judgeCondition
+  unfolding judgingCondition
   condition-in noCondition m n Γ = ok-in
   condition-in (condition a) m n Γ =
       then-in (expr-in a m Γ) λ t L.
@@ -129,7 +129,7 @@ module _ {Q : ℕ → Type 0} (p8 : Q 8) (p9 : Q 9) (p10 : Q 10) (p11 : Q 11) (p
   -- statements and steps
   module _ (p7 : Q 7) (p14 : Q 14) (p15 : Q 15) where
     vars-in : (vs : Vars) (n : ℕ) (Γ : Scope ℕ) → InRange Q (executeVars T C vs n Γ)
-    unfolding executeVars
+    unfolding executingVars
     vars-in noVar n Γ = ok-in
     vars-in (nextVar x a vs) n Γ =
         then-in (expr-in a (n + 1) Γ) λ t L.
@@ -139,7 +139,7 @@ module _ {Q : ℕ → Type 0} (p8 : Q 8) (p9 : Q 9) (p10 : Q 10) (p11 : Q 11) (p
 
     module _ (rt : ℕ) where
       mutual
-        unfolding execute
+        unfolding executing
 
         stmt-in : (last : Bool) (s : Stmt) (n : ℕ) (Γ : Scope ℕ) → InRange Q (execute T C rt last s n Γ)
         stmt-in last (assign g a) n Γ =
@@ -207,7 +207,7 @@ module _ {Q : ℕ → Type 0} (p8 : Q 8) (p9 : Q 9) (p10 : Q 10) (p11 : Q 11) (p
             ok-in)
 
     check-in : (s : CheckStep) → InRange Q (runStep T C s)
-    unfolding runStep
+    unfolding stepping
     check-in (structName i) = needs-in (isMissing (lookup (C .structs) (structAt T i .name))) i 7 p7 ok-in
     check-in (builtIn i) =
         needs-in (formed T C (builtInAt T i .type)) i 9 p9

@@ -17,7 +17,7 @@ use Rattle.typing_rules.specs.Contexts.{empty, Context, findName, isMiss
 use Rattle.typing_rules.specs.Labels.{marks, Label, Labels, unlabelled}
 use Rattle.typing_rules.specs.Judge.{ok, referred, judge, executeBlock}
 use Rattle.typing_rules.specs.Steps.{Step, structName, builtIn, heading, globalValue, structFields, body, distinctNames, StepRule, typ-fdeclok}
-use Rattle.typing_rules.specs.Check.{Segment, accepted, withSegment, rowsOf, parameterRows, stepRows, rowsBegin, nodeCount, runStep, run, segmentAt}
+use Rattle.typing_rules.specs.Check.{Segment, accepted, withSegment, rowsOf, parameterRows, stepRows, rowsBegin, nodeCount, runStep, run, segmentAt, stepping}
 use Rattle.typing_rules.specs.Rows.{RowsAre, rows-node, labelsFrom, ParametersAre, parameters-none, parameters-next}
 use Rattle.typing_rules.proofs.Claims.{File, fits-empty, ContextFits, erase, Holds}
 use Rattle.typing_rules.proofs.LawsBridge.{erase-long}
@@ -71,7 +71,7 @@ block-mark (typ-fdeclok d u e k m) = m
 module _ (T : Tables) (F : File T) (C : Context ℕ) (f : ContextFits T C) (D : Labels Ty) where
   global-fit : (n x : ℕ) (a : Expr) (B : Context ℕ) (L : List (Label ℕ)) → Stands T (n + 1) a → runStep T C (globalValue n x a) ≡ ok B L
       → LabelsFit T L
-  unfolding runStep
+  unfolding stepping
   global-fit n x a B L h e =
       then-ok (judge T C a (n + 1) empty) _ e λ t M j k.
       needs-ok (isMiss (findName x (C .names))) _ _ _ k λ q k1.
@@ -79,7 +79,7 @@ module _ (T : Tables) (F : File T) (C : Context ℕ) (f : ContextFits T C) (D : 
 
   body-fit : (n t : ℕ) (ps : List ℕ) (b : Block) (B : Context ℕ) (L : List (Label ℕ)) → StepStands T (length (C .structs)) (body n t ps b)
       → runStep T C (body n t ps b) ≡ ok B L → (M : List (Label ℕ)) × LabelsFit T M × (L ≡ replicate (1 + length ps) unlabelled ++ M)
-  unfolding runStep
+  unfolding stepping
   body-fit n t ps b B L h e =
       needs-ok (distinctNames ps) _ _ _ e λ d k.
       then-ok (executeBlock T C (referred T t) b (n + 1 + length ps) (parameterScope T n t ps)) _ k λ p M j k1.

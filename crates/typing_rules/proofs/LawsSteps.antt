@@ -27,7 +27,7 @@ use Rattle.typing_rules.specs.Derivations.{Derives, DerivesBlock}
 use Rattle.typing_rules.specs.Labels.{Result, marks, Label, Labels, unlabelled}
 use Rattle.typing_rules.specs.Judge.{ok, formed, referred, judge, executeBlock}
 use Rattle.typing_rules.specs.Steps.{Step, structName, builtIn, heading, globalValue, structFields, body, distinctFields, distinctNames, FieldsFormed, formed-noField, formed-field, parameters, Unlabelled, StepRule, typ-stdecl, typ-builtin, typ-ftyp, typ-ggdecl, typ-tdeclok, typ-fdeclok, addName, addStruct, contextAfter}
-use Rattle.typing_rules.specs.Check.{isMissing, fieldsFormed, runStep, rowsBegin, nodeCount}
+use Rattle.typing_rules.specs.Check.{isMissing, fieldsFormed, runStep, rowsBegin, nodeCount, stepping}
 use Rattle.typing_rules.proofs.Claims.{File, Value, ScopeFits, fits-empty, fits-bind, fits-name, ContextFits, eraseScope, eraseNames, eraseContext, erase, Holds, eraseBindings}
 use Rattle.typing_rules.proofs.LawsBridge.{eraseHit, name-erase, formed-value, erase-append, erase-long, holds-split, holds-join}
 use Rattle.typing_rules.proofs.LawsOutcome.{ok-is, then-ok, needs-ok}
@@ -281,7 +281,7 @@ module _ (T : Tables) (F : File T) (C : Context ℕ) (f : ContextFits T C) where
 
   pub sound-step : (s : Step) (B : Context ℕ) (L : List (Label ℕ)) → StepStands T (length (C .structs)) s → runStep T C s ≡ ok B L
       → RightStep T C s B L
-  unfolding runStep
+  unfolding stepping
   sound-step (structName i) B L h e =
       needs-ok _ _ _ _ e λ l r.
       ok-is (RightStep T C (structName i)) r (right-struct i h (is-missing _ l))
@@ -320,7 +320,7 @@ same-mark e f = cc
 module _ (T : Tables) (F : File T) (C : Context ℕ) (f : ContextFits T C) (D : Labels Ty) where
   complete-global : (n x : ℕ) (a : Expr) → Stands T (n + 1) a → D n ≡ unlabelled → D (n + 1) .before ≡ empty
       → Derives T (eraseContext T C) D a (n + 1) → findName x (eraseContext T C .names) ≡ miss → AcceptedStep T C D (globalValue n x a)
-  unfolding runStep eraseBindings erase Holds rowsBegin
+  unfolding stepping eraseBindings erase Holds rowsBegin
   complete-global n x a h u b d m =
       let A = complete T F C f D a (n + 1) empty fits-empty h d b in
       record {
@@ -334,7 +334,7 @@ module _ (T : Tables) (F : File T) (C : Context ℕ) (f : ContextFits T C) (D : 
       → Unlabelled D n (1 + length ps) → D (n + 1 + length ps) .before ≡ parameters (typeOf T) T empty (typeAt T t .b) (n + 1) ps
       → DerivesBlock T (eraseContext T C) D (typeOf T (typeAt T t .a)) b (n + 1 + length ps) → D (n + 1 + length ps) .result ≡ marks 1
       → AcceptedStep T C D (body n t ps b)
-  unfolding runStep eraseBindings rowsBegin
+  unfolding stepping eraseBindings rowsBegin
   complete-body n t ps b h d u e k m =
       let A = complete-block T F C f D (referred T t) b (n + 1 + length ps) (parameterScope T n t ps) (returns-within T F t (h .0))
       (scope-fits T F t (h .0) n ps (h .1)) (h .2) k (e ∙ sym (parameters-written T ps empty (typeAt T t .b) (n + 1))) in
@@ -348,7 +348,7 @@ module _ (T : Tables) (F : File T) (C : Context ℕ) (f : ContextFits T C) (D : 
       }
 
   pub complete-step : {s : Step} → StepRule T (eraseContext T C) D s → StepStands T (length (C .structs)) s → AcceptedStep T C D s
-  unfolding runStep erase Holds
+  unfolding stepping erase Holds
   complete-step (typ-stdecl {i} e) h = record { next = addStruct C (structOf T i); labels = []; accepts = rw e; holds = tt }
   complete-step (typ-builtin {i} e m) h =
       let v = function-value T (builtInAt T i .type) (F .tables .built-in i h) in

@@ -18,6 +18,7 @@ pub mod LawsJudge
 pub mod LawsLevels
 pub mod LawsNumbers
 pub mod LawsOutcome
+pub mod LawsPairs
 pub mod LawsPlaced
 pub mod LawsProgram
 pub mod LawsRows

@@ -31,16 +31,16 @@ sub-says H s t false e = λ d. let y = below-is H s t .1 d in let z : _≡_ {A =
 abbrev Derived : Program → Type 0
 Derived p = (D : Labels Ty) × (C : Context Ty) × DerivesFile p D C
 
-run-says : (p : Program) → Fits p → (r : Ran) → runOf p ≡ r → Says (eqb (answerOf p r .number) 0) (Derived p)
-run-says p f (accepted gs k) e = let (n, D, C, o) = accepted-derives p f gs k e in (D, C, o .derives)
-run-says p f (refused m j q) e =
+run-says : (p : Program) → Fits p → (n : ℕ) (r : Ran) → runOf p ≡ r → Says (eqb (answerOf p n r .number) 0) (Derived p)
+run-says p f n (accepted gs k) e = let (m, D, C, o) = accepted-derives p f gs k e in (D, C, o .derives)
+run-says p f n (refused m j q) e =
     let (low, high) = refused-number p m j q e in
     subst (λ b. Says b (Derived p)) (sym (ne-eqb m 0 (λ z. omega arith)))
     (λ d. let (gs, a) = derives-accepted p f (d .0) (d .1) (d .2) in let z : _≡_ {A = ℕ} 0 1 = cc in omega arith)
 
 file-says : (p : Program) → Fits p → (n : ℕ) → checkOf p .number ≡ n → Says (eqb n 0) (Derived p)
 unfolding checkOf
-file-says p f n e = subst (λ m. Says (eqb m 0) (Derived p)) e (run-says p f (runOf p) refl)
+file-says p f n e = subst (λ m. Says (eqb m 0) (Derived p)) e (run-says p f _ (runOf p) refl)
 
 -- a case of the table
 below-case : (s t : Numbered) (b : Bool) → typeOf panTables (s .number) ≡ s .type → typeOf panTables (t .number) ≡ t .type

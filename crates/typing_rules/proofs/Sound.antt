@@ -21,7 +21,7 @@ use Rattle.typing_rules.specs.Operators.{isEquality, operandType, result
 use Rattle.typing_rules.specs.Labels.{gives, Label, Labels, unlabelled}
 use Rattle.typing_rules.specs.Rules.{Typed, Has, TypedAll, typed-none, typed-also, TypedInits, typed-noInit, typed-init, namesFit, ExprRule, typ-null, typ-literal, typ-local, typ-global, typ-carr, typ-newarray, typ-newarrayinit, typ-index, typ-length, typ-structex, typ-field, typ-call, typ-bop, typ-eq, typ-uop}
 use Rattle.typing_rules.specs.Derivations.{At, AtAll, AtInits, Derives}
-use Rattle.typing_rules.specs.Judge.{ok, judge, judges, judgeInits, typedAs, plain, isKind, referred, isBelow, formed, hasDefault, eachBelow, argumentsBelow, number, fieldOf, initsBelow}
+use Rattle.typing_rules.specs.Judge.{ok, judge, judges, judgeInits, typedAs, plain, isKind, referred, isBelow, formed, hasDefault, eachBelow, argumentsBelow, number, fieldOf, initsBelow, judging}
 use Rattle.typing_rules.proofs.Claims.{File, Value, ScopeFits, fits-bind, ContextFits, eraseScope, eraseContext, erase, Holds, eraseBindings}
 use Rattle.typing_rules.proofs.LawsBridge.{typesOf, Values, values-none, values-also, eraseHit, find-erase, name-erase, find-value, name-value, is-base, is-void, is-struct, is-array, is-function, is-nullable, array-parts, function-parts, default-is, base-is, base-value, below-sub, formed-value, formed-null, each-below, arguments-below, inits-below, member-value, field-found}
 use Rattle.typing_rules.proofs.LawsOutcome.{ok-is, then-ok, needs-ok, named-ok, field-ok, declared-ok}
@@ -355,7 +355,7 @@ module _ (T : Tables) (F : File T) (C : Context ℕ) (f : ContextFits T C) where
 
   -- soundness, step by step as `judge` goes
   mutual
-    unfolding judge
+    unfolding judging
 
     pub sound : (e : Expr) (n : ℕ) (Γ : Scope ℕ) (a : ℕ) (L : List (Label ℕ)) → ScopeFits T Γ → Stands T n e → judge T C e n Γ ≡ ok a L
         → Right T C e n Γ a L

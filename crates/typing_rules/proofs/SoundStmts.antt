@@ -17,7 +17,7 @@ use Rattle.typing_rules.specs.Contexts.{Scope, binds, isFresh, Context, 
 use Rattle.typing_rules.specs.Labels.{gives, marks, Label, Labels, unlabelled}
 use Rattle.typing_rules.specs.Rules.{assigns, Typed, Marked, Ends, TypedAll, ExprRule, both, VarsChain, ConditionHolds, StepGoesOn, Chain, StmtRule, typ-assn, typ-decl, typ-rett, typ-retvoid, typ-scall, typ-if, typ-ifq, typ-while, typ-for, BlockRule, typ-block, whileMark}
 use Rattle.typing_rules.specs.Derivations.{AtAll, Node, AtVars, at-var, in-var, in-vars, AtCondition, in-condition, InStmt, in-target, in-assigned, in-initial, in-returned, in-called, in-passed, in-test, in-then, in-else, in-nullable, in-some, in-null, in-for-vars, in-for-condition, in-for-step, in-for-body, in-while-test, in-while-body, AtStep, at-step, in-step, AtBlock, here-block, in-block, AtStmts, at-stmt, in-stmt, in-stmts, RuleAt, Derives, DerivesBlock, isEmpty}
-use Rattle.typing_rules.specs.Judge.{ok, markedAs, Done, done, isKind, referred, isBelow, argumentsBelow, judge, judges, assignsTo, executeVars, judgeCondition, execute, executeStep, executeBlock, executeAll}
+use Rattle.typing_rules.specs.Judge.{ok, markedAs, Done, done, isKind, referred, isBelow, argumentsBelow, judge, judges, assignsTo, executeVars, judgeCondition, execute, executeStep, executeBlock, executeAll, executing, executingVars, judgingCondition}
 use Rattle.typing_rules.proofs.Claims.{File, Value, ScopeFits, fits-bind, ContextFits, eraseScope, eraseContext, erase, Holds, eraseBindings}
 use Rattle.typing_rules.proofs.LawsBridge.{typesOf, fresh-erase, assigns-erase, is-base, is-void, is-function, is-nullable, function-parts, nullable-parts, below-sub, arguments-below}
 use Rattle.typing_rules.proofs.LawsOutcome.{IfOk, ok-says, needs-says, then-says}
@@ -408,7 +408,7 @@ module _ (T : Tables) (F : File T) (C : Context ℕ) (f : ContextFits T C) (rt :
   exprs-say es n Γ g s = record { given = λ ts L j. sounds T F C f es n Γ ts L g s j }
 
   vars-say : (vs : Vars) (n : ℕ) (Γ : Scope ℕ) → ScopeFits T Γ → VarsStand T n vs → IfOk (RightVars T C rt vs n Γ) (executeVars T C vs n Γ)
-  unfolding executeVars
+  unfolding executingVars
   vars-say noVar n Γ g s = ok-says (right-no-var g)
   vars-say (nextVar x a vs) n Γ g s =
       then-says _ _ (expr-says a (n + 1) Γ g (s .1)) λ t L r.
@@ -418,7 +418,7 @@ module _ (T : Tables) (F : File T) (C : Context ℕ) (f : ContextFits T C) (rt :
 
   condition-says : (c : Condition) (m n : ℕ) (Γ : Scope ℕ) → ScopeFits T Γ → ConditionStands T m c
       → IfOk (RightCondition T C rt c m Γ) (judgeCondition T C c m n Γ)
-  unfolding judgeCondition
+  unfolding judgingCondition
   condition-says noCondition m n Γ g s = ok-says right-no-condition
   condition-says (condition a) m n Γ g s =
       then-says _ _ (expr-says a m Γ g s) λ t L r.
@@ -426,7 +426,7 @@ module _ (T : Tables) (F : File T) (C : Context ℕ) (f : ContextFits T C) (rt :
       ok-says (right-condition F r e)
 
   mutual
-    unfolding execute
+    unfolding executing
 
     stmt-says : (last : Bool) (s : Stmt) (n : ℕ) (Γ : Scope ℕ) → ScopeFits T Γ → StmtStands T n s → IfOk (RightStmt T C rt last s n Γ) (execute T C rt last s n Γ)
     stmt-says last (assign t a) n Γ g s =

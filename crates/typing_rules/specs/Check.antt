@@ -1,4 +1,5 @@
--- The definition of the check on a program: steps in document 01's order, the answer, and the rows. Assumes nothing.
+-- The definition of the check on a program: steps in document 01's order, the answer, the rows, and the sum of the pairs of types that its
+-- subtype questions compared. Assumes nothing.
 use mathlib.Core.Bool.{Bool, true, false, _&&_}
 use mathlib.Core.List.{List, [], _∷_, _++_}
 use Prim.Native.Nat.{ℕ, suc, _+_, _*_}
@@ -12,7 +13,7 @@ use Rattle.oat.specs.Syntax.{Decl, size, sizeBlock, sizeDecl}
 use Rattle.oat.specs.ProgramFile.{Program}
 use Rattle.typing_rules.specs.Contexts.{empty, isMiss, Context, findName}
 use Rattle.typing_rules.specs.Labels.{Result, gives, marks, nothing, Label, unlabelled}
-use Rattle.typing_rules.specs.Judge.{Out, ok, no, andThen, needs, formed, referred, judge, executeBlock}
+use Rattle.typing_rules.specs.Judge.{Out, ok, no, Counted, giving, pairsAfter, andCounting, requires, formed, referred, judging, executingBlock}
 use Rattle.typing_rules.specs.Steps.{Step, structName, builtIn, heading, globalValue, structFields, body, stepsOf, distinctFields, distinctNames, parameters, addName, addStruct, emptyContext}
 
 abbrev pub isMissing : Lookup → Bool
@@ -25,25 +26,29 @@ fieldsFormed C (f ∷ fs) = isFormed (C .structs) (f .type) && fieldsFormed C fs
 
 -- one step: the context after it and the labels of its nodes, or the number and the place of the first broken premise. The place is a
 -- node, or the number of a struct or a built-in.
-unfoldable pub runStep : Tables → Context ℕ → Step → Out (Context ℕ)
-runStep T C (structName i) = needs (isMissing (lookup (C .structs) (structAt T i .name))) 7 i (ok (addStruct C (structOf T i)) [])
-runStep T C (builtIn i) =
-    needs (formed T C (builtInAt T i .type)) 9 i
-    (needs (isMiss (findName (builtInAt T i .name) (C .names))) 7 i
-    (ok (addName C (builtInAt T i .name) (builtInAt T i .type) (40000 + i) false) []))
-runStep T C (heading n x t) =
-    needs (formed T C t) 9 n
-    (needs (isMiss (findName x (C .names))) 7 n (ok (addName C x t n false) []))
-runStep T C (globalValue n x a) =
-    andThen (judge T C a (n + 1) empty) λ t L.
-    needs (isMiss (findName x (C .names))) 7 n (ok (addName C x t n true) (unlabelled ∷ L))
-runStep T C (structFields i) =
-    needs (fieldsFormed C (structOf T i .fields)) 9 i
-    (needs (distinctFields (structOf T i .fields)) 7 i (ok C []))
-runStep T C (body n t ps b) =
-    needs (distinctNames ps) 7 n
-    (andThen (executeBlock T C (referred T t) b (n + 1 + length ps) (parameters (λ a. a) T empty (typeAt T t .b) (n + 1) ps)) λ p L.
-    needs (eqb p 1) 14 n (ok C (replicate (1 + length ps) unlabelled ++ L)))
+unfoldable pub stepping : Tables → Context ℕ → Step → Counted (Context ℕ)
+stepping T C (structName i) = requires (isMissing (lookup (C .structs) (structAt T i .name))) 7 i (giving (ok (addStruct C (structOf T i)) []))
+stepping T C (builtIn i) =
+    requires (formed T C (builtInAt T i .type)) 9 i
+    (requires (isMiss (findName (builtInAt T i .name) (C .names))) 7 i
+    (giving (ok (addName C (builtInAt T i .name) (builtInAt T i .type) (40000 + i) false) [])))
+stepping T C (heading n x t) =
+    requires (formed T C t) 9 n
+    (requires (isMiss (findName x (C .names))) 7 n (giving (ok (addName C x t n false) [])))
+stepping T C (globalValue n x a) =
+    andCounting (judging T C a (n + 1) empty) λ t L.
+    requires (isMiss (findName x (C .names))) 7 n (giving (ok (addName C x t n true) (unlabelled ∷ L)))
+stepping T C (structFields i) =
+    requires (fieldsFormed C (structOf T i .fields)) 9 i
+    (requires (distinctFields (structOf T i .fields)) 7 i (giving (ok C [])))
+stepping T C (body n t ps b) =
+    requires (distinctNames ps) 7 n
+    (andCounting (executingBlock T C (referred T t) b (n + 1 + length ps) (parameters (λ a. a) T empty (typeAt T t .b) (n + 1) ps)) λ p L.
+    requires (eqb p 1) 14 n (giving (ok C (replicate (1 + length ps) unlabelled ++ L))))
+
+-- its outcome alone
+abbrev pub runStep : Tables → Context ℕ → Step → Out (Context ℕ)
+runStep T C s = stepping T C s .out
 
 -- Rows: result and binder of each node. A 22 and a global have their child's number, which comes next; a 40 comes before a statement, a
 -- block or another 40, and has 0.
@@ -119,6 +124,11 @@ unfoldable pub run : Tables → Context ℕ → List Step → ℕ → Ran
 run T C [] k = accepted [] k
 run T C (s ∷ ss) k = onStep (runStep T C s) k λ E L. withSegment (record { node = rowsBegin s; rows = stepRows T s L }) (run T E ss (suc k))
 
+-- the pairs that they compare, up to and including the broken premise
+unfoldable pub runPairs : Tables → Context ℕ → List Step → ℕ
+runPairs T C [] = 0
+runPairs T C (s ∷ ss) = stepping T C s .pairs + pairsAfter (runStep T C s) (λ E L. runPairs T E ss)
+
 -- the rows of the declaration at the node n
 unfoldable pub segmentAt : ℕ → List Segment → List ℕ
 segmentAt n [] = []
@@ -128,16 +138,17 @@ unfoldable pub rowsFrom : List Segment → ℕ → List Decl → List ℕ
 rowsFrom gs n [] = []
 rowsFrom gs n (d ∷ ds) = segmentAt n gs ++ rowsFrom gs (n + sizeDecl d) ds
 
--- the answer, and the rows of all nodes; a refusal fills them with 65,535
+-- the answer with its four numbers, and the rows of all nodes; a refusal fills them with 65,535
 pub record Answer : Type 0 where
   pub number : ℕ
   pub step : ℕ
   pub place : ℕ
+  pub pairs : ℕ
   pub rows : List ℕ
 
-abbrev pub answerOf : Program → Ran → Answer
-answerOf p (accepted gs k) = record { number = 0; step = k; place = 0; rows = rowsFrom gs 0 (p .declarations) }
-answerOf p (refused m k q) = record { number = m; step = k; place = q; rows = replicate (2 * length (p .tables .nodes)) 65535 }
+abbrev pub answerOf : Program → ℕ → Ran → Answer
+answerOf p n (accepted gs k) = record { number = 0; step = k; place = 0; pairs = n; rows = rowsFrom gs 0 (p .declarations) }
+answerOf p n (refused m k q) = record { number = m; step = k; place = q; pairs = n; rows = replicate (2 * length (p .tables .nodes)) 65535 }
 
 unfoldable pub checkOf : Program → Answer
-checkOf p = answerOf p (run (p .tables) emptyContext (stepsOf p) 0)
+checkOf p = answerOf p (runPairs (p .tables) emptyContext (stepsOf p)) (run (p .tables) emptyContext (stepsOf p) 0)

@@ -2,8 +2,9 @@
 //! document 001, section 4, up to the rule of unary operators. The order of
 //! premises is that of document 01, "Steps and the order of premises".
 
+use crate::Below;
 use crate::file::{ARRAY, FUNCTION, Four, NULLABLE, STRUCT, VOID, listed, name_type};
-use crate::mutants::{Mutant::*, Rules};
+use crate::mutants::{Mutant, Mutant::*, Rules};
 use crate::types::NONE;
 use crate::typing::{BUILTIN, Checker, Judged, fault};
 
@@ -24,6 +25,7 @@ impl<R: Rules> Checker<'_, R> {
     pub(crate) fn expression(&mut self) -> Judged<u16> {
         let at = self.next;
         self.next += 1;
+        self.turn_comes(at);
         let n = self.file.node(at);
         let t = match n.kind() {
             11 | 12 => BOOL,
@@ -49,7 +51,9 @@ impl<R: Rules> Checker<'_, R> {
     /// An expression that must be of one fixed type; if not, 10 at its parent.
     pub(crate) fn expression_of(&mut self, t: u16, parent: usize) -> Judged<()> {
         let child = self.next;
-        if self.expression()? != t {
+        let found = self.expression()?;
+        self.pairs += u32::from(self.breaks(SortsCounted));
+        if found != t {
             return fault(10, if self.breaks(SortPlace) { child } else { parent });
         }
         Ok(())
@@ -71,7 +75,7 @@ impl<R: Rules> Checker<'_, R> {
     }
 
     /// A type that an expression mentions must be well-formed.
-    fn formed(&self, at: usize, t: u16, free: crate::mutants::Mutant) -> Judged<()> {
+    fn formed(&self, at: usize, t: u16, free: Mutant) -> Judged<()> {
         if self.types.well_formed(t) || self.breaks(free) { Ok(()) } else { fault(9, at) }
     }
 
@@ -84,15 +88,15 @@ impl<R: Rules> Checker<'_, R> {
     fn array_literal(&mut self, at: usize, n: Four) -> Judged<u16> {
         let element = self.file.ty(n.t()).a();
         self.formed(at, element, LiteralTypeFree)?;
-        let mut below = true;
+        let mut asked = Below::START;
         for _ in 0..n.children() {
             let t = self.expression()?;
-            below &= self.types.below(t, element);
-            if !below && self.breaks(ElementsOneByOne) {
+            asked = self.also(asked, [t, element], ElementsEarly);
+            if !asked.holds && self.breaks(ElementsOneByOne) {
                 break;
             }
         }
-        if !below && !self.breaks(ElementsFree) {
+        if !self.count(at, asked, ElementsUncounted) && !self.breaks(ElementsFree) {
             return fault(11, at);
         }
         Ok(if self.breaks(ArrayResultLowest) { self.types.lowest(n.t()) } else { n.t() })
@@ -138,7 +142,7 @@ impl<R: Rules> Checker<'_, R> {
         if !self.breaks(IndexNameStays) {
             self.leave(scope);
         }
-        if !self.types.below(value, element) && !self.breaks(FilledValueFree) {
+        if !self.ask(at, [value, element], FilledUncounted) && !self.breaks(FilledValueFree) {
             return fault(11, at);
         }
         Ok(n.t())
@@ -189,19 +193,24 @@ impl<R: Rules> Checker<'_, R> {
         if !self.breaks(NamesAfterValues) {
             std::mem::replace(&mut named, Ok(()))?;
         }
-        let mut below = true;
+        let mut asked = Below::START;
         for _ in 0..n.children() {
             let child = self.next;
             self.next += 1;
+            self.turn_comes(child);
             let t = self.expression()?;
             self.rows[child] = [if self.breaks(InitializerRowNone) { 0 } else { t }, NONE];
             let field = self.work[child][0] as usize;
-            below &= fields.get(field).is_some_and(|f| self.types.below(t, name_type(f).ty));
-            if !below && self.breaks(InitializersOneByOne) {
+            asked = match fields.get(field) {
+                Some(f) => self.also(asked, [t, name_type(f).ty], InitializersEarly),
+                None => Below { holds: false, ..asked },
+            };
+            if !asked.holds && self.breaks(InitializersOneByOne) {
                 return fault(11, at);
             }
         }
         named?;
+        let below = self.count(at, asked, InitializersUncounted);
         if below || self.breaks(InitializersFree) { Ok(n.t()) } else { fault(11, at) }
     }
 
@@ -303,7 +312,7 @@ impl<R: Rules> Checker<'_, R> {
         if !value_ok && self.breaks(VoidAfterCount) {
             return fault(13, at);
         }
-        self.arguments(at, f, n.children() - 1)?;
+        self.arguments(at, f, n.children() - 1, if void { RunUncounted } else { CallUncounted })?;
         if !value_ok {
             return fault(13, at);
         }
@@ -324,17 +333,19 @@ impl<R: Rules> Checker<'_, R> {
     }
 
     /// All arguments, then all subtypes.
-    fn arguments(&mut self, at: usize, f: Four, count: u16) -> Judged<()> {
+    fn arguments(&mut self, at: usize, f: Four, count: u16, free: Mutant) -> Judged<()> {
         let parameters = self.file.parameters(f);
-        let mut below = true;
+        let mut asked = Below::START;
         for k in 0..count as usize {
             let t = self.expression()?;
-            below &= parameters.get(k).is_none_or(|p| self.types.below(t, listed(p)));
-            if !below && self.breaks(ArgumentsOneByOne) {
+            if let Some(p) = parameters.get(k) {
+                asked = self.also(asked, [t, listed(p)], ArgumentsEarly);
+            }
+            if !asked.holds && self.breaks(ArgumentsOneByOne) {
                 break;
             }
         }
-        if below || self.breaks(ArgumentsFree) { Ok(()) } else { fault(11, at) }
+        if self.count(at, asked, free) || self.breaks(ArgumentsFree) { Ok(()) } else { fault(11, at) }
     }
 
     fn unary(&mut self, at: usize, x: u16) -> Judged<u16> {
@@ -363,7 +374,7 @@ impl<R: Rules> Checker<'_, R> {
 
     fn binary(&mut self, at: usize, x: u16) -> Judged<u16> {
         match self.operator(x) {
-            Operator::Equality => self.equality(at),
+            Operator::Equality => self.equality(at, if x == 10 { EqualUncounted } else { UnequalUncounted }),
             Operator::Fixed(takes, gives) => {
                 if self.breaks(SortsAfterBoth) {
                     let (a, b) = (self.expression()?, self.expression()?);
@@ -380,13 +391,12 @@ impl<R: Rules> Checker<'_, R> {
         }
     }
 
-    /// Both children, then both directions.
-    fn equality(&mut self, at: usize) -> Judged<u16> {
+    /// Both children, then both directions, the second if the first holds.
+    fn equality(&mut self, at: usize, free: Mutant) -> Judged<u16> {
         let a = self.expression()?;
         let b = self.expression()?;
-        let there = self.types.below(a, b) || self.breaks(EqualityBackOnly);
-        let back = self.types.below(b, a) || self.breaks(EqualityThereOnly);
-        if !there || !back {
+        let asked = self.other_both(a, b).unwrap_or_else(|| self.question(a, b).then(|| self.question(b, a)));
+        if !self.count(at, asked, free) {
             return fault(if self.breaks(EqualityIsSort) { 10 } else { 11 }, at);
         }
         Ok(BOOL)

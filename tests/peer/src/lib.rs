@@ -1,7 +1,8 @@
 //! An independent checker for Oat v.2 program files, after document 01 ("The
 //! Oat v.2 checker for pan programs"), document 001 (the specification) and
 //! document 02's requests (i), loops that never end, (v), zero bytes, (vi), the
-//! same name in an inner block, and (xi), limits as parameters.
+//! same name in an inner block, (viii), counts of compared pairs, and (xi), limits
+//! as parameters.
 
 pub mod cases;
 mod empty;
@@ -12,6 +13,7 @@ pub mod generator;
 mod levels;
 mod limits;
 pub mod mutants;
+mod pairs;
 pub mod print;
 pub mod program;
 mod statements;
@@ -29,20 +31,43 @@ use tree::{Declarations, tree_fits};
 use types::Types;
 use typing::Checker;
 
-/// Document 01, "Rows and answers".
+/// Document 01, "Rows and answers", and document 02, (viii): the sum of the
+/// counts of all subtype questions, up to and including the broken premise.
 #[derive(Clone, Copy, Debug, PartialEq, Eq)]
 pub struct Answer {
     pub number: u16,
     pub step: u16,
     pub place: u16,
+    pub pairs: u32,
 }
 
-/// The answer to the subtype question.
+/// The answer to a subtype question: yes or no, and how many pairs of types were
+/// compared.
 #[derive(Clone, Copy, Debug, PartialEq, Eq)]
-pub enum Below {
-    Yes,
-    No,
-    Refused(u16),
+pub struct Below {
+    pub holds: bool,
+    pub pairs: u32,
+}
+
+impl Below {
+    /// No question asked yet.
+    pub const START: Below = Below { holds: true, pairs: 0 };
+
+    /// One pair that decides.
+    #[inline(always)]
+    pub fn one(holds: bool) -> Below {
+        Below { holds, pairs: 1 }
+    }
+
+    /// What comes next is compared only if this holds.
+    #[inline(always)]
+    pub fn then(self, next: impl FnOnce() -> Below) -> Below {
+        if !self.holds {
+            return self;
+        }
+        let next = next();
+        Below { pairs: self.pairs + next.pairs, ..next }
+    }
 }
 
 /// Checks a file. Under 25 and 1 to 6 no buffer changes; under 7 to 16 the
@@ -53,7 +78,7 @@ pub fn check(file: &[u8], limits: Limits, rows: &mut [u16], work: &mut [u16]) ->
 
 /// The check under rules that a mutant may break.
 pub fn check_under<R: Rules>(bytes: &[u8], limits: Limits, rows: &mut [u16], work: &mut [u16], rules: R) -> Answer {
-    let refused = |number| Answer { number, step: 0, place: 0 };
+    let refused = |number| Answer { number, step: 0, place: 0, pairs: u32::from(rules.breaks(UnreadCounted)) };
     let mut declarations = Declarations::new();
     let handed_on = limits.handed_on(CheckIgnoresLimits, Some(RangeAfterShort), rules);
     let file = match readable(bytes, handed_on, CheckRefusesEmpty, &mut declarations, rules) {
@@ -83,31 +108,29 @@ pub fn read_under<R: Rules>(file: &[u8], limits: Limits, rules: R) -> u16 {
     readable(file, handed_on, ReadRefusesEmpty, &mut Declarations::new(), rules).err().unwrap_or(0)
 }
 
-/// The subtype question: 25, 1 to 5, then 17, then yes or no.
-pub fn subtype(file: &[u8], limits: Limits, a: usize, b: usize) -> Below {
+/// The subtype question: 25, 1 to 5, then 17, then yes or no. A refused question
+/// counts no pairs.
+pub fn subtype(file: &[u8], limits: Limits, a: usize, b: usize) -> Result<Below, u16> {
     subtype_under(file, limits, a, b, Exact)
 }
 
 /// The subtype question under rules that a mutant may break.
-pub fn subtype_under<R: Rules>(file: &[u8], limits: Limits, a: usize, b: usize, rules: R) -> Below {
+pub fn subtype_under<R: Rules>(file: &[u8], limits: Limits, a: usize, b: usize, rules: R) -> Result<Below, u16> {
     let handed_on = limits.handed_on(SubtypeIgnoresLimits, Some(RangeAfterType), rules);
-    let file = match readable(file, handed_on, SubtypeRefusesEmpty, &mut Declarations::new(), rules) {
-        Ok(file) => file,
-        Err(number) => return Below::Refused(number),
-    };
+    let file = readable(file, handed_on, SubtypeRefusesEmpty, &mut Declarations::new(), rules)?;
     if a.max(b) >= file.types.len() {
-        return Below::Refused(17);
+        return Err(17);
     }
     if rules.breaks(RangeAfterType) && !limits.pass(rules) {
-        return Below::Refused(25);
+        return Err(25);
     }
     let mut types = Types::new(&file, rules);
     types.learn_all();
-    if types.below(a as u16, b as u16) { Below::Yes } else { Below::No }
+    Ok(types.below(a as u16, b as u16))
 }
 
 /// The subtype question for all pairs of a file's types, row by row.
-pub fn subtypes<R: Rules>(file: &[u8], limits: Limits, rules: R) -> Result<Vec<Vec<bool>>, u16> {
+pub fn subtypes<R: Rules>(file: &[u8], limits: Limits, rules: R) -> Result<Vec<Vec<Below>>, u16> {
     let file = readable(file, limits, SubtypeRefusesEmpty, &mut Declarations::new(), rules)?;
     let mut types = Types::new(&file, rules);
     types.learn_all();

@@ -11,13 +11,15 @@ use std::time::Instant;
 const USAGE: &str = "oat_peer check [PARTS DEPTH] | sub A B [PARTS DEPTH] | read [PARTS DEPTH] < FILE
 oat_peer batch | readbatch | subbatch | bench N | tally < MANY
 oat_peer limitbatch < CASES
-oat_peer gen | gentypes | gennames | genendless | genlevels SEED COUNT > MANY
+oat_peer gen | gentypes | gennames | genendless | genlevels | genpairs SEED COUNT > MANY
 oat_peer genlimits SEED COUNT > CASES
 oat_peer vectors DIRECTORY | mutants DIRECTORY
 PARTS and DEPTH are 200 and 100 where they are left out.
 MANY: for each file 4 bytes length, low first, then the file; asked under 200 parts and depth 100.
 CASES: for each case 4 bytes length of its file, 4 bytes parts, 4 bytes depth, all low first, then the file.
-limitbatch prints `read N`, `sub A B C D` for the pairs 0 0, 4 4, 4 5 and 600 0, what batch prints, and `--`.";
+sub prints the answer and its count of pairs, batch the line `pairs N` behind each answer's rows, subbatch the counts
+of a line's pairs in a line behind it. limitbatch prints `read N`, `sub` with answer and count for each of the pairs 0 0,
+4 4, 4 5 and 600 0, and what batch prints. Each answer of batch, subbatch and limitbatch ends with `--`.";
 
 fn main() {
     let arguments: Vec<String> = std::env::args().skip(1).collect();
@@ -51,6 +53,7 @@ fn run(words: &[&str]) -> Option<Vec<u8>> {
         ["gentypes", seed, count] => return Some(generator::type_tables(seed.parse().ok()?, count.parse().ok()?)),
         ["genendless", seed, count] => return Some(generator::endless(seed.parse().ok()?, count.parse().ok()?)),
         ["genlevels", seed, count] => return Some(generator::levels(seed.parse().ok()?, count.parse().ok()?)),
+        ["genpairs", seed, count] => return Some(generator::pairs(seed.parse().ok()?, count.parse().ok()?)),
         ["gennames", seed, count] => return Some(generator::field_names(seed.parse().ok()?, count.parse().ok()?)),
         _ => return None,
     };

@@ -1,8 +1,8 @@
 //! Printing: document 01, the program at the end of "Rows and answers". A line
 //! ends with byte 10.
 
-use crate::mutants::{Exact, Rules};
-use crate::{Below, Limits, check_under, node_count, read_under, subtype_under, subtypes};
+use crate::mutants::{Exact, Mutant, Rules};
+use crate::{Limits, check_under, node_count, read_under, subtype_under, subtypes};
 use std::fmt::Write;
 
 /// A file and the limits that it is asked under.
@@ -29,11 +29,20 @@ pub fn check(file: &[u8]) -> String {
 
 /// The same under limits, and rules that a mutant may break.
 pub fn check_with<R: Rules>(case: Limited, rules: R) -> String {
-    check_in(case, 2 * node_count(case.file), rules)
+    check_in(case, 2 * node_count(case.file), rules).0
 }
 
-/// The same in buffers of a length.
-fn check_in<R: Rules>(Limited { file, limits }: Limited, length: usize, rules: R) -> String {
+/// The same and, in a line of its own, the sum of pairs.
+pub fn pairs_with<R: Rules>(case: Limited, rules: R) -> String {
+    with_pairs(check_in(case, 2 * node_count(case.file), rules))
+}
+
+fn with_pairs((shown, pairs): (String, u32)) -> String {
+    format!("{shown}pairs {pairs}\n")
+}
+
+/// What the check shows in buffers of a length, and its sum of pairs.
+fn check_in<R: Rules>(Limited { file, limits }: Limited, length: usize, rules: R) -> (String, u32) {
     let (mut rows, mut work) = (vec![0; length], vec![0; length]);
     let answer = check_under(file, limits, &mut rows, &mut work, rules);
     let mut out = String::new();
@@ -43,7 +52,7 @@ fn check_in<R: Rules>(Limited { file, limits }: Limited, length: usize, rules: R
             put(&mut out, [node as u16, row[0], row[1]]);
         }
     }
-    out
+    (out, answer.pairs)
 }
 
 fn put(out: &mut String, line: [u16; 3]) {
@@ -55,27 +64,32 @@ pub fn read_with<R: Rules>(case: Limited, rules: R) -> String {
     format!("{}\n", read_under(case.file, case.limits, rules))
 }
 
-/// yes, no or the refusing number.
+/// yes or no and the count of pairs, or the refusing number and 0.
 pub fn sub(case: Limited, pair: [usize; 2]) -> String {
     below(case, pair, Exact) + "\n"
 }
 
 fn below<R: Rules>(case: Limited, [a, b]: [usize; 2], rules: R) -> String {
     match subtype_under(case.file, case.limits, a, b, rules) {
-        Below::Yes => "yes".into(),
-        Below::No => "no".into(),
-        Below::Refused(number) => number.to_string(),
+        Ok(found) => format!("{} {}", if found.holds { "yes" } else { "no" }, found.pairs),
+        Err(number) => format!("{number} {}", u32::from(rules.breaks(Mutant::RefusedQuestionCounted))),
     }
 }
 
-/// A line for each type with a character for each other type, or the refusing number.
+/// Two lines for each type, a character and a count for each other type, or the
+/// refusing number.
 pub fn subs_with<R: Rules>(case: Limited, rules: R) -> String {
     let table = match subtypes(case.file, case.limits, rules) {
         Ok(table) => table,
         Err(number) => return format!("{number}\n"),
     };
-    let line = |row: &Vec<bool>| row.iter().map(|&yes| if yes { '1' } else { '0' }).chain(['\n']).collect::<String>();
-    table.iter().map(line).collect()
+    let mut out = String::new();
+    for row in table {
+        out.extend(row.iter().map(|found| if found.holds { '1' } else { '0' }));
+        let counts: Vec<String> = row.iter().map(|found| found.pairs.to_string()).collect();
+        out += &format!("\n{}\n", counts.join(" "));
+    }
+    out
 }
 
 /// The pairs that every case of limits is asked about; no file has a type 600.
@@ -84,7 +98,8 @@ const PAIRS: [[usize; 2]; 4] = [[0, 0], [4, 4], [4, 5], [600, 0]];
 /// Every operation that takes limits: reading, the subtype question, the check.
 pub fn limits_with<R: Rules>(case: Limited, rules: R) -> String {
     let answers = PAIRS.map(|pair| below(case, pair, rules)).join(" ");
-    format!("read {}sub {answers}\n{}", read_with(case, rules), check_in(case, LONGEST, rules))
+    let checked = with_pairs(check_in(case, LONGEST, rules));
+    format!("read {}sub {answers}\n{checked}", read_with(case, rules))
 }
 
 /// Splits packed files: 4 length bytes, low first, then the file.

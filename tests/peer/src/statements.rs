@@ -41,6 +41,7 @@ impl<R: Rules> Checker<'_, R> {
     pub(crate) fn statements(&mut self) -> Judged<bool> {
         let at = self.next;
         self.next += 1;
+        self.turn_comes(at);
         let scope = self.scope;
         let last = self.file.node(at).children();
         let mut mark = last == 0 && self.breaks(EmptyBlockReturns);
@@ -70,6 +71,7 @@ impl<R: Rules> Checker<'_, R> {
     fn statement(&mut self, behind: Option<u16>) -> Judged<bool> {
         let at = self.next;
         self.next += 1;
+        self.turn_comes(at);
         let n = self.file.node(at);
         let mark = match n.kind() {
             30 => self.assignment(at)?,
@@ -98,9 +100,8 @@ impl<R: Rules> Checker<'_, R> {
         if banned {
             return fault(15, at);
         }
-        let turned = self.breaks(AssignmentTurned);
-        let below = if turned { self.types.below(left, right) } else { self.types.below(right, left) };
-        if below { Ok(false) } else { fault(11, at) }
+        let pair = if self.breaks(AssignmentTurned) { [left, right] } else { [right, left] };
+        if self.ask(at, pair, AssignmentUncounted) { Ok(false) } else { fault(11, at) }
     }
 
     /// The left side is the name of a function or built-in that no local hides.
@@ -159,12 +160,13 @@ impl<R: Rules> Checker<'_, R> {
         if self.result == VOID {
             return fault(13, at);
         }
-        let below = self.types.below(t, self.result) || self.breaks(ReturnFree);
+        let below = self.ask(at, [t, self.result], ReturnUncounted) || self.breaks(ReturnFree);
         let equal = !self.breaks(ReturnEqual) || self.types.equal(t, self.result);
         if below && equal { Ok(true) } else { fault(11, if self.breaks(ReturnPlace) { child } else { at }) }
     }
 
     fn return_void(&mut self, at: usize) -> Judged<bool> {
+        self.pairs += u32::from(self.breaks(BareReturnCounted));
         if self.result == VOID || self.breaks(ReturnNothing) {
             return Ok(true);
         }
@@ -198,9 +200,8 @@ impl<R: Rules> Checker<'_, R> {
         if self.breaks(IfNullFormed) && !self.types.well_formed(n.t()) {
             return fault(9, at);
         }
-        let turned = self.breaks(IfNullTurned);
-        let below = if turned { self.types.below(n.t(), inside) } else { self.types.below(inside, n.t()) };
-        if !below {
+        let pair = if self.breaks(IfNullTurned) { [n.t(), inside] } else { [inside, n.t()] };
+        if !self.ask(at, pair, IfNullUncounted) {
             return fault(11, at);
         }
         if self.breaks(IfNullNameOutside) {

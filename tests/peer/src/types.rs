@@ -1,14 +1,25 @@
 //! Types of a readable file: document 01, "Subtyping and well-formed types",
 //! and document 001, sections 2 and 3.
 //!
-//! Every type gets the lowest number that is equal as written out, so that
-//! equality is one comparison, and every struct type the record it means.
+//! Every type gets the lowest number that is equal as written out, so that the
+//! types of fields are compared at once, and every struct type the record it means.
+//! The subtype question goes from pair to pair of types and counts them: document
+//! 02, (viii).
 
-use crate::file::{ARRAY, FUNCTION, File, Four, MOST, NULLABLE, STRUCT, Struct, listed, name_type};
-use crate::mutants::{Mutant::*, Rules};
+use crate::Below;
+use crate::file::{ARRAY, FUNCTION, File, Four, MOST, NULLABLE, STRING, STRUCT, Struct, listed, name_type};
+use crate::mutants::{Mutant, Mutant::*, Rules};
 
 /// No struct record, no binder, no link.
 pub const NONE: u16 = 65_535;
+
+/// How two types are compared: is one below the other, or are they equal as
+/// written out.
+#[derive(Clone, Copy, PartialEq, Eq)]
+pub(crate) enum How {
+    Below,
+    Equal,
+}
 
 const STRUCT_SLOTS: usize = 512;
 const TYPE_SLOTS: usize = 1024;
@@ -20,26 +31,24 @@ struct Known {
     lowest: u16,
     /// Of a struct type: its struct's number, or `NONE`.
     record: u16,
-    /// Every struct in it is declared.
-    well_formed: bool,
-    /// It is below itself.
-    below_itself: bool,
 }
 
 /// The table of a file's types.
 pub struct Types<'a, R> {
-    file: File<'a>,
+    pub(crate) file: File<'a>,
     known: [Known; MOST[0]],
+    /// Every struct in it is declared.
+    formed: [bool; MOST[0]],
     /// The first struct whose name an earlier struct has.
     pub doubled: Option<u16>,
-    rules: R,
+    pub(crate) rules: R,
 }
 
 impl<'a, R: Rules> Types<'a, R> {
     /// The empty table; `learn_all` fills it in its place.
     #[inline(always)]
     pub fn new(file: &File<'a>, rules: R) -> Self {
-        Types { file: *file, known: [Known::default(); MOST[0]], doubled: None, rules }
+        Types { file: *file, known: [Known::default(); MOST[0]], formed: [false; MOST[0]], doubled: None, rules }
     }
 
     pub fn learn_all(&mut self) {
@@ -48,10 +57,12 @@ impl<'a, R: Rules> Types<'a, R> {
         let mut slots = [NONE; TYPE_SLOTS];
         for i in 0..self.file.types.len() as u16 {
             self.known[i as usize] = self.learn(i, &names, &mut slots);
+            self.formed[i as usize] = self.is_formed(i);
         }
     }
 
-    fn breaks(&self, m: crate::mutants::Mutant) -> bool {
+    #[inline(always)]
+    pub(crate) fn breaks(&self, m: Mutant) -> bool {
         self.rules.breaks(m)
     }
 
@@ -82,38 +93,35 @@ impl<'a, R: Rules> Types<'a, R> {
     /// Type i, when all lower types are known.
     fn learn(&self, i: u16, names: &[u16; STRUCT_SLOTS], slots: &mut [u16; TYPE_SLOTS]) -> Known {
         let t = self.file.ty(i);
-        let part = |p: u16| self.known[p as usize];
-        let mut known = Known { lowest: i, record: NONE, well_formed: true, below_itself: true };
-        match t.kind() {
-            STRUCT => {
-                known.record = names[self.struct_slot(names, t.a())];
-                known.well_formed = known.record != NONE;
-                known.below_itself = known.well_formed || self.breaks(UndeclaredBelowItself);
-            }
-            ARRAY => {
-                known.well_formed = part(t.a()).well_formed || self.breaks(ElementsNotFormed);
-                known.below_itself = known.well_formed || !self.breaks(ArrayBelowItselfIfFormed);
-            }
-            FUNCTION => self.learn_function(t, &mut known),
-            NULLABLE => {
-                known.well_formed = part(t.a()).well_formed || self.breaks(NullableNotFormed);
-                known.below_itself = part(t.a()).below_itself;
-            }
-            _ => return known,
+        let mut known = Known { lowest: i, record: NONE };
+        if t.kind() < STRUCT {
+            return known;
+        }
+        if t.kind() == STRUCT {
+            known.record = names[self.struct_slot(names, t.a())];
         }
         known.lowest = if self.breaks(NumbersCompared) { i } else { self.lowest_equal(i, t, slots) };
         known
     }
 
-    fn learn_function(&self, t: Four, known: &mut Known) {
-        let result = self.known[t.a() as usize];
-        known.well_formed = result.well_formed || self.breaks(ReturnNotFormed);
-        known.below_itself = result.below_itself;
-        for p in self.file.parameters(t) {
-            let p = self.known[listed(p) as usize];
-            known.well_formed &= p.well_formed || self.breaks(ParametersNotFormed);
-            known.below_itself &= p.below_itself;
+    /// Every struct in type i is declared, when that is known of all lower types.
+    fn is_formed(&self, i: u16) -> bool {
+        let t = self.file.ty(i);
+        match t.kind() {
+            STRUCT => self.known[i as usize].record != NONE,
+            ARRAY => self.well_formed(t.a()) || self.breaks(ElementsNotFormed),
+            FUNCTION => self.function_formed(t),
+            NULLABLE => self.well_formed(t.a()) || self.breaks(NullableNotFormed),
+            _ => true,
         }
+    }
+
+    fn function_formed(&self, t: Four) -> bool {
+        let mut formed = self.well_formed(t.a()) || self.breaks(ReturnNotFormed);
+        for p in self.file.parameters(t) {
+            formed &= self.well_formed(listed(p)) || self.breaks(ParametersNotFormed);
+        }
+        formed
     }
 
     /// Finds an equal type among the lower ones, or enters i.
@@ -181,7 +189,7 @@ impl<'a, R: Rules> Types<'a, R> {
     /// Document 001, section 3.
     #[inline(always)]
     pub fn well_formed(&self, t: u16) -> bool {
-        self.known[t as usize].well_formed
+        self.formed[t as usize]
     }
 
     /// The struct that a struct type means, if it is declared.
@@ -192,35 +200,56 @@ impl<'a, R: Rules> Types<'a, R> {
 
     /// Document 001, section 2: a is below b.
     #[inline]
-    pub fn below(&self, a: u16, b: u16) -> bool {
-        if self.equal(a, b) {
-            return self.known[a as usize].below_itself;
-        }
-        self.unequal_below(a, b)
+    pub fn below(&self, a: u16, b: u16) -> Below {
+        let found = self.compare(How::Below, a, b);
+        self.other_count(a, b, found).unwrap_or(found)
     }
 
-    fn unequal_below(&self, a: u16, b: u16) -> bool {
+    /// One pair of types and all that it leads to.
+    #[inline]
+    pub(crate) fn compare(&self, how: How, a: u16, b: u16) -> Below {
+        match self.rules.mutant() {
+            None => self.pair(how, a, b),
+            Some(mutant) => self.pair_under(mutant, how, a, b),
+        }
+    }
+
+    /// The pair counts 1. A reference is below a nullable if it is below what that
+    /// refers to; arrays are below each other if their elements are equal.
+    pub(crate) fn pair(&self, how: How, a: u16, b: u16) -> Below {
         let (t, u) = (self.file.ty(a), self.file.ty(b));
         match (t.kind(), u.kind()) {
-            (NULLABLE, NULLABLE) => !self.breaks(NullablesInvariant) && self.below(t.a(), u.a()),
-            (NULLABLE, _) => self.breaks(NullableBelowPlain) && self.below(t.a(), b),
-            (_, NULLABLE) => !self.breaks(PlainNotBelowNullable) && self.below(a, u.a()),
-            (STRUCT, STRUCT) => self.struct_below(a, b),
-            (ARRAY, ARRAY) => self.array_below(t.a(), u.a()),
-            (FUNCTION, FUNCTION) => self.function_below(t, u),
-            _ => false,
+            (NULLABLE, NULLABLE) => Below::one(true).then(|| self.compare(how, t.a(), u.a())),
+            (STRING | STRUCT | ARRAY | FUNCTION, NULLABLE) if how == How::Below => {
+                Below::one(true).then(|| self.compare(how, a, u.a()))
+            }
+            (STRUCT, STRUCT) => Below::one(if how == How::Below { self.struct_below(a, b) } else { t.a() == u.a() }),
+            (ARRAY, ARRAY) => Below::one(true).then(|| self.compare(How::Equal, t.a(), u.a())),
+            (FUNCTION, FUNCTION) => self.functions(how, t, u),
+            (kind, other) => Below::one(kind == other),
         }
     }
 
-    /// Arrays are invariant: unequal ones are below each other under mutants only.
-    fn array_below(&self, a: u16, b: u16) -> bool {
-        self.breaks(ArraysCovariant) && self.below(a, b)
-            || self.breaks(ArraysOfMutual) && self.below(a, b) && self.below(b, a)
+    /// Functions turn round in parameters, of equal number; return types come last.
+    fn functions(&self, how: How, t: Four, u: Four) -> Below {
+        let (p, q) = (self.file.parameters(t), self.file.parameters(u));
+        let mut found = Below::one(p.len() == q.len());
+        let parameters = p.iter().zip(q).map(|(p, q)| (listed(q), listed(p)));
+        for (a, b) in parameters.chain([(t.a(), u.a())]) {
+            if !found.holds {
+                break;
+            }
+            found = found.then(|| self.compare(how, a, b));
+        }
+        found
     }
 
     /// Both are declared and b's fields, name and type each, begin a's.
     fn struct_below(&self, a: u16, b: u16) -> bool {
         let (Some(s), Some(z)) = (self.record(a), self.record(b)) else { return false };
+        if s.name == z.name {
+            return true;
+        }
         let (s, z) = if self.breaks(PrefixTurned) { (z, s) } else { (s, z) };
         let least = z.count + usize::from(self.breaks(PrefixProper));
         let count_ok = s.count >= least || self.breaks(PrefixCommon);
@@ -239,34 +268,5 @@ impl<'a, R: Rules> Types<'a, R> {
     fn widened(&self, a: u16, b: u16) -> bool {
         let u = self.file.ty(b);
         self.breaks(FieldTypesBelow) && u.kind() == NULLABLE && self.equal(a, u.a())
-    }
-
-    /// Functions turn round in parameters, of equal number.
-    fn function_below(&self, t: Four, u: Four) -> bool {
-        let (p, q) = (self.file.parameters(t), self.file.parameters(u));
-        let numbers = p.len() == q.len() || self.breaks(ParameterNumberFree);
-        numbers
-            && p.iter().zip(q).all(|(p, q)| self.parameter_below(listed(p), listed(q)))
-            && self.return_below(t.a(), u.a())
-    }
-
-    fn parameter_below(&self, p: u16, q: u16) -> bool {
-        if self.breaks(ParametersCovariant) {
-            return self.below(p, q);
-        }
-        if self.breaks(ParametersInvariant) {
-            return self.equal(p, q);
-        }
-        self.below(q, p)
-    }
-
-    fn return_below(&self, a: u16, b: u16) -> bool {
-        if self.breaks(ReturnContravariant) {
-            return self.below(b, a);
-        }
-        if self.breaks(ReturnInvariant) {
-            return self.equal(a, b);
-        }
-        self.below(a, b) || b == crate::file::VOID && self.breaks(AllBelowVoid)
     }
 }

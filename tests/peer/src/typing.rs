@@ -7,6 +7,7 @@
 //! left by cutting the stack. A row is written when its node is typed.
 
 use crate::Answer;
+use crate::Below;
 use crate::file::{File, Four, VOID, listed, name_type};
 use crate::mutants::{Mutant, Mutant::*, Rules};
 use crate::tree::Declarations;
@@ -47,6 +48,10 @@ pub(crate) struct Checker<'a, R> {
     pub next: usize,
     /// The return type of the function.
     pub result: u16,
+    /// How many pairs of types the questions so far compared: document 02, (viii).
+    pub pairs: u32,
+    /// Only under mutants: the sum where each node's turn came, and the step's.
+    pub sums: Vec<u32>,
     step: u16,
     pub rules: R,
 }
@@ -65,6 +70,8 @@ impl<'a, R: Rules> Checker<'a, R> {
             own: 0,
             next: 0,
             result: VOID,
+            pairs: 0,
+            sums: Vec::new(),
             step: 0,
             rules,
         }
@@ -76,14 +83,15 @@ impl<'a, R: Rules> Checker<'a, R> {
     }
 
     /// All steps in order, then the answer.
-    pub fn run(mut self, declarations: &Declarations) -> Answer {
-        match self.steps(declarations.starts()) {
-            Ok(()) => Answer { number: 0, step: self.step, place: 0 },
+    pub fn run(&mut self, declarations: &Declarations) -> Answer {
+        let Fault { number, place } = match self.steps(declarations.starts()) {
+            Ok(()) => Fault { number: 0, place: 0 },
             Err(fault) => {
                 self.rows.fill([NONE; 2]);
-                Answer { number: fault.number, step: self.step, place: fault.place }
+                fault
             }
-        }
+        };
+        Answer { number, step: self.step, place, pairs: self.other_sum(number).unwrap_or(self.pairs) }
     }
 
     fn steps(&mut self, starts: &[u16]) -> Judged<()> {
@@ -116,6 +124,7 @@ impl<'a, R: Rules> Checker<'a, R> {
         for &at in starts {
             let n = self.file.node(at as usize);
             if n.kind() == kind {
+                self.step_begins(kind);
                 step(self, at as usize, n)?;
                 self.step += 1;
             }
@@ -259,6 +268,36 @@ impl<'a, R: Rules> Checker<'a, R> {
         }
         self.rows[at] = [u16::from(mark && !self.breaks(FunctionRowNone)), NONE];
         Ok(())
+    }
+
+    /// One subtype question of a rule.
+    #[inline(always)]
+    pub fn question(&self, a: u16, b: u16) -> Below {
+        let found = self.types.below(a, b);
+        Below { pairs: self.other_question(found).unwrap_or(found.pairs), ..found }
+    }
+
+    /// Adds to the sum what the questions at a node took; whether they hold. A
+    /// mutant leaves them out.
+    #[inline(always)]
+    pub fn count(&mut self, at: usize, asked: Below, free: Mutant) -> bool {
+        self.pairs += self.other_addend(at, asked, free).unwrap_or(asked.pairs);
+        asked.holds
+    }
+
+    /// A node's only question.
+    #[inline(always)]
+    pub fn ask(&mut self, at: usize, [a, b]: [u16; 2], free: Mutant) -> bool {
+        let asked = self.question(a, b);
+        self.count(at, asked, free)
+    }
+
+    /// A list's questions with one more, asked if those before it hold. They come
+    /// after all children, so the sum gets them when all of these are typed.
+    #[inline(always)]
+    pub fn also(&mut self, asked: Below, [a, b]: [u16; 2], early: Mutant) -> Below {
+        let more = asked.then(|| self.question(a, b));
+        self.other_also(asked, more, [a, b], early).unwrap_or(more)
     }
 
     /// The latest binder of a name, or `NONE`.

@@ -37,7 +37,7 @@ impl Question {
     /// What is printed for one case.
     pub fn show(self, case: Limited) -> String {
         match self {
-            Question::Check => print::check_with(case, Exact) + "--\n",
+            Question::Check => print::pairs_with(case, Exact) + "--\n",
             Question::Read => print::read_with(case, Exact),
             Question::Sub => print::subs_with(case, Exact) + "--\n",
             Question::Limits => print::limits_with(case, Exact) + "--\n",
@@ -47,15 +47,19 @@ impl Question {
     /// What a mutant prints. A mutant of reading is asked to read only, since
     /// what it lets pass is no tree that can be typed. The other questions ask
     /// under 200 and 100 alone, so mutants of limits have their own. Those of
-    /// the empty file are asked everything.
+    /// the empty file and of counting are asked everything that shows them.
     fn show_mutant(self, case: Limited, mutant: Mutant, part: Part) -> Option<String> {
         match (self, part) {
-            (Question::Limits, Part::Limits | Part::Empty) => Some(print::limits_with(case, mutant) + "--\n"),
+            (Question::Limits, Part::Limits | Part::Empty | Part::Pairs) => {
+                Some(print::limits_with(case, mutant) + "--\n")
+            }
             (Question::Limits, _) | (_, Part::Limits) => None,
             (Question::Read, Part::Reading | Part::Empty) => Some(print::read_with(case, mutant)),
             (Question::Check, Part::Reading) => None,
-            (Question::Check, _) => Some(print::check_with(case, mutant) + "--\n"),
-            (Question::Sub, Part::Subtyping | Part::Empty) => Some(print::subs_with(case, mutant) + "--\n"),
+            (Question::Check, _) => Some(print::pairs_with(case, mutant) + "--\n"),
+            (Question::Sub, Part::Subtyping | Part::Empty | Part::Pairs) => {
+                Some(print::subs_with(case, mutant) + "--\n")
+            }
             _ => None,
         }
     }
@@ -81,15 +85,22 @@ pub fn files(question: Question) -> Vec<u8> {
 /// The cases written by hand alone, for each question.
 pub fn hand_written() -> [Vec<u8>; 4] {
     let reading = pack(cases::reading().into_iter().map(|c| c.1));
-    let checked = typing_cases().into_iter().chain(name_cases()).chain(endless_cases()).chain(level_cases());
-    [pack(checked), reading, pack(subtyping_cases()), pack_limited(limit_cases_by_hand())]
+    let checked =
+        [typing_cases(), name_cases(), endless_cases(), level_cases(), cases_with_sums()].into_iter().flatten();
+    let tables = subtyping_cases().into_iter().chain(counted_tables());
+    [pack(checked), reading, pack(tables), pack_limited(limit_cases_by_hand())]
 }
 
 /// Generated files alone, for each question.
 pub fn generated() -> [Vec<u8>; 4] {
     let programs = generator::programs(6, 12_000);
-    let special =
-        [generator::field_names(13, 1000), generator::endless(16, 1000), generator::levels(19, 1000)].concat();
+    let special = [
+        generator::field_names(13, 1000),
+        generator::endless(16, 1000),
+        generator::levels(19, 1000),
+        generator::pairs(27, 1000),
+    ]
+    .concat();
     let checked = [programs.clone(), special].concat();
     [checked, programs, generator::type_tables(7, 400), generator::limited(8, 1000)]
 }
@@ -114,6 +125,14 @@ fn level_cases() -> Vec<Vec<u8>> {
     cases::levels().into_iter().map(|r| r.case.file).collect()
 }
 
+fn cases_with_sums() -> Vec<Vec<u8>> {
+    cases::summed().into_iter().map(|s| s.case.file).collect()
+}
+
+fn counted_tables() -> Vec<Vec<u8>> {
+    cases::counted().into_iter().map(|c| c.file).collect()
+}
+
 fn subtyping_cases() -> Vec<Vec<u8>> {
     let mut files: Vec<Vec<u8>> = Vec::new();
     for q in cases::subtyping() {
@@ -126,8 +145,8 @@ fn subtyping_cases() -> Vec<Vec<u8>> {
 
 /// All cases written by hand, a sample of the generator, and more of its files
 /// for each mutant of typing that few of these catch; then those about field
-/// names, about endless loops and about names in inner blocks, each later than
-/// the ones before, so that all others keep their places.
+/// names, about endless loops, about names in inner blocks and about compared
+/// pairs, each later than the ones before, so that all others keep their places.
 fn check_files() -> Vec<Vec<u8>> {
     let mut files = typing_cases();
     files.extend(small(&generator::programs(1, 360), 4000));
@@ -139,6 +158,8 @@ fn check_files() -> Vec<Vec<u8>> {
     files.extend(small(&generator::endless(15, 80), 1200));
     files.extend(level_cases());
     files.extend(small(&generator::levels(18, 230), 700));
+    files.extend(cases_with_sums());
+    files.extend(small(&generator::pairs(26, 80), 1200));
     files
 }
 
@@ -148,9 +169,12 @@ fn read_files() -> Vec<Vec<u8>> {
     files
 }
 
+/// Tables written by hand, generated ones, then those about counts of pairs, so
+/// that all others keep their places. Every pair is printed with its count.
 fn sub_files() -> Vec<Vec<u8>> {
     let mut files = subtyping_cases();
     files.extend(small(&generator::type_tables(4, 400), 2500));
+    files.extend(counted_tables());
     files
 }
 
@@ -204,7 +228,7 @@ pub fn table(packed: &[Vec<u8>; 4]) -> Vec<(Mutant, Part, [usize; 4])> {
     ALL.iter().map(|&(m, part, _)| (m, part, count(m, part))).collect()
 }
 
-const PARTS: [Part; 10] = [
+const PARTS: [Part; 11] = [
     Part::Reading,
     Part::Subtyping,
     Part::Expressions,
@@ -215,6 +239,7 @@ const PARTS: [Part; 10] = [
     Part::Names,
     Part::Endless,
     Part::Levels,
+    Part::Pairs,
 ];
 
 /// What `mutants` prints: a line for each part, as docs/TESTING.md has it, and a line for each mutant.

@@ -26,7 +26,7 @@ fn short_by_one() {
         }
         for (rows, work) in [(need - 1, need), (need, need - 1), (need - 1, need - 1), (0, need), (need, 0)] {
             let (answer, rows, work) = run(&case.file, rows, work);
-            assert_eq!(answer, Answer { number: 6, step: 0, place: 0 }, "{}", case.name);
+            assert_eq!(answer, Answer { number: 6, step: 0, place: 0, pairs: 0 }, "{}", case.name);
             assert!(untouched(&rows) && untouched(&work), "{}", case.name);
         }
     }
@@ -48,7 +48,7 @@ fn unreadable_files() {
     for (name, file, number) in reading().into_iter().filter(|c| c.2 > 0) {
         for length in [0, 10_000] {
             let (answer, rows, work) = run(&file, length, length);
-            assert_eq!(answer, Answer { number, step: 0, place: 0 }, "{name}");
+            assert_eq!(answer, Answer { number, step: 0, place: 0, pairs: 0 }, "{name}");
             assert!(untouched(&rows) && untouched(&work), "{name}");
         }
     }

@@ -5,7 +5,7 @@ use oat_peer::{Answer, Below, Limits, check, node_count, read, subtype};
 
 fn answer(file: &[u8]) -> [u16; 3] {
     let size = 2 * node_count(file);
-    let Answer { number, step, place } = check(file, Limits::WIDEST, &mut vec![0; size], &mut vec![0; size]);
+    let Answer { number, step, place, .. } = check(file, Limits::WIDEST, &mut vec![0; size], &mut vec![0; size]);
     [number, step, place]
 }
 
@@ -35,7 +35,12 @@ fn typing_cases() {
 fn subtyping_cases() {
     for q in subtyping() {
         let [a, b] = q.pair.map(usize::from);
-        assert_eq!(subtype(&q.file, Limits::WIDEST, a, b), q.answer, "{}, {a} below {b}", q.name);
+        assert_eq!(
+            subtype(&q.file, Limits::WIDEST, a, b).map(|found| found.holds),
+            q.answer,
+            "{}, {a} below {b}",
+            q.name
+        );
     }
 }
 
@@ -43,13 +48,13 @@ fn subtyping_cases() {
 #[test]
 fn types_not_in_the_file() {
     let four = oat_peer::program::Program::new().bytes();
-    assert_eq!(subtype(&four, Limits::WIDEST, 4, 0), Below::Refused(17));
-    assert_eq!(subtype(&four, Limits::WIDEST, 0, 4), Below::Refused(17));
-    assert_eq!(subtype(&four, Limits::WIDEST, 3, 3), Below::Yes);
-    assert_eq!(subtype(&[], Limits::WIDEST, 4, 4), Below::Refused(17));
-    assert_eq!(subtype(&[4], Limits::WIDEST, 4, 4), Below::Refused(1));
+    assert_eq!(subtype(&four, Limits::WIDEST, 4, 0), Err(17));
+    assert_eq!(subtype(&four, Limits::WIDEST, 0, 4), Err(17));
+    assert_eq!(subtype(&four, Limits::WIDEST, 3, 3), Ok(Below::one(true)));
+    assert_eq!(subtype(&[], Limits::WIDEST, 4, 4), Err(17));
+    assert_eq!(subtype(&[4], Limits::WIDEST, 4, 4), Err(1));
     for (name, file, number) in reading().into_iter().filter(|c| c.2 > 0) {
-        assert_eq!(subtype(&file, Limits::WIDEST, 9999, 0), Below::Refused(number), "{name}");
+        assert_eq!(subtype(&file, Limits::WIDEST, 9999, 0), Err(number), "{name}");
     }
 }
 

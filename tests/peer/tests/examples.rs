@@ -1,5 +1,6 @@
 //! The examples: each program file has a text beside it with the answer that the peer gives.
 
+use oat_peer::mutants::Exact;
 use oat_peer::mutants::Mutant::{FreshAtAllLevels, WhileGoesOn};
 use oat_peer::print::{self, Limited};
 use std::collections::BTreeSet;
@@ -33,6 +34,18 @@ fn each_text_has_the_answer() {
         let file = std::fs::read(folder().join(name.clone() + ".oat")).expect("an example");
         let text = std::fs::read_to_string(folder().join(name.clone() + ".txt")).expect("its text");
         assert_eq!(told(&text), print::check(&file), "{name}");
+    }
+}
+
+/// The fourth number, which is not printed, stands last.
+#[test]
+fn each_text_has_the_pairs() {
+    for name in names(".oat") {
+        let file = std::fs::read(folder().join(name.clone() + ".oat")).expect("an example");
+        let text = std::fs::read_to_string(folder().join(name.clone() + ".txt")).expect("its text");
+        let shown = print::pairs_with(Limited::widest(&file), Exact);
+        let pairs = shown.lines().last().and_then(|l| l.strip_prefix("pairs ")).expect("the pairs");
+        assert_eq!(text.lines().last(), Some(format!("Pairs of types compared: {pairs}.").as_str()), "{name}");
     }
 }
 

@@ -33,7 +33,7 @@ fn untouched(numbers: &[u16]) -> bool {
 }
 
 fn refused(number: u16) -> Answer {
-    Answer { number, step: 0, place: 0 }
+    Answer { number, step: 0, place: 0, pairs: 0 }
 }
 
 /// Files of every number.
@@ -61,7 +61,7 @@ fn limit_cases() {
         assert_eq!([found.number, found.step, found.place], answer, "{name}, {limits:?}");
         let number = if (6..=16).contains(&answer[0]) { 0 } else { answer[0] };
         assert_eq!(read(&file, limits), number, "{name}, {limits:?}");
-        let below = if number == 0 { Below::Yes } else { Below::Refused(number) };
+        let below = if number == 0 { Ok(Below::one(true)) } else { Err(number) };
         assert_eq!(subtype(&file, limits, 0, 0), below, "{name}, {limits:?}");
     }
 }
@@ -115,8 +115,8 @@ fn number_25_first() {
     for (name, file, _) in reading() {
         for limits in outside() {
             assert_eq!(read(&file, limits), 25, "{name}");
-            assert_eq!(subtype(&file, limits, 0, 0), Below::Refused(25), "{name}");
-            assert_eq!(subtype(&file, limits, 9999, 9999), Below::Refused(25), "{name}");
+            assert_eq!(subtype(&file, limits, 0, 0), Err(25), "{name}");
+            assert_eq!(subtype(&file, limits, 9999, 9999), Err(25), "{name}");
             assert_eq!(run(&file, limits, [0, 0]).0, refused(25), "{name}");
         }
     }
@@ -124,9 +124,9 @@ fn number_25_first() {
     assert_eq!(run(&example, set(1, 2), [3, 4]).0, refused(6));
     assert_eq!(run(&example, set(1, 1), [3, 4]).0, refused(5));
     assert_eq!(run(&example, set(1, 0), [3, 4]).0, refused(25));
-    assert_eq!(subtype(&example, set(1, 2), 4, 0), Below::Refused(17));
-    assert_eq!(subtype(&example, set(1, 1), 4, 0), Below::Refused(5));
-    assert_eq!(subtype(&example, set(0, 2), 4, 0), Below::Refused(25));
+    assert_eq!(subtype(&example, set(1, 2), 4, 0), Err(17));
+    assert_eq!(subtype(&example, set(1, 1), 4, 0), Err(5));
+    assert_eq!(subtype(&example, set(0, 2), 4, 0), Err(25));
     let late = check_under(&example, set(1, 0), &mut [0; 3], &mut [0; 4], RangeAfterShort);
     assert_eq!(late, refused(6));
 }
@@ -156,7 +156,7 @@ fn measures_decide() {
 }
 
 /// What is shown of a case, as far as it may not move.
-type Shown = (u16, Answer, Vec<u16>, [Below; 2]);
+type Shown = (u16, Answer, Vec<u16>, [Result<Below, u16>; 2]);
 
 fn shown(Limited { file, limits }: Limited) -> Shown {
     let (answer, rows, _) = run(file, limits, [LONGEST; 2]);

@@ -172,9 +172,9 @@ fn printed() {
     assert_eq!(print::check(&Program::new().bytes()), "0 0 0\n");
     assert_eq!(print::check(&[]), "0 0 0\n");
     assert_eq!(print::check(&[4]), "1 0 0\n");
-    assert_eq!(print::sub(print::Limited::widest(&example), [0, 0]), "yes\n");
-    assert_eq!(print::sub(print::Limited::widest(&example), [0, 1]), "no\n");
-    assert_eq!(print::sub(print::Limited::widest(&example), [4, 0]), "17\n");
-    assert_eq!(print::sub(print::Limited::widest(&[]), [4, 0]), "17\n");
-    assert_eq!(print::sub(print::Limited::widest(&[4]), [4, 0]), "1\n");
+    assert_eq!(print::sub(print::Limited::widest(&example), [0, 0]), "yes 1\n");
+    assert_eq!(print::sub(print::Limited::widest(&example), [0, 1]), "no 1\n");
+    assert_eq!(print::sub(print::Limited::widest(&example), [4, 0]), "17 0\n");
+    assert_eq!(print::sub(print::Limited::widest(&[]), [4, 0]), "17 0\n");
+    assert_eq!(print::sub(print::Limited::widest(&[4]), [4, 0]), "1 0\n");
 }

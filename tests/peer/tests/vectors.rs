@@ -57,7 +57,7 @@ fn sizes() {
     let size = |q, end| fs::metadata(path(q, end)).expect("a stored file").len();
     let others = QUESTIONS.iter().filter(|&&q| q != Question::Limits);
     let all: u64 = others.map(|&q| size(q, "bin") + size(q, "txt")).sum();
-    assert!(all <= 3_300_000, "{all} bytes");
+    assert!(all <= 4_400_000, "{all} bytes");
     assert!(size(Question::Limits, "bin") < 600_000);
     let limited = stored(Question::Limits);
     assert!(Question::Limits.unpack(&limited).iter().all(|c| c.file.len() < 45_200));
@@ -81,6 +81,9 @@ fn every_mutant_is_caught() {
     let of_levels = || table.iter().filter(|m| m.1 == Part::Levels);
     assert!(of_levels().count() >= 45);
     assert!(of_levels().all(|m| m.2[0] >= 5), "{:?}", of_levels().filter(|m| m.2[0] < 5).collect::<Vec<_>>());
+    let of_pairs = || table.iter().filter(|m| m.1 == Part::Pairs);
+    let few = of_pairs().filter(|m| m.2.iter().sum::<usize>() < 4).collect::<Vec<_>>();
+    assert!(of_pairs().count() >= 70 && few.is_empty(), "{few:?}");
 }
 
 /// Each number but 6 has at least 2 % of the generator's files.

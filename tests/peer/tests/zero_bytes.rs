@@ -31,7 +31,8 @@ const LATER: [usize; 12] = [4, 5, 6, 7, 255, 256, 511, 512, 65_535, 65_536, u32:
 /// The check in painted buffers; whether they are as before.
 fn run(file: &[u8], limits: Limits, [rows, work]: [usize; 2]) -> ([u16; 3], bool) {
     let (mut rows, mut work) = (vec![MARK; rows], vec![MARK; work]);
-    let Answer { number, step, place } = check(file, limits, &mut rows, &mut work);
+    let Answer { number, step, place, pairs } = check(file, limits, &mut rows, &mut work);
+    assert_eq!(pairs, 0);
     ([number, step, place], rows.iter().chain(&work).all(|&n| n == MARK))
 }
 
@@ -54,7 +55,7 @@ fn same_answers() {
             assert_eq!(read(file, limits), number, "{limits:?}");
             assert_eq!(run(file, limits, [LONGEST; 2]), ([number, 0, 0], true), "{limits:?}");
             assert_eq!(subtypes(file, limits, Exact).err().unwrap_or(0), number, "{limits:?}");
-            assert_eq!(subtype(file, limits, 3, 4), Below::Refused(if number == 0 { 17 } else { 25 }), "{limits:?}");
+            assert_eq!(subtype(file, limits, 3, 4), Err(if number == 0 { 17 } else { 25 }), "{limits:?}");
         }
         assert_eq!(subtypes(EMPTY, limits, Exact), subtypes(&four(), limits, Exact), "{limits:?}");
     }
@@ -80,7 +81,7 @@ fn buffers_of_every_length() {
 fn sixteen_pairs() {
     for limits in settings().into_iter().filter(|limits| limits.in_range()) {
         for (a, b) in (0..4).flat_map(|a| (0..4).map(move |b| (a, b))) {
-            let right = if a == b { Below::Yes } else { Below::No };
+            let right = Ok(Below::one(a == b));
             assert_eq!(subtype(EMPTY, limits, a, b), right, "{a} below {b}");
             assert_eq!(subtype(&four(), limits, a, b), right, "{a} below {b}");
         }
@@ -93,8 +94,8 @@ fn later_types() {
     for limits in [Limits::WIDEST, Limits { parts: 1, depth: 1 }] {
         for (later, any) in LATER.into_iter().flat_map(|t| (0..4).chain(LATER).map(move |any| (t, any))) {
             for file in [EMPTY, &four()] {
-                assert_eq!(subtype(file, limits, later, any), Below::Refused(17), "{later} below {any}");
-                assert_eq!(subtype(file, limits, any, later), Below::Refused(17), "{any} below {later}");
+                assert_eq!(subtype(file, limits, later, any), Err(17), "{later} below {any}");
+                assert_eq!(subtype(file, limits, any, later), Err(17), "{any} below {later}");
             }
         }
     }
@@ -113,7 +114,7 @@ fn one_byte() {
             }
             assert_eq!(subtypes(&[byte], limits, Exact), Err(number), "{byte}");
             for (a, b) in [(0, 0), (0, 1), (3, 3), (4, 4), (usize::MAX, 0)] {
-                assert_eq!(subtype(&[byte], limits, a, b), Below::Refused(number), "{byte}");
+                assert_eq!(subtype(&[byte], limits, a, b), Err(number), "{byte}");
             }
         }
     }
@@ -147,7 +148,9 @@ fn bytes_of_value_zero() {
 /// What is printed for zero bytes, written out, is what is printed for the 44.
 #[test]
 fn printed() {
-    let lines = ["0 0 0\n--\n", "0\n", "1000\n0100\n0010\n0001\n--\n", "read 0\nsub yes 17 17 17\n0 0 0\n--\n"];
+    let table = "1000\n1 1 1 1\n0100\n1 1 1 1\n0010\n1 1 1 1\n0001\n1 1 1 1\n--\n";
+    let limited = "read 0\nsub yes 1 17 0 17 0 17 0\n0 0 0\npairs 0\n--\n";
+    let lines = ["0 0 0\npairs 0\n--\n", "0\n", table, limited];
     for (question, line) in QUESTIONS.into_iter().zip(lines) {
         assert_eq!(question.show(Limited::widest(EMPTY)), line, "{question:?}");
         assert_eq!(question.show(Limited::widest(&four())), line, "{question:?}");
@@ -180,18 +183,21 @@ fn commands() {
         ("check 1 1", ["0 0 0\n", "1 0 0\n"]),
         ("read", ["0\n", "1\n"]),
         ("read 201 1", ["25\n", "25\n"]),
-        ("sub 2 2", ["yes\n", "1\n"]),
-        ("sub 0 3", ["no\n", "1\n"]),
-        ("sub 4 0", ["17\n", "1\n"]),
-        ("sub 4 0 1 101", ["25\n", "25\n"]),
+        ("sub 2 2", ["yes 1\n", "1 0\n"]),
+        ("sub 0 3", ["no 1\n", "1 0\n"]),
+        ("sub 4 0", ["17 0\n", "1 0\n"]),
+        ("sub 4 0 1 101", ["25 0\n", "25 0\n"]),
     ] {
         assert_eq!([EMPTY, &[4]].map(|file| command(words, file)), printed, "{words}");
     }
-    assert_eq!(command("batch", &many), "0 0 0\n--\n1 0 0\n--\n");
+    assert_eq!(command("batch", &many), "0 0 0\npairs 0\n--\n1 0 0\npairs 0\n--\n");
     assert_eq!(command("readbatch", &many), "0\n1\n");
-    assert_eq!(command("subbatch", &many), "1000\n0100\n0010\n0001\n--\n1\n--\n");
-    let refused = |number: u16| format!("read {number}\nsub {number} {number} {number} {number}\n{number} 0 0\n--\n");
-    let accepted = "read 0\nsub yes 17 17 17\n0 0 0\n--\n";
+    assert_eq!(command("subbatch", &many), "1000\n1 1 1 1\n0100\n1 1 1 1\n0010\n1 1 1 1\n0001\n1 1 1 1\n--\n1\n--\n");
+    let refused = |number: u16| {
+        let answers = vec![format!("{number} 0"); 4].join(" ");
+        format!("read {number}\nsub {answers}\n{number} 0 0\npairs 0\n--\n")
+    };
+    let accepted = "read 0\nsub yes 1 17 0 17 0 17 0\n0 0 0\npairs 0\n--\n";
     assert_eq!(command("limitbatch", &cases), [accepted, &refused(1), &refused(25)].concat());
     assert!(command("tally", &many).starts_with("0 1 50.0 %\n1 1 50.0 %\n2 0 "));
     assert!(command("bench 1", &many).starts_with("files 2 nodes 0 "));

@@ -13,5 +13,5 @@ oat-subtype-spec =
     (λ c. search needs)
     (λ c. search needs)
     (λ c. when-refused _ _ _ _ _ _ _ (c .before .before .before .subtype .ensures) _ (c .before .answer .given .1))
-    (λ c. when-yes _ _ _ _ _ _ _ (c .before .before .subtype .ensures) (c .enum-told .given .1))
-    (λ c. when-no _ _ _ _ _ _ _ (c .before .before .subtype .ensures) (c .enum-told2 .given .1)))
+    (λ c. when-yes _ _ _ _ _ _ _ (c .before .before .before .subtype .ensures) _ (c .before .answer2 .given .1))
+    (λ c. when-no _ _ _ _ _ _ _ (c .before .before .before .subtype .ensures) _ (c .before .answer3 .given .1)))

@@ -6,6 +6,7 @@ mod endless;
 mod levels;
 mod limits;
 mod names;
+mod pairs;
 mod reading;
 pub mod rows;
 mod subtyping;
@@ -15,6 +16,7 @@ pub use endless::{Marked, endless};
 pub use levels::{Resolved, levels};
 pub use limits::{LimitCase, limits};
 pub use names::names;
+pub use pairs::{Counted, Summed, counted, summed};
 pub use reading::reading;
 pub use subtyping::{Question, subtyping};
 pub use typing::typing;
@@ -32,7 +34,8 @@ pub struct Case {
 pub fn checked() -> Vec<Case> {
     let marked = endless().into_iter().map(|m| m.case);
     let resolved = levels().into_iter().map(|r| r.case);
-    typing().into_iter().chain(names()).chain(marked).chain(resolved).collect()
+    let with_sums = summed().into_iter().map(|s| s.case);
+    typing().into_iter().chain(names()).chain(marked).chain(resolved).chain(with_sums).collect()
 }
 
 /// Types of the usual table.

@@ -1,18 +1,17 @@
 //! Cases of "Subtyping and well-formed types".
 
 use super::*;
-use crate::Below;
 
-/// A subtype question with its answer.
+/// A subtype question with its answer: yes or no, or the refusing number.
 pub struct Question {
     pub name: &'static str,
     pub file: Vec<u8>,
     pub pair: [u16; 2],
-    pub answer: Below,
+    pub answer: Result<bool, u16>,
 }
 
 fn asked(name: &'static str, file: Vec<u8>, pair: [u16; 2], yes: bool) -> Question {
-    Question { name, file, pair, answer: if yes { Below::Yes } else { Below::No } }
+    Question { name, file, pair, answer: Ok(yes) }
 }
 
 pub fn subtyping() -> Vec<Question> {
@@ -169,8 +168,7 @@ fn doubled(all: &mut Vec<Question>) {
 /// Document 02's request (v): the four types of zero bytes are those of the 44
 /// bytes, each below itself alone; one byte is refused.
 fn zero_bytes(all: &mut Vec<Question>) {
-    let refused =
-        |name, file: &[u8], pair, number| Question { name, file: file.to_vec(), pair, answer: Below::Refused(number) };
+    let refused = |name, file: &[u8], pair, number| Question { name, file: file.to_vec(), pair, answer: Err(number) };
     for (name, file) in [("zero bytes", vec![]), ("types 0 to 3 and nothing else", Program::new().bytes())] {
         for pair in (0..4).flat_map(|a| (0..4).map(move |b| [a, b])) {
             all.push(asked(name, file.clone(), pair, pair[0] == pair[1]));

@@ -4,7 +4,7 @@ use super::rng::Rng;
 use super::tables;
 use crate::mutants::Exact;
 use crate::program::*;
-use crate::{Limits, subtypes};
+use crate::{Below, Limits, subtypes};
 
 const INT: u16 = 0;
 const BOOL: u16 = 1;
@@ -23,7 +23,7 @@ struct Bound {
 struct Maker<'r> {
     rng: &'r mut Rng,
     p: Program,
-    below: Vec<Vec<bool>>,
+    below: Vec<Vec<Below>>,
     formed: Vec<bool>,
     globals: Vec<Bound>,
     locals: Vec<Bound>,
@@ -105,7 +105,7 @@ impl Maker<'_> {
     }
 
     fn is_below(&self, a: u16, b: u16) -> bool {
-        self.below[a as usize][b as usize]
+        self.below[a as usize][b as usize].holds
     }
 
     /// The well-formed types that satisfy a test.

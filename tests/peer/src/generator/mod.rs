@@ -1,6 +1,6 @@
 //! The generator: well-typed programs, near misses, damaged files, files of the
-//! largest sizes, files about field names, about endless loops and about names in
-//! inner blocks, from a seed.
+//! largest sizes, files about field names, about endless loops, about names in
+//! inner blocks and about compared pairs of types, from a seed.
 
 mod bodies;
 mod damage;
@@ -10,6 +10,7 @@ mod levels;
 mod limits;
 mod misses;
 mod names;
+mod pairs;
 mod rng;
 mod tables;
 
@@ -53,6 +54,12 @@ pub fn endless(seed: u64, count: usize) -> Vec<u8> {
 pub fn levels(seed: u64, count: usize) -> Vec<u8> {
     let mut rng = Rng::new(seed ^ 0x6C65_7665);
     pack((0..count).map(|_| levels::file(&mut rng)))
+}
+
+/// Packed files that ask many subtype questions about large types.
+pub fn pairs(seed: u64, count: usize) -> Vec<u8> {
+    let mut rng = Rng::new(seed ^ 0x7061_6972);
+    pack((0..count).map(|_| pairs::file(&mut rng)))
 }
 
 /// Packed cases of limits: the files of `programs`, each under four settings in a row.

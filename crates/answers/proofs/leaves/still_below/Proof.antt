@@ -1,6 +1,6 @@
 -- `leaves::still_below` meets its contract. Assumes nothing.
 use borrow.Author.Needs.{needs}
-use Rattle.answers.proofs.LawsAnswers.{expected-there, no-longer, still}
+use Rattle.answers.proofs.LawsAnswers.{expected-there, no-longer, still, few-pairs}
 use Rattle.answers.proofs.leaves.still_below.Statement.{statement}
 use Rattle.answers.proofs.leaves.still_below.Tie as tie
 
@@ -11,4 +11,5 @@ still-below-spec =
     (λ c. search (no-longer, needs))
     (λ c κs. search needs)
     (λ c κs. search (expected-there, needs))
+    (λ c κs. search (few-pairs, expected-there, needs))
     (λ c. search (still, needs)))

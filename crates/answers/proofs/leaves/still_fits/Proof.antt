@@ -1,6 +1,6 @@
 -- `leaves::still_fits` meets its contract. Assumes nothing.
 use borrow.Author.Needs.{needs}
-use Rattle.answers.proofs.LawsAnswers.{no-longer, fits-none, fits-field, field-there}
+use Rattle.answers.proofs.LawsAnswers.{no-longer, fits-none, fits-field, field-there, few-pairs}
 use Rattle.answers.proofs.leaves.still_fits.Statement.{statement}
 use Rattle.answers.proofs.leaves.still_fits.Tie as tie
 
@@ -14,4 +14,5 @@ still-fits-spec =
     (λ c. search needs)
     (λ c. search (fits-none, needs))
     (λ c κs. search (field-there, needs))
+    (λ c κs. search (few-pairs, field-there, needs))
     (λ c. search (fits-field, needs)))

@@ -185,7 +185,7 @@ returns-6 c =
     let at-first = at-type-kind .before .before in
     let at-expression = at-first .before .before .before .before .before .before in
     let at-start = at-expression .before .before .before .before .before .before .before .before .before in
-    call-ok (at-start .pre .0) (at-start .pre .1) (at-expression .expression .ensures) (at-first .first .given .1) (at-type-kind .type-kind .ensures .0) (at-if1 .if1 .left) (at-type-a .type-a .ensures .0) (at-type-kind2 .type-kind2 .ensures .0) (at-if2 .if2 .left) (at-type-c .type-c .ensures .0) (at-node-children .node-children .ensures .0) (at-if3 .if3 .left) (at-type-b .type-b .ensures .0) (at-list .list .ensures) (at-enum-told .enum-told .given .1) (answered (at-ends .ends .ensures .0) refl refl) (at-ends .ends .ensures .1)
+    call-ok (at-start .pre .0) (at-start .pre .1) (at-expression .expression .ensures) (at-first .first .given .1) (at-type-kind .type-kind .ensures .0) (at-if1 .if1 .left) (at-type-a .type-a .ensures .0) (at-type-kind2 .type-kind2 .ensures .0) (at-if2 .if2 .left) (at-type-c .type-c .ensures .0) (at-node-children .node-children .ensures .0) (at-if3 .if3 .left) (at-type-b .type-b .ensures .0) (at-list .list .ensures) (at-enum-told .enum-told .given .1) (answered (at-ends .ends .ensures .0) refl refl refl) (at-ends .ends .ensures .1)
 
 pub call-statement-spec : {M : Type 1} → statement M
 call-statement-spec =

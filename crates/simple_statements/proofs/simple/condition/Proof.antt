@@ -27,7 +27,7 @@ returns c =
     let at-if1 = at-ends .before .before .before in
     let at-node-kind = at-if1 .before in
     let at-start = at-node-kind .before .before .before .before .before in
-    condition-none (at-start .pre) (at-node-kind .node-kind .ensures .0) (at-if1 .if1 .taken) (answered (at-ends .ends .ensures .0) refl refl) (at-ends .ends .ensures .1)
+    condition-none (at-start .pre) (at-node-kind .node-kind .ensures .0) (at-if1 .if1 .taken) (answered (at-ends .ends .ensures .0) refl refl refl) (at-ends .ends .ensures .1)
 
 expression-requires : tie.Need-expression-requires
 expression-requires c κs =
@@ -70,7 +70,7 @@ returns-4 c =
     let at-if1 = at-expression .before .before .before .before in
     let at-node-kind = at-if1 .before in
     let at-start = at-node-kind .before .before .before .before .before in
-    condition-ok (at-start .pre) (at-node-kind .node-kind .ensures .0) (at-if1 .if1 .left) (at-expression .expression .ensures) (at-judgement .judgement .given .1) (at-type-kind .type-kind .ensures .0) (c .before .if2 .left) (answered (c .goes-on .ensures) refl refl)
+    condition-ok (at-start .pre) (at-node-kind .node-kind .ensures .0) (at-if1 .if1 .left) (at-expression .expression .ensures) (at-judgement .judgement .given .1) (at-type-kind .type-kind .ensures .0) (c .before .if2 .left) (answered (c .goes-on .ensures) refl refl refl)
 
 pub condition-spec : {M : Type 1} → statement M
 condition-spec = tie.close (tie.spec node-kind-requires add-t16 ends-requires (λ c. search needs) returns expression-requires (λ c. search needs) (λ c. search needs) (λ c. search needs) returns-2 type-kind-requires (λ c κs. search needs) (λ c. search needs) (λ c. search needs) returns-3 (λ c κs. search needs) (λ c. search needs) (λ c. search needs) returns-4)

@@ -18,7 +18,7 @@ returns-2 c =
     let at-if1 = at-ends .before .before .before in
     let at-type-kind = at-if1 .before in
     let at-start = at-type-kind .before .before .before .before .before in
-    void-ok (at-start .pre .0 .0) (at-start .pre .1) (at-type-kind .type-kind .ensures .0) (at-if1 .if1 .left) (answered (at-ends .ends .ensures .0) refl refl) (at-ends .ends .ensures .1)
+    void-ok (at-start .pre .0 .0) (at-start .pre .1) (at-type-kind .type-kind .ensures .0) (at-if1 .if1 .left) (answered (at-ends .ends .ensures .0) refl refl refl) (at-ends .ends .ensures .1)
 
 pub return-void-spec : {M : Type 1} → statement M
 return-void-spec =

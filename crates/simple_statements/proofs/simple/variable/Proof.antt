@@ -90,7 +90,7 @@ returns-3 c =
     let at-judgement = at-node-x .before .before .before .before .before in
     let at-expression = at-judgement .before .before .before .before .before .before in
     let at-start = at-expression .before .before .before .before .before .before .before .before .before in
-    variable-ok (at-start .pre .0) (at-start .pre .1) (at-expression .expression .ensures) (at-judgement .judgement .given .1) (at-node-x .node-x .ensures .0) (at-is-fresh .is-fresh .ensures) (at-if1 .if1 .left) (at-bind .bind .ensures) (answered (at-ends .ends .ensures .0) refl refl) (at-ends .ends .ensures .1)
+    variable-ok (at-start .pre .0) (at-start .pre .1) (at-expression .expression .ensures) (at-judgement .judgement .given .1) (at-node-x .node-x .ensures .0) (at-is-fresh .is-fresh .ensures) (at-if1 .if1 .left) (at-bind .bind .ensures) (answered (at-ends .ends .ensures .0) refl refl refl) (at-ends .ends .ensures .1)
 
 pub variable-spec : {M : Type 1} → statement M
 variable-spec = tie.close (tie.spec add-is-fresh expression-requires (λ c. search needs) (λ c. search needs) (λ c. search needs) returns node-x-requires is-fresh-requires (λ c κs. search needs) (λ c. search needs) (λ c. search needs) returns-2 bind-requires add-t17 ends-requires same-length-5 same-length-6 returns-3)

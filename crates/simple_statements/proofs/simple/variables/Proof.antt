@@ -12,7 +12,7 @@ use Rattle.simple_statements.proofs.simple.variables.Tie as tie
 
 abbrev Inv-loop : tie.InvT-loop
 Inv-loop file frame index rows₀ work₀ chains₀ count start here₀ i₀ rows work chains here i =
-    WalkedVars file (frame .sections) index (frame .base) start (here₀ .node) (here₀ .scope) rows₀ work₀ count (here .node) (here .scope) i rows work chains × (length rows ≡ length rows₀) × (length work ≡ length work₀)
+    WalkedVars file (frame .sections) index (frame .base) start (here₀ .node) (here₀ .scope) (here₀ .pairs) rows₀ work₀ count (here .node) (here .scope) (here .pairs) i rows work chains × (length rows ≡ length rows₀) × (length work ≡ length work₀)
 
 abbrev μ-loop : tie.MeasureT-loop
 μ-loop file frame index rows₀ work₀ chains₀ count start here₀ i₀ rows work chains here i = count - i
@@ -62,7 +62,7 @@ returns-2 : tie.Need-returns-2 Inv-loop μ-loop
 returns-2 c =
     let at-loop = c .before .before in
     let at-start = at-loop .before .before .before .before .before in
-    vars-done (at-start .pre) (at-loop .loop .inv .0) (c .before .loop-test .left) (answered (c .goes-on .ensures) refl refl)
+    vars-done (at-start .pre) (at-loop .loop .inv .0) (c .before .loop-test .left) (answered (c .goes-on .ensures) refl refl refl)
 
 pub variables-spec : {M : Type 1} → statement M
 variables-spec = tie.close (tie.spec Inv-loop μ-loop loop-holds variable-requires (λ c. search needs) (λ c. search needs) (λ c. search needs) returns add-i loop-less loop-again (λ c κs. search needs) (λ c. search needs) (λ c. search needs) returns-2)

@@ -8,7 +8,7 @@ use borrow.Author.Needs.{needs}
 use borrow.Fn.Kinds.{In}
 use borrow.Fn.PlainCycle.{Measures, is, falls, and}
 use Rattle.type_index.proofs.LawsIndex.{entered}
-use Rattle.subtyping.proofs.LawsTypesBelow.{itself-below, array-lower, nullable-lower, returns-lower, params-of, params-too, kinds-apart, below-4, from-7, string-held, other-held, base-below, struct-is, array-is, nullable-is, counts-differ, params-fail, returns-are, no-params, first-lower, other-params, first-fails, others-decide}
+use Rattle.subtyping.proofs.LawsTypesBelow.{answers, itself-below, array-lower, nullable-lower, returns-lower, params-of, params-too, kinds-apart, below-4, from-7, string-held, other-held, base-below, struct-is, function-is, array-is, nullable-is, counts-differ, params-fail, returns-are, no-params, first-lower, other-params, first-fails, others-decide}
 use Rattle.subtyping.proofs.below.below.Reads as below
 use Rattle.subtyping.proofs.below.below.Kinds as below-kinds
 use Rattle.subtyping.proofs.below.+below+by_kinds+function_below+kind_below+params_below.Lts-below as below-lts
@@ -24,14 +24,17 @@ use Rattle.subtyping.proofs.below.+below+by_kinds+function_below+kind_b
 use Rattle.subtyping.proofs.below.params_below.Reads as params-below
 use Rattle.subtyping.proofs.below.params_below.Kinds as params-below-kinds
 use Rattle.subtyping.proofs.below.+below+by_kinds+function_below+kind_below+params_below.Lts-params_below as params-below-lts
+use Rattle.subtyping.proofs.below.equal.Reads as equal-reads
 use Rattle.subtyping.proofs.below.is_itself.Reads as is-itself-reads
+use Rattle.subtyping.proofs.below.one_pair.Reads as one-pair-reads
+use Rattle.subtyping.proofs.below.pair.Reads as pair-reads
 use Rattle.file_sections.proofs.records.list_entry.Reads as list-entry-reads
 use Rattle.file_sections.proofs.records.type_a.Reads as type-a-reads
 use Rattle.file_sections.proofs.records.type_b.Reads as type-b-reads
 use Rattle.file_sections.proofs.records.type_c.Reads as type-c-reads
 use Rattle.file_sections.proofs.records.type_kind.Reads as type-kind-reads
 use Rattle.subtyping.proofs.below.struct_below.Reads as struct-below-reads
-use Rattle.type_index.proofs.same.same.Reads as same-reads
+use Rattle.type_index.proofs.parts.parts_of.Reads as parts-of-reads
 use Rattle.subtyping.proofs.below.+below+by_kinds+function_below+kind_below+params_below.{statement}
 use Rattle.subtyping.proofs.below.+below+by_kinds+function_below+kind_below+params_below.Tie.{close}
 
@@ -103,24 +106,31 @@ pub +below+by-kinds+function-below+kind-below+params-below-spec : {M : Type 1} �
     close μ-below μ-by-kinds μ-function-below μ-kind-below μ-params-below (λ t. below-lts.spec (
       is-itself-reads.Asked,
       is-itself-reads.Learnt,
+      parts-of-reads.Asked,
+      parts-of-reads.Learnt,
       by-kinds-below t,
       by-kinds.Post,
     )
     (below-at t)
     below.Post
     (λ c κs. (search (entered, needs), search (entered, needs)))
-    (λ c. search (itself-below, needs))
+    (λ c κs. search (entered, needs))
+    (λ c. let P = c .before .before .before .before .before .pre .1 in answers _ _ (P .0) _ _ (P .2) (P .3) _ (search (itself-below, needs)))
     (λ c κs. (omega arith, search needs))
-    (λ c. search needs))
+    (λ c. let P = c .before .before .before .before .before .pre .1 in answers _ _ (P .0) _ _ (P .2) (P .3) _ (c .by-kinds .ensures)))
     (λ t. by-kinds-lts.spec (
       type-kind-reads.Asked,
       type-kind-reads.Learnt,
       kind-below-below t,
       kind-below.Post,
+      one-pair-reads.Asked,
+      one-pair-reads.Learnt,
       type-a-reads.Asked,
       type-a-reads.Learnt,
       below-below t,
       below.Post,
+      pair-reads.Asked,
+      pair-reads.Learnt,
     )
     (by-kinds-at t)
     by-kinds.Post
@@ -128,18 +138,22 @@ pub +below+by-kinds+function-below+kind-below+params-below-spec : {M : Type 1} �
     (λ c κs. search needs)
     (λ c κs. (omega arith, search needs))
     (λ c. search needs)
+    (λ c κs. search needs)
     (λ c. search (kinds-apart, needs))
+    (λ c κs. search needs)
     (λ c κs. search needs)
     (λ c κs.
     let A = c .before .before .before .before .before .before .before .before in
     let x : c .type-a .result < A .args .b = search (nullable-lower, needs) in
     (omega arith, search needs))
-    (λ c. search (below-4, needs))
-    (λ c. search (from-7, needs))
-    (λ c. ⊎-elim (λ w. search (string-held, needs)) (λ w. search (other-held, needs)) (c .before .before .match .came)))
+    (λ c κs. search needs)
+    (λ c. ⊎-elim (λ w. search (below-4, needs)) (λ w. search (from-7, needs)) (c .before .if3 .came))
+    (λ c. ⊎-elim (λ w. search (string-held, needs)) (λ w. search (other-held, needs)) (c .before .before .before .match .came)))
     (λ t. function-below-lts.spec (
       type-c-reads.Asked,
       type-c-reads.Learnt,
+      one-pair-reads.Asked,
+      one-pair-reads.Learnt,
       type-b-reads.Asked,
       type-b-reads.Learnt,
       params-below-below t,
@@ -153,6 +167,7 @@ pub +below+by-kinds+function-below+kind-below+params-below-spec : {M : Type 1} �
     function-below.Post
     (λ c κs. search needs)
     (λ c κs. search needs)
+    (λ c κs. search needs)
     (λ c. search (counts-differ, needs))
     (λ c κs. search needs)
     (λ c κs. search needs)
@@ -161,22 +176,41 @@ pub +below+by-kinds+function-below+kind-below+params-below-spec : {M : Type 1} �
     let b = params-too _ _ (P .0) _ _ _ _ (c .before .type-b .ensures .0) (c .before .before .before .type-c2 .ensures .0) (c .before .before .if1 .left) (P .5) (P .3) in
     let a = params-of _ _ (P .0) _ _ _ (c .type-b2 .ensures .0) (c .before .before .before .before .type-c .ensures .0) (P .4) (P .2) in
     (omega arith, (P .0, P .1, P .3, P .2, b, a)))
+    (λ c. search needs)
     (λ c. search (params-fail, needs))
     (λ c κs. search needs)
     (λ c κs. search needs)
     (λ c κs.
-    let A = c .before .before .before .before .before .before .before .before .before .before .before in
+    let A = c .before .before .before .before .before .before .before .before .before .before .before .before in
     let x : c .before .type-a .result < A .args .a = search (returns-lower, needs) in
     let y : c .type-a2 .result < A .args .b = search (returns-lower, needs) in
     (omega arith, search needs))
-    (λ c. search (returns-are, needs)))
+    (λ c. search needs)
+    (λ c. search needs)
+    (λ c.
+    let at-below = c .before .before in
+    let at-type-a2 = at-below .before in
+    let at-type-a = at-type-a2 .before in
+    let at-if2 = at-type-a .before in
+    let at-params-below = at-if2 .before .before in
+    let at-type-b2 = at-params-below .before in
+    let at-type-b = at-type-b2 .before in
+    let at-if1 = at-type-b .before in
+    let at-type-c2 = at-if1 .before in
+    let at-type-c = at-type-c2 .before in
+    let P = at-type-c .before .before .before .pre .1 in
+    returns-are _ _ (P .0) _ _ (P .2) (P .3) _ _ (at-type-c .type-c .ensures .0) (at-type-c2 .type-c2 .ensures .0) (at-if1 .if1 .left) _ _ _ (at-type-b .type-b .ensures .0) (at-type-b2 .type-b2 .ensures .0) (at-params-below .params-below .ensures .0) _ _ _ (at-if2 .if2 .left) (at-type-a .type-a .ensures .0) (at-type-a2 .type-a2 .ensures .0) (at-below .below .ensures .0)))
     (λ t. kind-below-lts.spec (
       struct-below-reads.Asked,
       struct-below-reads.Learnt,
+      one-pair-reads.Asked,
+      one-pair-reads.Learnt,
       type-a-reads.Asked,
       type-a-reads.Learnt,
-      same-reads.Asked,
-      same-reads.Learnt,
+      equal-reads.Asked,
+      equal-reads.Learnt,
+      pair-reads.Asked,
+      pair-reads.Learnt,
       function-below-below t,
       function-below.Post,
       below-below t,
@@ -187,11 +221,13 @@ pub +below+by-kinds+function-below+kind-below+params-below-spec : {M : Type 1} �
     (λ c κs. search needs)
     (λ c κs. search needs)
     (λ c κs. search needs)
+    (λ c κs. search needs)
     (λ c κs.
     let A = c .before .before .before .before .before in
     let x : c .before .type-a .result < A .args .a = search (array-lower, needs) in
     let y : c .type-a2 .result < A .args .b = search (array-lower, needs) in
-    (search (entered, needs), search (entered, needs)))
+    search needs)
+    (λ c κs. search needs)
     (λ c κs. (omega arith, search needs))
     (λ c κs. search needs)
     (λ c κs. search needs)
@@ -200,9 +236,11 @@ pub +below+by-kinds+function-below+kind-below+params-below-spec : {M : Type 1} �
     let x : c .before .type-a3 .result < A .args .a = search (nullable-lower, needs) in
     let y : c .type-a4 .result < A .args .b = search (nullable-lower, needs) in
     (omega arith, search needs))
+    (λ c κs. search needs)
+    (λ c κs. search needs)
     (λ c. search (struct-is, needs))
     (λ c. search (array-is, needs))
-    (λ c. search needs)
+    (λ c. search (function-is, needs))
     (λ c. search (nullable-is, needs))
     (λ c. search (base-below, needs)))
     λ t. params-below-lts.spec (
@@ -215,7 +253,7 @@ pub +below+by-kinds+function-below+kind-below+params-below-spec : {M : Type 1} �
     )
     (params-below-at t)
     params-below.Post
-    (λ c. search (no-params, needs))
+    (λ c. (search (no-params, needs), search needs))
     (λ c κs. search needs)
     (λ c κs. search needs)
     (λ c κs.
@@ -223,9 +261,13 @@ pub +below+by-kinds+function-below+kind-below+params-below-spec : {M : Type 1} �
     let x : c .before .list-entry .result < A .args .a = search (first-lower, needs) in
     let y : c .list-entry2 .result < A .args .b = search (first-lower, needs) in
     (omega arith, search needs))
-    (λ c. search (first-fails, needs))
+    (λ c. (search (first-fails, needs), search needs))
     (λ c. search needs)
     (λ c. search needs)
     (λ c. search needs)
     (λ c κs. (omega arith, (search needs, search needs, search needs, search needs, search (other-params, needs), search (other-params, needs))))
-    (λ c. search (others-decide, needs))
+    (λ c.
+    let at-below = c .before .before .before .before .before in
+    let P = at-below .before .before .before .before .before .before .pre .1 in
+    omega (arith, c .before .before .params-below .ensures .1, at-below .below .ensures .1 .1, P .4 .listed, P .0 .laid .list-most))
+    (λ c. (search (others-decide, needs), search needs))

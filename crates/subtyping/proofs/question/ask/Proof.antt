@@ -12,5 +12,6 @@ ask-spec =
     (λ c κs. search needs)
     (λ c. search needs)
     (λ c κs. search needs)
+    (λ c. search needs)
     (λ c. search (says-yes, needs))
     (λ c. search (says-no, needs)))

@@ -1,4 +1,4 @@
--- `question::subtype` meets its contract, in which its number and its yes speak of programs and of the rules. Assumes nothing.
+-- `question::subtype` meets its contract, in which its number, its yes and its count speak of programs and of the rules. Assumes nothing.
 use borrow.Author.Needs.{needs}
 use Rattle.oat.proofs.LawsBlank.{these-meant}
 use Rattle.subtyping.proofs.LawsQuestion.{not-read, first-lacks, second-lacks, tables-there, both-there, with-answers}

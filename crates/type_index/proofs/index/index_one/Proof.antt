@@ -13,7 +13,7 @@ index-one-spec =
     (λ c κs. (search needs, (search needs, (search needs, search (kind-read, needs)))))
     (λ c κs. (search needs, (search needs, (search needs, search needs))))
     (λ c κs. (search needs, (search needs, search (kind-read, needs))))
-    (λ c κs. (search needs, search needs, search needs, search needs, search (base-low, needs)))
+    (λ c κs. (search needs, search needs, search needs, search needs, search needs, search (base-low, needs)))
     (λ c. search needs)
     (λ c. search needs)
     (λ c. search needs)

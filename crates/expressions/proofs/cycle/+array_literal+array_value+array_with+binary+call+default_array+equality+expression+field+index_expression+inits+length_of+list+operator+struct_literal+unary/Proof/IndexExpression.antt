@@ -12,7 +12,7 @@ use Rattle.file_sections.proofs.records.type_kind.Reads as type-kind-reads
 use Rattle.expressions.proofs.cycle.+array_literal+array_value+array_with+binary+call+default_array+equality+expression+field+index_expression+inits+length_of+list+operator+struct_literal+unary.Proof.Measures.{index-expression-at, expression-below}
 use Rattle.expressions.proofs.LawsMeets.{untyped}
 use Rattle.expressions.proofs.LawsChild.{child-type, child-fine}
-use Rattle.expressions.proofs.LawsPairs.{element-first, element-no, element-sort, element-second, element-no-2, element-sort-2, element-given, element-ok}
+use Rattle.expressions.proofs.LawsTwo.{element-first, element-no, element-sort, element-second, element-no-2, element-sort-2, element-given, element-ok}
 use Rattle.expressions.proofs.LawsListRules.{row-fits}
 
 abbrev claims : ℕ → index-expression-lts.Claims

@@ -11,7 +11,7 @@ use Rattle.file_sections.proofs.records.type_kind.Reads as type-kind-reads
 use Rattle.expressions.proofs.cycle.+array_literal+array_value+array_with+binary+call+default_array+equality+expression+field+index_expression+inits+length_of+list+operator+struct_literal+unary.Proof.Measures.{operator-at, expression-below}
 use Rattle.expressions.proofs.LawsMeets.{untyped}
 use Rattle.expressions.proofs.LawsChild.{child-type, child-fine}
-use Rattle.expressions.proofs.LawsPairs.{binary-first, binary-no, binary-second, operator-given, operator-sort, operator-no-2, operator-sort-2, operator-ok}
+use Rattle.expressions.proofs.LawsTwo.{binary-first, binary-no, binary-second, operator-given, operator-sort, operator-no-2, operator-sort-2, operator-ok}
 use Rattle.expressions.proofs.LawsListRules.{row-fits}
 
 abbrev claims : ℕ → operator-lts.Claims

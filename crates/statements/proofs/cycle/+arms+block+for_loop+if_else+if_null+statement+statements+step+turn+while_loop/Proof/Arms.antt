@@ -89,7 +89,7 @@ returns-3 t c =
     let at-match = at-leave .before .before .before in
     let at-block = at-match .before .before .before .before .before in
     let at-start = at-block .before .before .before .before .before .before .before .before in
-    arms-goes (at-start .pre .1) (at-block .block .ensures) (unrefused _ (at-match .match .keys2)) (at-leave .leave .ensures) (at-block2 .block2 .ensures) (unrefused _ (at-match2 .match2 .keys2)) (at-mark-of .mark-of .ensures .0) (c .before .if1 .taken) (answered (c .goes-on .ensures) refl refl)
+    arms-goes (at-start .pre .1) (at-block .block .ensures) (unrefused _ (at-match .match .keys2)) (at-leave .leave .ensures) (at-block2 .block2 .ensures) (unrefused _ (at-match2 .match2 .keys2)) (at-mark-of .mark-of .ensures .0) (c .before .if1 .taken) (answered (c .goes-on .ensures) refl refl refl)
 
 same-length-7 : (t : ℕ) → arms-lts.Need-same-length-7 (claims t) (arms-at t) arms.Post
 same-length-7 t c =

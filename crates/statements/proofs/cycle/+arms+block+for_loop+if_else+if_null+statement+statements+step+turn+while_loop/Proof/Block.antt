@@ -79,7 +79,7 @@ returns-2 t c =
     let at-statements = at-match .before .before .before .before .before in
     let at-node-children = at-statements .before in
     let at-start = at-node-children .before .before .before .before .before .before .before .before .before in
-    block-ok (at-start .pre .1) (at-node-children .node-children .ensures .0) (at-statements .statements .ensures) (unrefused _ (at-match .match .keys2)) (at-leave .leave .ensures) (at-mark-of .mark-of .ensures .0) (answered (at-ends .ends .ensures .0) refl refl) (at-ends .ends .ensures .1)
+    block-ok (at-start .pre .1) (at-node-children .node-children .ensures .0) (at-statements .statements .ensures) (unrefused _ (at-match .match .keys2)) (at-leave .leave .ensures) (at-mark-of .mark-of .ensures .0) (answered (at-ends .ends .ensures .0) refl refl refl) (at-ends .ends .ensures .1)
 
 pub closed : {M : Type 1} (t : ℕ) → block-lts.Closed (claims t) (block-at t) block.Post M
 closed t = block-lts.spec (claims t) (block-at t) block.Post (add-ends t) (node-children-requires t) (statements-requires t) (λ c. search needs) (λ c. search needs) (λ c. search needs) (returns t) (leave-requires t) (λ c κs. search needs) (ends-requires t) (same-length-3 t) (same-length-4 t) (returns-2 t)

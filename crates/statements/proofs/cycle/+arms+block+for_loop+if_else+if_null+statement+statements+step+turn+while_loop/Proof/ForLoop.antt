@@ -165,7 +165,7 @@ returns-4 t c =
     let at-variables = at-enum-told .before .before .before .before .before .before in
     let at-node-children = at-variables .before in
     let at-start = at-node-children .before .before .before .before .before .before .before .before .before in
-    for-ok (at-start .pre .1 .0 .0) (at-start .pre .1 .1) (at-node-children .node-children .ensures .0) (at-variables .variables .ensures) (at-enum-told .enum-told .given .1) refl (at-condition .condition .ensures) (at-enum-told2 .enum-told2 .given .1) (at-turn .turn .ensures) (unrefused _ (at-match3 .match3 .keys2)) (at-leave .leave .ensures) (answered (at-ends .ends .ensures .0) refl refl) (at-ends .ends .ensures .1)
+    for-ok (at-start .pre .1 .0 .0) (at-start .pre .1 .1) (at-node-children .node-children .ensures .0) (at-variables .variables .ensures) (at-enum-told .enum-told .given .1) refl (at-condition .condition .ensures) (at-enum-told2 .enum-told2 .given .1) (at-turn .turn .ensures) (unrefused _ (at-match3 .match3 .keys2)) (at-leave .leave .ensures) (answered (at-ends .ends .ensures .0) refl refl refl) (at-ends .ends .ensures .1)
 
 pub closed : {M : Type 1} (t : ℕ) → for-loop-lts.Closed (claims t) (for-loop-at t) for-loop.Post M
 closed t = for-loop-lts.spec (claims t) (for-loop-at t) for-loop.Post (add-t20 t) (node-children-requires t) (sub-variables t) (variables-requires t) (λ c. search needs) (λ c. search needs) (λ c. search needs) (returns t) (condition-requires t) (λ c. search needs) (same-length-3 t) (same-length-4 t) (returns-2 t) (turn-requires t) (λ c. search needs) (same-length-5 t) (same-length-6 t) (returns-3 t) (leave-requires t) (ends-requires t) (same-length-7 t) (same-length-8 t) (returns-4 t)

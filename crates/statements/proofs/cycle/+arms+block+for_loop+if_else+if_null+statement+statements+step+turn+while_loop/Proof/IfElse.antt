@@ -114,7 +114,7 @@ returns-4 t c =
     let at-first = at-type-kind .before .before in
     let at-expression = at-first .before .before .before .before .before .before in
     let at-start = at-expression .before .before .before .before .before .before .before .before .before in
-    if-ok (at-start .pre .1 .0) (at-start .pre .1 .1) (at-expression .expression .ensures) (at-first .first .given .1) (at-type-kind .type-kind .ensures .0) (at-if1 .if1 .left) (at-arms .arms .ensures) (unrefused _ (at-match2 .match2 .keys2)) (at-mark-of .mark-of .ensures .0) (answered (at-ends .ends .ensures .0) refl refl) (at-ends .ends .ensures .1)
+    if-ok (at-start .pre .1 .0) (at-start .pre .1 .1) (at-expression .expression .ensures) (at-first .first .given .1) (at-type-kind .type-kind .ensures .0) (at-if1 .if1 .left) (at-arms .arms .ensures) (unrefused _ (at-match2 .match2 .keys2)) (at-mark-of .mark-of .ensures .0) (answered (at-ends .ends .ensures .0) refl refl refl) (at-ends .ends .ensures .1)
 
 pub closed : {M : Type 1} (t : ℕ) → if-else-lts.Closed (claims t) (if-else-at t) if-else.Post M
 closed t = if-else-lts.spec (claims t) (if-else-at t) if-else.Post (add-if1 t) (expression-requires t) (λ c. search needs) (λ c. search needs) (λ c. search needs) (returns t) (type-kind-requires t) (λ c κs. search needs) (λ c. search needs) (λ c. search needs) (returns-2 t) (arms-requires t) (λ c. search needs) (same-length-5 t) (same-length-6 t) (returns-3 t) (λ c κs. search needs) (ends-requires t) (same-length-7 t) (same-length-8 t) (returns-4 t)

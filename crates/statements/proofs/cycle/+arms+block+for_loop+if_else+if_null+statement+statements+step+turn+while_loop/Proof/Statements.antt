@@ -19,7 +19,7 @@ abbrev claims : ℕ → statements-lts.Claims
 claims t = (refused-reads.Asked, refused-reads.Learnt, statement-below t, statement′.Post, mark-of-reads.Asked, mark-of-reads.Learnt, with-mark-reads.Asked, with-mark-reads.Learnt)
 
 abbrev Inv-loop : statements-lts.InvT-loop
-Inv-loop = λ file frame index rows₀ work₀ chains₀ count parent start here₀ previous₀ mark₀ i₀ rows work chains here previous mark i. WalkedStmts file (frame .sections) index (frame .base) start (frame .result) (here₀ .node) (here₀ .scope) rows₀ work₀ count parent (here .node) (here .scope) previous mark i rows work chains × (length rows ≡ length rows₀) × (length work ≡ length work₀)
+Inv-loop = λ file frame index rows₀ work₀ chains₀ count parent start here₀ previous₀ mark₀ i₀ rows work chains here previous mark i. WalkedStmts file (frame .sections) index (frame .base) start (frame .result) (here₀ .node) (here₀ .scope) (here₀ .pairs) rows₀ work₀ count parent (here .node) (here .scope) (here .pairs) previous mark i rows work chains × (length rows ≡ length rows₀) × (length work ≡ length work₀)
 
 abbrev μ-loop : statements-lts.MeasureT-loop
 μ-loop = λ file frame index rows₀ work₀ chains₀ count parent start here₀ previous₀ mark₀ i₀ rows work chains here previous mark i. count - i
@@ -85,7 +85,7 @@ returns-3 : (t : ℕ) → statements-lts.Need-returns-3 (claims t) (statements-a
 returns-3 t c =
     let at-loop = c .before .before in
     let at-start = at-loop .before .before .before .before .before in
-    run-done (at-start .pre .1) (at-loop .loop .inv .0) (c .before .loop-test .left) (answered (c .with-mark .ensures) refl refl)
+    run-done (at-start .pre .1) (at-loop .loop .inv .0) (c .before .loop-test .left) (answered (c .with-mark .ensures) refl refl refl)
 
 pub closed : {M : Type 1} (t : ℕ) → statements-lts.Closed (claims t) (statements-at t) statements.Post M
 closed t = statements-lts.spec (claims t) (statements-at t) statements.Post Inv-loop μ-loop (loop-holds t) (λ c κs. search needs) (λ c. search needs) (λ c. search needs) (returns t) (add-last t) (statement-requires t) (λ c. search needs) (λ c. search needs) (λ c. search needs) (returns-2 t) (λ c κs. search needs) (add-i t) (loop-less t) (loop-again t) (λ c κs. search needs) (λ c. search needs) (λ c. search needs) (returns-3 t)

@@ -39,7 +39,7 @@ returns t c =
     let at-if1 = at-ends .before .before .before in
     let at-node-kind = at-if1 .before in
     let at-start = at-node-kind .before .before .before .before .before in
-    step-absent (at-start .pre .1) (at-node-kind .node-kind .ensures .0) (at-if1 .if1 .taken) (answered (at-ends .ends .ensures .0) refl refl) (at-ends .ends .ensures .1)
+    step-absent (at-start .pre .1) (at-node-kind .node-kind .ensures .0) (at-if1 .if1 .taken) (answered (at-ends .ends .ensures .0) refl refl refl) (at-ends .ends .ensures .1)
 
 statement-requires : (t : ℕ) → step-lts.Need-statement-requires (claims t) (step-at t) step.Post
 statement-requires t c κs =
@@ -97,7 +97,7 @@ returns-4 t c =
     let at-if1 = at-statement .before .before .before .before in
     let at-node-kind = at-if1 .before in
     let at-start = at-node-kind .before .before .before .before .before in
-    step-ok (at-start .pre .1) (at-node-kind .node-kind .ensures .0) (at-if1 .if1 .left) (at-statement .statement .ensures) (unrefused _ (at-match .match .keys2)) (at-mark-of .mark-of .ensures .0) (at-if2 .if2 .left) (at-leave .leave .ensures) (answered (c .goes-on .ensures) refl refl)
+    step-ok (at-start .pre .1) (at-node-kind .node-kind .ensures .0) (at-if1 .if1 .left) (at-statement .statement .ensures) (unrefused _ (at-match .match .keys2)) (at-mark-of .mark-of .ensures .0) (at-if2 .if2 .left) (at-leave .leave .ensures) (answered (c .goes-on .ensures) refl refl refl)
 
 pub closed : {M : Type 1} (t : ℕ) → step-lts.Closed (claims t) (step-at t) step.Post M
 closed t = step-lts.spec (claims t) (step-at t) step.Post (node-kind-requires t) (add-t15 t) (ends-requires t) (λ c. search needs) (returns t) (statement-requires t) (λ c. search needs) (λ c. search needs) (λ c. search needs) (returns-2 t) (λ c κs. search needs) (λ c κs. search needs) (λ c. search needs) (λ c. search needs) (returns-3 t) (leave-requires t) (λ c κs. search needs) (same-length-6 t) (same-length-7 t) (returns-4 t)

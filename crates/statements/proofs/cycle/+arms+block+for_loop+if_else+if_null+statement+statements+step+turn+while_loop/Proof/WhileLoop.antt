@@ -123,7 +123,7 @@ returns-4 t c =
     let at-first = at-type-kind .before .before in
     let at-expression = at-first .before .before .before .before .before .before in
     let at-start = at-expression .before .before .before .before .before .before .before .before .before in
-    while-ok (at-start .pre .1 .0 .0) (at-start .pre .1 .1) (at-expression .expression .ensures) (at-first .first .given .1) (at-type-kind .type-kind .ensures .0) (at-if1 .if1 .left) (at-block .block .ensures) (unrefused _ (at-match2 .match2 .keys2)) (at-while-mark .while-mark .ensures .0) (answered (at-ends .ends .ensures .0) refl refl) (at-ends .ends .ensures .1)
+    while-ok (at-start .pre .1 .0 .0) (at-start .pre .1 .1) (at-expression .expression .ensures) (at-first .first .given .1) (at-type-kind .type-kind .ensures .0) (at-if1 .if1 .left) (at-block .block .ensures) (unrefused _ (at-match2 .match2 .keys2)) (at-while-mark .while-mark .ensures .0) (answered (at-ends .ends .ensures .0) refl refl refl) (at-ends .ends .ensures .1)
 
 pub closed : {M : Type 1} (t : ℕ) → while-loop-lts.Closed (claims t) (while-loop-at t) while-loop.Post M
 closed t = while-loop-lts.spec (claims t) (while-loop-at t) while-loop.Post (add-test t) (expression-requires t) (λ c. search needs) (λ c. search needs) (λ c. search needs) (returns t) (type-kind-requires t) (λ c κs. search needs) (λ c. search needs) (λ c. search needs) (returns-2 t) (block-requires t) (λ c. search needs) (same-length-5 t) (same-length-6 t) (returns-3 t) (while-mark-requires t) (ends-requires t) (same-length-7 t) (same-length-8 t) (returns-4 t)

@@ -134,7 +134,7 @@ with-step-requires c κs =
 
 same-length-7 : tie.Need-same-length-7
 same-length-7 c =
-    let at-row = c .before .before .before in
+    let at-row = c .before .before .before .before in
     let at-leave = at-row .before .before in
     let at-block = at-leave .before .before .before .before .before .before .before .before .before .before in
     let at-parameters = at-block .before .before .before .before .before .before .before .before .before .before .before in
@@ -142,7 +142,7 @@ same-length-7 c =
 
 same-length-8 : tie.Need-same-length-8
 same-length-8 c =
-    let at-row = c .before .before .before in
+    let at-row = c .before .before .before .before in
     let at-leave = at-row .before .before in
     let at-block = at-leave .before .before .before .before .before .before .before .before .before .before in
     let at-parameters = at-block .before .before .before .before .before .before .before .before .before .before .before in
@@ -150,7 +150,7 @@ same-length-8 c =
 
 returns-4 : tie.Need-returns-4
 returns-4 c =
-    let at-row = c .before .before .before in
+    let at-row = c .before .before .before .before in
     let at-leave = at-row .before .before in
     let at-enum-told2 = at-leave .before .before .before in
     let at-match = at-enum-told2 .before .before in
@@ -162,9 +162,9 @@ returns-4 c =
     let at-type-b = at-type-c .before in
     let at-node-t = at-type-b .before in
     let at-start = at-node-t .before .before .before .before .before in
-    body-ok (at-start .pre) (at-node-t .node-t .ensures .0) (at-type-b .type-b .ensures .0) (at-type-c .type-c .ensures .0) (at-parameters .parameters .ensures) (at-if1 .if1 .left) (at-type-a .type-a .ensures .0) (at-block .block .ensures) (unrefused _ (at-match .match .keys2)) (at-enum-told2 .enum-told2 .given .1) (at-leave .leave .ensures) (at-row .row .ensures) (c .with-step .ensures)
+    body-ok (at-start .pre) (at-node-t .node-t .ensures .0) (at-type-b .type-b .ensures .0) (at-type-c .type-c .ensures .0) (at-parameters .parameters .ensures) (at-if1 .if1 .left) (at-type-a .type-a .ensures .0) (at-block .block .ensures) (unrefused _ (at-match .match .keys2)) (at-enum-told2 .enum-told2 .given .1) (at-leave .leave .ensures) (at-row .row .ensures) (c .before .with-step .ensures) (c .summing .ensures)
 
 pub body-step-spec : {M : Type 1} → statement M
 body-step-spec =
     tie.close
-    (tie.spec node-t-requires type-b-requires type-c-requires parameters-requires (λ c. search needs) (λ c. search needs) returns add-scope type-a-requires add-t29 add-t30 block-requires (λ c. search needs) (λ c κs. search needs) (λ c. search needs) (λ c. search needs) returns-2 (λ c. search needs) (λ c. search needs) (λ c. search needs) returns-3 leave-requires row-requires with-step-requires same-length-7 same-length-8 returns-4)
+    (tie.spec node-t-requires type-b-requires type-c-requires parameters-requires (λ c. search needs) (λ c. search needs) returns add-scope type-a-requires add-t29 add-t30 block-requires (λ c. search needs) (λ c κs. search needs) (λ c. search needs) (λ c. search needs) returns-2 (λ c. search needs) (λ c. search needs) (λ c. search needs) returns-3 leave-requires row-requires with-step-requires (λ c κs. search needs) same-length-7 same-length-8 returns-4)

@@ -63,21 +63,21 @@ with-name-requires c κs =
 
 same-length-5 : tie.Need-same-length-5
 same-length-5 c =
-    let at-row = c .before .before .before in
+    let at-row = c .before .before .before .before in
     let at-bind = at-row .before .before .before .before in
     let at-expression = at-bind .before .before .before .before .before .before .before .before .before .before .before .before .before .before .before in
     omega (arith, at-expression .expression, at-bind .bind, at-row .row)
 
 same-length-6 : tie.Need-same-length-6
 same-length-6 c =
-    let at-row = c .before .before .before in
+    let at-row = c .before .before .before .before in
     let at-bind = at-row .before .before .before .before in
     let at-expression = at-bind .before .before .before .before .before .before .before .before .before .before .before .before .before .before .before in
     omega (arith, at-expression .expression, at-bind .bind, at-row .row)
 
 returns-3 : tie.Need-returns-3
 returns-3 c =
-    let at-row = c .before .before .before in
+    let at-row = c .before .before .before .before in
     let at-bind = at-row .before .before .before .before in
     let at-if1 = at-bind .before .before .before in
     let at-is-new = at-if1 .before in
@@ -85,9 +85,9 @@ returns-3 c =
     let at-judgement = at-node-x .before .before in
     let at-expression = at-judgement .before .before .before .before .before .before in
     let at-start = at-expression .before .before .before .before .before .before .before .before in
-    global-ok (at-start .pre) (at-expression .expression .ensures) (at-judgement .judgement .given .1) (at-node-x .node-x .ensures .0) (at-is-new .is-new .ensures) (at-if1 .if1 .left) (at-bind .bind .ensures) (at-row .row .ensures) (c .with-name .ensures)
+    global-ok (at-start .pre) (at-expression .expression .ensures) (at-judgement .judgement .given .1) (at-node-x .node-x .ensures .0) (at-is-new .is-new .ensures) (at-if1 .if1 .left) (at-bind .bind .ensures) (at-row .row .ensures) (c .before .with-name .ensures) (c .summing .ensures)
 
 pub global-step-spec : {M : Type 1} → statement M
 global-step-spec =
     tie.close
-    (tie.spec add-t19 expression-requires (λ c. search needs) (λ c κs. search needs) (λ c. search needs) (λ c. search needs) returns node-x-requires is-new-requires (λ c. search needs) (λ c. search needs) returns-2 bind-requires row-requires with-name-requires same-length-5 same-length-6 returns-3)
+    (tie.spec add-t19 expression-requires (λ c. search needs) (λ c κs. search needs) (λ c. search needs) (λ c. search needs) returns node-x-requires is-new-requires (λ c. search needs) (λ c. search needs) returns-2 bind-requires row-requires with-name-requires (λ c κs. search needs) same-length-5 same-length-6 returns-3)
