@@ -1,5 +1,11 @@
 //! Building program files: the sections as lists, the nodes as trees.
 
+/// The base types, which every file has first.
+pub const INT: u16 = 0;
+pub const BOOL: u16 = 1;
+pub const STRING: u16 = 2;
+pub const VOID: u16 = 3;
+
 /// A node with its children.
 #[derive(Clone, Debug, PartialEq, Eq)]
 pub struct Tree {

@@ -21,6 +21,7 @@ pub use reading::reading;
 pub use subtyping::{Question, subtyping};
 pub use typing::typing;
 
+pub use crate::program::{BOOL, INT, STRING, VOID};
 use crate::program::{Program, Tree, func};
 
 /// A file with the answer that the check gives.
@@ -38,11 +39,7 @@ pub fn checked() -> Vec<Case> {
     typing().into_iter().chain(names()).chain(marked).chain(resolved).chain(with_sums).collect()
 }
 
-/// Types of the usual table.
-pub const INT: u16 = 0;
-pub const BOOL: u16 = 1;
-pub const STRING: u16 = 2;
-pub const VOID: u16 = 3;
+/// Types of the usual table, after the base types.
 pub const A: u16 = 4;
 pub const B: u16 = 5;
 pub const C: u16 = 6;

@@ -6,11 +6,6 @@ use crate::mutants::Exact;
 use crate::program::*;
 use crate::{Below, Limits, subtypes};
 
-const INT: u16 = 0;
-const BOOL: u16 = 1;
-const STRING: u16 = 2;
-const VOID: u16 = 3;
-
 /// What a name means where it stands.
 #[derive(Clone, Copy)]
 struct Bound {

@@ -6,10 +6,6 @@ use super::misses::edit;
 use super::rng::Rng;
 use crate::program::*;
 
-const INT: u16 = 0;
-const BOOL: u16 = 1;
-const STRING: u16 = 2;
-const VOID: u16 = 3;
 const TO_VOID: u16 = 4;
 /// Functions of an int, a bool and a string to void.
 const USES: u16 = 5;

@@ -6,8 +6,6 @@ use super::misses::edit;
 use super::rng::Rng;
 use crate::program::*;
 
-const INT: u16 = 0;
-const VOID: u16 = 3;
 const FIRST_STRUCT: u16 = 4;
 
 /// Names at the ends, and names alike in one byte.

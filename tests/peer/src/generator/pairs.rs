@@ -8,11 +8,6 @@ use crate::mutants::Exact;
 use crate::program::*;
 use crate::{Below, Limits, subtypes};
 
-const INT: u16 = 0;
-const BOOL: u16 = 1;
-const STRING: u16 = 2;
-const VOID: u16 = 3;
-
 /// Names: built-ins and globals, functions, parameters and vars. `UNBOUND` is
 /// bound nowhere.
 const BUILTIN: u16 = 100;
