@@ -1,14 +1,14 @@
-/* The Oat v.2 checker for C and C++: reading a program file, the subtype question, and the check.
+/* The Oat v.2 checker for C and C++: reading a program file, the subtype question, the check, and tallies of expressions.
    `rt staticlib oat_c` writes target/staticlib/liboat_c.a with these functions, for x86-64 Linux.
 
    No function keeps anything between calls, allocates, prints or fails in another way than by its number, so that calls may run at the same
    time as long as no buffer is lent to two of them. A pointer points to as many elements as the length after it says; with the length 0
    it may be any pointer, but not a null pointer. The parts of memory that are lent to one call do not overlap.
 
-   All else that a call uses is on the stack: local arrays of at most 15,404 bytes together, and the frames of nested calls, whose
-   number no file raises past a bound. The most measured is 93,296 bytes on the stored files and 178,912 on a file made to need much,
-   so a thread that calls should have 256 KiB of stack left. No theorem bounds the stack in bytes (docs/BENCHMARKS.md); a call with too
-   little fails as any function of C does. */
+   All else that a call uses is on the stack: local arrays of at most 15,404 bytes together, in oat_tally of 25,816, and the frames of nested
+   calls, whose number no file raises past a bound. The most measured is 103,856 bytes on the stored files and 189,472 on a file made to
+   need much, so a thread that calls should have 256 KiB of stack left. No theorem bounds the stack in bytes (docs/BENCHMARKS.md); a call
+   with too little fails as any function of C does. */
 #ifndef OAT_H
 #define OAT_H
 
@@ -19,11 +19,13 @@
 extern "C" {
 #endif
 
-/* The longest program file, in bytes, and how many nodes a file has at most. Rows and work of two numbers for each node are always enough with
-   OAT_MOST_NUMBERS. */
+/* The longest program file, in bytes, and how many nodes, types and declarations a file has at most. Rows and work of two numbers for each node are
+   always enough with OAT_MOST_NUMBERS, and tallies with OAT_MOST_TYPES and OAT_MOST_DECLARATIONS. */
 #define OAT_MOST_BYTES 45068
 #define OAT_MOST_NODES 4096
 #define OAT_MOST_NUMBERS (2 * OAT_MOST_NODES)
+#define OAT_MOST_TYPES 512
+#define OAT_MOST_DECLARATIONS (OAT_MOST_NODES / 2)
 
 /* A file of length 0 is that of a new pan: for every function it is the program of types 0 to 3 and nothing else, readable and accepted with 0 steps and no
    node, whatever lengths `rows` and `work` have. One byte is OAT_LENGTH. */
@@ -58,6 +60,7 @@ enum oat_number {
     OAT_FUNCTION_ASSIGNED = 15,/* function assigned */
     OAT_NO_DEFAULT = 16,       /* element without default */
     OAT_NO_TYPE = 17,          /* type not in file (oat_subtype alone) */
+    OAT_TALLY_SHORT = 19,      /* a tally buffer is too short (oat_tally alone) */
     OAT_LIMITS = 25            /* a limit out of its range; tested before everything else */
 };
 
@@ -84,6 +87,24 @@ uint16_t oat_subtype(const uint8_t *file, size_t length, size_t parts, size_t de
    `work` has fewer than two numbers for each node of a readable file. */
 uint16_t oat_check(const uint8_t *file, size_t length, size_t parts, size_t depth, uint16_t *rows, size_t rows_length, uint16_t *work,
                    size_t work_length, uint16_t *step, uint16_t *place, uint32_t *pairs);
+
+/* Checks a program file as oat_check does and, where it is accepted, tallies its expression nodes, those of kinds 10 to 21 and 23 to 26, twice: by type
+   and by declaration. Answers the check's number, step and place. `rows` and `work` are as oat_check leaves them, on every outcome; they and the two
+   tallies may hold anything before the call. Neither `step` nor `place` is null.
+
+     number     *step, *place                       by_type                                by_declaration
+     0          how many steps there are, 0         a number for each type                 a number for each declaration
+     25, 1-16   those of oat_check                  as before                              as before
+     19         0, 0                                as before                              as before
+
+   Under 0 the number i of `by_type` is how many expressions have a type equal to the type i, where i is the lowest number of these types in the file;
+   under any other number of the file's types it is 0. The number i of `by_declaration` is how many expressions are in the declaration i, globals and
+   functions counted together from 0 in file order: a declaration is a node of kind 1 or 2. Each tally adds up to the count of all expression nodes.
+   What lies past the last type and the last declaration stays. 19 is answered for an accepted file where `by_type` has fewer numbers than the file has
+   types, or `by_declaration` fewer than it has declarations. Zero bytes have four zeros by type and no declaration. */
+uint16_t oat_tally(const uint8_t *file, size_t length, size_t parts, size_t depth, uint16_t *rows, size_t rows_length, uint16_t *work,
+                   size_t work_length, uint16_t *by_type, size_t by_type_length, uint16_t *by_declaration, size_t by_declaration_length,
+                   uint16_t *step, uint16_t *place);
 
 #ifdef __cplusplus
 }

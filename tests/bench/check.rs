@@ -2,6 +2,7 @@
 //!     check FILE...        a line for each size of file: nanoseconds per node of both, and the ratio
 //!     check -each FILE...  a line for each file, the slowest against the peer first
 //!     check -read FILE...  a line for each size of file, of reading alone
+//!     check -tally FILE... a line for each size of file, of the tallies, which check the file first
 use std::fs;
 use std::hint::black_box;
 use std::time::Instant;
@@ -9,9 +10,11 @@ use std::time::Instant;
 extern "C" {
     fn oat_read(file: *const u8, length: usize, parts: usize, depth: usize) -> u16;
     fn oat_check(file: *const u8, length: usize, parts: usize, depth: usize, rows: *mut u16, rows_length: usize, work: *mut u16, work_length: usize, step: &mut u16, place: &mut u16, pairs: &mut u32) -> u16;
+    fn oat_tally(file: *const u8, length: usize, parts: usize, depth: usize, rows: *mut u16, rows_length: usize, work: *mut u16, work_length: usize, by_type: *mut u16, by_type_length: usize, by_declaration: *mut u16, by_declaration_length: usize, step: &mut u16, place: &mut u16) -> u16;
 }
 
 const NUMBERS: usize = 8192;
+const TALLIES: (usize, usize) = (512, 2048);
 const WIDEST: oat_peer::Limits = oat_peer::Limits::WIDEST;
 
 fn proved(file: &[u8], rows: &mut [u16], work: &mut [u16]) -> u16 {
@@ -23,6 +26,26 @@ fn proved(file: &[u8], rows: &mut [u16], work: &mut [u16]) -> u16 {
 fn proved_read(file: &[u8]) -> u16 {
     // SAFETY: the pointer points to as many bytes as the length says
     unsafe { oat_read(file.as_ptr(), file.len(), WIDEST.parts, WIDEST.depth) }
+}
+
+fn proved_tally(file: &[u8], rows: &mut [u16], work: &mut [u16]) -> u16 {
+    let (mut by_type, mut by_declaration) = ([0; TALLIES.0], [0; TALLIES.1]);
+    let (mut step, mut place) = (0, 0);
+    // SAFETY: every pointer points to as many elements as its length says, and none overlap
+    unsafe { oat_tally(file.as_ptr(), file.len(), WIDEST.parts, WIDEST.depth, rows.as_mut_ptr(), rows.len(), work.as_mut_ptr(), work.len(), by_type.as_mut_ptr(), by_type.len(), by_declaration.as_mut_ptr(), by_declaration.len(), &mut step, &mut place) }
+}
+
+fn peers_tally(file: &[u8], rows: &mut [u16], work: &mut [u16]) -> u16 {
+    let (mut by_type, mut by_declaration) = ([0; TALLIES.0], [0; TALLIES.1]);
+    oat_peer::tally(file, WIDEST, rows, work, &mut by_type, &mut by_declaration).number
+}
+
+/// What is timed.
+#[derive(Clone, Copy, PartialEq)]
+enum Asked {
+    Check,
+    Read,
+    Tally,
 }
 
 /// Nanoseconds of one call: `calls` calls are timed together.
@@ -54,13 +77,13 @@ fn race(file: &[u8], rows: &mut [u16], work: &mut [u16], one: impl Fn(&[u8], &mu
     (ours, theirs)
 }
 
-fn measure(name: String, file: &[u8], rows: &mut [u16], work: &mut [u16], reading: bool) -> Timed {
+fn measure(name: String, file: &[u8], rows: &mut [u16], work: &mut [u16], asked: Asked) -> Timed {
     let number = proved(file, rows, work);
     let nodes = oat_peer::node_count(file);
-    let (proved, peer) = if reading {
-        race(file, rows, work, |f, _, _| { black_box(proved_read(f)); }, |f, _, _| { black_box(oat_peer::read(f, WIDEST)); })
-    } else {
-        race(file, rows, work, |f, r, w| { black_box(proved(f, r, w)); }, |f, r, w| { black_box(oat_peer::check(f, WIDEST, r, w)); })
+    let (proved, peer) = match asked {
+        Asked::Check => race(file, rows, work, |f, r, w| { black_box(proved(f, r, w)); }, |f, r, w| { black_box(oat_peer::check(f, WIDEST, r, w)); }),
+        Asked::Read => race(file, rows, work, |f, _, _| { black_box(proved_read(f)); }, |f, _, _| { black_box(oat_peer::read(f, WIDEST)); }),
+        Asked::Tally => race(file, rows, work, |f, r, w| { black_box(proved_tally(f, r, w)); }, |f, r, w| { black_box(peers_tally(f, r, w)); }),
     };
     Timed { name, nodes, number, proved, peer }
 }
@@ -86,8 +109,12 @@ fn total(label: &str, timed: &[&Timed]) {
 fn main() {
     let mut paths: Vec<String> = std::env::args().skip(1).collect();
     let each = paths.first().is_some_and(|p| p == "-each");
-    let reading = paths.first().is_some_and(|p| p == "-read");
-    if each || reading {
+    let asked = match paths.first().map(String::as_str) {
+        Some("-read") => Asked::Read,
+        Some("-tally") => Asked::Tally,
+        _ => Asked::Check,
+    };
+    if each || asked != Asked::Check {
         paths.remove(0);
     }
     let (mut rows, mut work) = (vec![0u16; NUMBERS], vec![0u16; NUMBERS]);
@@ -95,7 +122,7 @@ fn main() {
     for path in &paths {
         let many = fs::read(path).expect("the file can be read");
         for (i, file) in unpack(&many).into_iter().enumerate() {
-            timed.push(measure(format!("{path}:{i}"), file, &mut rows, &mut work, reading));
+            timed.push(measure(format!("{path}:{i}"), file, &mut rows, &mut work, asked));
         }
     }
     if each {

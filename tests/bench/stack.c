@@ -1,4 +1,5 @@
-/* Measures the stack that a check takes: every file of a packed file is checked on a painted stack, and the most that was written to is printed. */
+/* Measures the stack that a check takes, and the tallies: every file of a packed file is checked and tallied on a painted stack, and the most that was
+   written to is printed. */
 #include <pthread.h>
 #include <stdint.h>
 #include <stdio.h>
@@ -11,6 +12,7 @@ static uint8_t stack[SIZE] __attribute__((aligned(4096)));
 static uint8_t file[65536];
 static size_t length;
 static uint16_t rows[OAT_MOST_NUMBERS], work[OAT_MOST_NUMBERS];
+static uint16_t by_type[OAT_MOST_TYPES], by_declaration[OAT_MOST_DECLARATIONS];
 
 static void *nothing(void *unused) {
     return unused;
@@ -21,6 +23,17 @@ static void *check(void *unused) {
     uint32_t pairs;
     oat_check(file, length, OAT_MOST_PARTS, OAT_MOST_DEPTH, rows, OAT_MOST_NUMBERS, work, OAT_MOST_NUMBERS, &step, &place, &pairs);
     return unused;
+}
+
+static void *tally(void *unused) {
+    uint16_t step, place;
+    oat_tally(file, length, OAT_MOST_PARTS, OAT_MOST_DEPTH, rows, OAT_MOST_NUMBERS, work, OAT_MOST_NUMBERS, by_type, OAT_MOST_TYPES,
+              by_declaration, OAT_MOST_DECLARATIONS, &step, &place);
+    return unused;
+}
+
+static size_t more(size_t a, size_t b) {
+    return a > b ? a : b;
 }
 
 static size_t used(void *(*run)(void *)) {
@@ -44,16 +57,15 @@ int main(int argc, char **argv) {
         fprintf(stderr, "usage: stack FILE\n");
         return 1;
     }
-    size_t empty = used(nothing), most = 0;
+    size_t empty = used(nothing), check_most = 0, tally_most = 0;
     uint8_t head[4];
     while (fread(head, 1, 4, in) == 4) {
         length = head[0] + 256u * head[1];
         if (fread(file, 1, length, in) != length)
             return 1;
-        size_t took = used(check) - empty;
-        if (took > most)
-            most = took;
+        check_most = more(check_most, used(check) - empty);
+        tally_most = more(tally_most, used(tally) - empty);
     }
-    printf("most stack of a check: %zu bytes\n", most);
+    printf("most stack of a check: %zu bytes, of the tallies: %zu bytes\n", check_most, tally_most);
     return 0;
 }

@@ -13,7 +13,10 @@ Besides, request (xi)'s claim is tested on the program's own answers: for every 
 other, all lines are the same unless the file is 3 or 5 under the smaller; such a file is neither 1 nor 2 under the larger and, if it was 5, nor 3 or 4.
 
 With --names the files are about the names of struct literals, with --endless about loops that never end, with --levels about names in inner
-blocks, with --pairs about subtype questions on large types. The sum of compared pairs is a line of every answer."""
+blocks, with --pairs about subtype questions on large types. The sum of compared pairs is a line of every answer.
+
+With --tallies the expressions of each file are tallied, in buffers that are long enough or too short, and the program is tally_vectors. Most files are
+accepted and have equal types under several numbers."""
 import argparse
 import collections
 import itertools
@@ -54,12 +57,22 @@ def unpack_limited(packed):
         at += 12 + length
 
 
+def unpack_tallies(packed):
+    """Each file with its setting, parts, depth and the lengths of the two tallies."""
+    at = 0
+    while at < len(packed):
+        length = number(packed, at)
+        yield packed[at + 20:at + 20 + length], tuple(number(packed, at + 4 * k) for k in range(1, 5))
+        at += 20 + length
+
+
 CHECK = Question("gen", "batch", "check_vectors", unpack, 0)
 NAMES = CHECK._replace(make="gennames")
 ENDLESS = CHECK._replace(make="genendless")
 LEVELS = CHECK._replace(make="genlevels")
 PAIRS = CHECK._replace(make="genpairs")
 LIMITS = Question("genlimits", "limitbatch", "limit_vectors", unpack_limited, 2)
+TALLIES = Question("gentallies", "tallybatch", "tally_vectors", unpack_tallies, 0)
 
 
 def refusal(said, question):
@@ -107,7 +120,10 @@ def test_claim(cases, found, counts):
 
 
 def under(setting):
-    return f" under parts {setting[0]} and depth {setting[1]}" if setting else ""
+    if not setting:
+        return ""
+    lengths = f", tallies of {setting[2]} and {setting[3]} numbers" if len(setting) > 2 else ""
+    return f" under parts {setting[0]} and depth {setting[1]}{lengths}"
 
 
 def compare(given, question, seed, many, counts):
@@ -143,11 +159,13 @@ def main():
     sorts.add_argument("--endless", action="store_true", help="files about loops that never end")
     sorts.add_argument("--levels", action="store_true", help="files about names in inner blocks")
     sorts.add_argument("--pairs", action="store_true", help="files about subtype questions on large types")
-    words.add_argument("--program", help="target/bin/check_vectors, with --limits target/bin/limit_vectors")
+    sorts.add_argument("--tallies", action="store_true", help="tallies of the expressions of each file")
+    words.add_argument("--program", help="target/bin/check_vectors, with --limits target/bin/limit_vectors, with --tallies target/bin/tally_vectors")
     words.add_argument("--peer", default=os.path.join(ROOT, "tests", "peer", "target", "release", "oat_peer"), help="the peer's program")
     words.add_argument("--keep", default="different.oat", help="where a file that differs is kept (different.oat)")
     given = words.parse_args()
-    asked = ((given.limits, LIMITS), (given.names, NAMES), (given.endless, ENDLESS), (given.levels, LEVELS), (given.pairs, PAIRS), (True, CHECK))
+    asked = ((given.limits, LIMITS), (given.names, NAMES), (given.endless, ENDLESS), (given.levels, LEVELS), (given.pairs, PAIRS),
+             (given.tallies, TALLIES), (True, CHECK))
     question = next(question for chosen, question in asked if chosen)
     given.program = given.program or os.path.join(ROOT, "target", "bin", question.program)
     counts, done = collections.Counter(), 0
@@ -159,7 +177,8 @@ def main():
             return 1
         done += many
     settings = f", each under {SETTINGS} settings" if given.limits else ""
-    print(f"{done} files from seed {given.seed}{settings}: every line the same; {counts[0]} accepted, with {counts['rows']} rows")
+    rows = "" if given.tallies else f", with {counts['rows']} rows"
+    print(f"{done} files from seed {given.seed}{settings}: every line the same; {counts[0]} accepted{rows}")
     print("refused: " + ", ".join(f"{counts[n]} under {n}" for n in range(1, 26) if counts[n]))
     if given.limits:
         print(f"the claim holds for {counts['pairs']} pairs of settings; {counts['moved']} files are 3 or 5 under the smaller setting alone")

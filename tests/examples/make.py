@@ -66,6 +66,10 @@ class Example:
     def _named(self, shown, record):
         return self.shown.index(shown) if shown in self.shown else self._type(record(), shown)
 
+    def again(self, t):
+        """The type t under one more number."""
+        return self._type(self.types[t], self.shown[t])
+
     def struct(self, name):
         return self._named(name, lambda: (4, self.name(name), 0, 0))
 
@@ -116,6 +120,9 @@ class Example:
 
     def id(self, name):
         return Node(15, "name " + name, x=self.name(name))
+
+    def listed(self, t, *elements):
+        return Node(16, f"array literal, of type {t}", *elements, t=t)
 
     def default(self, element, length):
         t = self.array(element)
@@ -627,6 +634,25 @@ def _():
 def _():
     e = Example()
     e.function("f", e.array(STRING), [], e.give(e.default(STRING, e.integer(3))))
+    return e
+
+
+@example("equal_types", """
+    global marks = new int[]{ 1, 2 };
+    int[] stir(int[] given) {
+      var own = new int[]{ given[0] };
+      return own;
+    }
+    """, """
+    The type int[] stands twice in the file, as 4 and as 5. A tally of the expressions by type adds them together under 4: four have type int[], the
+    two literals and the names given and own, and four have type int, the three integers and given[0]; 5 has none. By declaration marks has three
+    and stir five. Each tally adds up to the eight expressions of the file.""")
+def _():
+    e = Example()
+    ints = e.array(INT)
+    others = e.again(ints)
+    e.glob("marks", e.listed(ints, e.integer(1), e.integer(2)))
+    e.function("stir", ints, [(others, "given")], e.var("own", e.listed(others, e.index(e.id("given"), e.integer(0)))), e.give(e.id("own")))
     return e
 
 

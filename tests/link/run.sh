@@ -1,8 +1,8 @@
 #!/usr/bin/env bash
 # Links the programs of examples/c and examples/rust with the static library, runs them on examples, and compares what they print with
-# tests/link/expected.txt. The library is built where it is missing or older than a file of a crate.
+# tests/link/expected.txt and, of tallies, tests/link/tallies.txt. The library is built where it is missing or older than a file of a crate.
 #     tests/link/run.sh            compare
-#     tests/link/run.sh --expect   write expected.txt from the peer's answers (after cargo build --release in tests/peer)
+#     tests/link/run.sh --expect   write both files from the peer's answers (after cargo build --release in tests/peer)
 set -eu
 cd "$(dirname "$0")/../.."
 library=target/staticlib/liboat_c.a
@@ -45,6 +45,29 @@ one_byte 0 0
 END
 }
 
+# each example whose expressions are tallied, and limits: equal types under two numbers, structs, nullables and function types, no expression at all,
+# zero bytes, the least limits that let a file pass, and refusals of each sort
+tallied() {
+    cat <<'END'
+equal_types
+pan_levels
+null_tested
+pairs_compared
+same_name_inner
+fields_in_any_order
+new_pan
+new_pan 1 1
+nested_calls 5 6
+nested_calls 4 6
+nested_calls 5 5
+nested_calls 0 100
+var_twice
+pan_c_not_below_a
+cut_short
+one_byte
+END
+}
+
 if [ "${1:-}" = --expect ]; then
     low() { for n; do printf "\\x$(printf %02x $((n % 256)))\\x$(printf %02x $((n / 256)))\\0\\0"; done; }
     cases | while read -r name a b limits; do
@@ -54,6 +77,7 @@ if [ "${1:-}" = --expect ]; then
         case $said in [0-9]*) said="refused under $said" ;; esac
         echo "type $a below type $b: $said, pairs $pairs"
     done > tests/link/expected.txt
+    tallied | while read -r name limits; do "$peer" tally $limits < "examples/$name.oat"; done > tests/link/tallies.txt
     exit
 fi
 
@@ -62,10 +86,17 @@ trap 'rm -r "$out"' EXIT
 if [ ! -e "$library" ] || [ -n "$(find crates crates.txt -newer "$library" -type f -print -quit)" ]; then
     rt staticlib oat_c > "$out/log" 2>&1 || { cat "$out/log"; exit 1; }
 fi
-cc -std=c11 -Wall -Wextra -Werror -O2 -I include examples/c/check.c -L target/staticlib -l:liboat_c.a -o "$out/check_c"
-rustc --edition 2021 -D warnings -O examples/rust/check.rs -L target/staticlib -l static=oat_c -o "$out/check_rust"
+for name in check tally; do
+    cc -std=c11 -Wall -Wextra -Werror -O2 -I include "examples/c/$name.c" -L target/staticlib -l:liboat_c.a -o "$out/${name}_c"
+    rustc --edition 2021 -D warnings -O "examples/rust/$name.rs" -L target/staticlib -l static=oat_c -o "$out/${name}_rust"
+done
 for program in check_c check_rust; do
     cases | while read -r name a b limits; do "$out/$program" "examples/$name.oat" "$a" "$b" $limits; done > "$out/$program.txt"
     diff tests/link/expected.txt "$out/$program.txt"
+    echo "tests/link: $program prints what is expected"
+done
+for program in tally_c tally_rust; do
+    tallied | while read -r name limits; do "$out/$program" "examples/$name.oat" $limits; done > "$out/$program.txt"
+    diff tests/link/tallies.txt "$out/$program.txt"
     echo "tests/link: $program prints what is expected"
 done

@@ -10,5 +10,7 @@ cp tests/vectors/sub.bin crates/subtype_vectors/stdin
 cp tests/vectors/sub.txt crates/subtype_vectors/stdout
 cp tests/vectors/limits.bin crates/limit_vectors/stdin
 cp tests/vectors/limits.txt crates/limit_vectors/stdout
+cp tests/vectors/tallies.bin crates/tally_vectors/stdin
+cp tests/vectors/tallies.txt crates/tally_vectors/stdout
 tests/reading/pack.sh
 tests/buffers/pack.py

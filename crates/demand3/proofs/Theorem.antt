@@ -21,7 +21,7 @@ use Rattle.file_sections.specs.declared.Reading.{Reading}
 use Rattle.file_sections.specs.declared.Reading.the-variants.{Refused, Good}
 use Rattle.program_file.specs.Reading.{readingOf}
 use Rattle.program_file.proofs.LawsReading.{reading-out-of-range, good-in-range}
-use Rattle.program_file.proofs.Theorem.{Bytes, program-of, one-program, refused-from-1-to-5, not-refused}
+use Rattle.program_file.proofs.Theorem.{Bytes, program-of, one-program, refused-from-1-to-5, refused-numbers, not-refused}
 use Rattle.typing_rules.specs.Contexts.{Context}
 use Rattle.typing_rules.specs.Labels.{Labels}
 use Rattle.typing_rules.specs.Steps.{Step, stepsOf, SameOn, same-none, same-step, emptyContext, DerivesFile}
@@ -38,7 +38,7 @@ pub fits : (bytes : List ℕ) (p : Program) → IsFile widest bytes p → Fits p
 fits bytes p f = file-fits 100 bytes p f
 
 -- how many numbers rows are
-decls-long : {T : Tables} {D : Labels Ty} {n : ℕ} {ds : List Decl} {R : List ℕ} → DeclRows T D n ds R → length R ≡ 2 * sizeDecls ds
+pub decls-long : {T : Tables} {D : Labels Ty} {n : ℕ} {ds : List Decl} {R : List ℕ} → DeclRows T D n ds R → length R ≡ 2 * sizeDecls ds
 decls-long no-rows = refl
 decls-long {D = D} (global-rows {n = n} {a = a} {R = R} {Q = Q} r s) =
     rw length-append (omega (arith, rows-long r, labels-long D n (1 + size a), decls-long s))
@@ -229,3 +229,12 @@ module _ (limits : Limits) (bytes rows work : List ℕ) where
   one-outcome o u (rows-short i p f l) d = program-outcome i p _ f (rows-short i p f l) ∙ sym (program-outcome i p u f d)
   one-outcome o u (work-short i p f l k) d = program-outcome i p _ f (work-short i p f l k) ∙ sym (program-outcome i p u f d)
   one-outcome o u (checked i p f l k) d = program-outcome i p _ f (checked i p f l k) ∙ sym (program-outcome i p u f d)
+
+  -- what is accepted had long enough buffers, under limits in range
+  pub accepted-demand3 : (o : Outcome) → Checks limits bytes rows work o → o .number ≡ 0 → (p : Program) → IsFile limits bytes p → Demand3 p rows o
+  accepted-demand3 o (unreadable n e) z p f = absurd (⊎-elim (λ k. omega (arith, k, z)) (λ k. omega (arith, k .0, z)) (refused-numbers limits bytes n e))
+  accepted-demand3 o (rows-short i q g l) z p f = absurd (omega (arith, z))
+  accepted-demand3 o (work-short i q g l k) z p f = absurd (omega (arith, z))
+  accepted-demand3 o (checked i q g l k) z p f =
+      let same : needed q ≡ needed p = ap needed (one-program limits bytes q p g f) in
+      demand3 limits bytes rows work i p f (omega (arith, same, l)) (omega (arith, same, k)) _ (checked i q g l k)

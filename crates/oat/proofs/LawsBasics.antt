@@ -41,6 +41,13 @@ pub sum-more : (n : ℕ) (f : ℕ → ℕ) → sumBelow (n + 1) f ≡ sumBelow n
 unfolding sumBelow
 sum-more n f = rw add-one
 
+-- the first number apart
+pub sum-front : (n : ℕ) (f : ℕ → ℕ) → sumBelow (suc n) f ≡ f 0 + sumBelow n (λ j. f (suc j))
+unfolding sumBelow
+sum-front zero f = omega arith
+sum-front (suc n) f = omega (arith, sum-front n f)
+
+-- one test more
 pub all-more : (n : ℕ) (p : ℕ → Bool) → allBelow n p ≡ true → p n ≡ true → allBelow (n + 1) p ≡ true
 unfolding allBelow
 all-more n p a b = rw (add-one, a, b)

@@ -14,14 +14,9 @@ use Rattle.oat.specs.Tables.{Tables, typeAt, entryAt}
 use Rattle.oat.specs.TypeRules.{kindAt, partsOf, firstParts, partsAt}
 use Rattle.oat.specs.Types.{Ty, int, bool, string, void, struct, writtenParams, written, firstTypes, typeOf}
 use Rattle.oat.specs.Pairs.{partsTy, partsTys}
-use Rattle.oat.proofs.LawsBasics.{below-or-last}
+use Rattle.oat.proofs.LawsBasics.{sum-front, below-or-last}
 use Rattle.oat.proofs.LawsTypes.{TypesFormed}
 use Rattle.oat.proofs.LawsWritten.{first-at}
-
-sum-front : (n : ℕ) (f : ℕ → ℕ) → sumBelow (suc n) f ≡ f 0 + sumBelow n (λ j. f (suc j))
-unfolding sumBelow
-sum-front zero f = omega arith
-sum-front (suc n) f = omega (arith, sum-front n f)
 
 -- a type that refers to no other
 one-part : (b c d e : Bool) (x : ℕ) → 1 ≡ partsTy (pick b int (pick c bool (pick d string (pick e (struct x) void))))

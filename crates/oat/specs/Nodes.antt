@@ -1,11 +1,11 @@
 -- Document 01, 'The program file': how trees stand in the node section, parent first, then each child's tree in turn, and
 -- what a node's operands may be; an operand not named for its kind is 0. Assumes nothing.
 use mathlib.Core.Path.{_≡_}
-use mathlib.Core.Bool.{Bool, true, _&&_}
+use mathlib.Core.Bool.{Bool, true, _&&_, _||_}
 use mathlib.Core.List.{List, [], _∷_}
 use Prim.Native.Nat.{ℕ, _+_, _≤_, _<_}
 use lib.ListN.{length}
-use lib.Dec.{ltb}
+use lib.Dec.{leb, ltb}
 use Rattle.oat.specs.Tables.{Tables, typeAt, nodeAt}
 use Rattle.oat.specs.TypeRules.{kindAt, isReferenceKind}
 use Rattle.oat.specs.TableRules.{hasKind}
@@ -119,3 +119,10 @@ DeclStands T n (function x t ps b) =
 abbrev pub DeclsStand : Tables → ℕ → List Decl → Type 0
 DeclsStand T n [] = Unit {0}
 DeclsStand T n (d ∷ ds) = DeclStands T n d × DeclsStand T (n + sizeDecl d) ds
+
+-- the kinds of expressions, 10 to 21 and 23 to 26; the node i is of such a kind
+unfoldable pub isExpressionKind : ℕ → Bool
+isExpressionKind k = (leb 10 k && leb k 21) || (leb 23 k && leb k 26)
+
+unfoldable pub isExpression : Tables → ℕ → Bool
+isExpression T i = isExpressionKind (nodeAt T i .kind)

@@ -7,6 +7,7 @@ ghost use Rattle.oat.specs.ProgramFile.{limitsOf};
 ghost use Rattle.program_file.specs.Reading.{readingOf, numberOf, Reads};
 ghost use Rattle.subtyping.specs.Question.{subtypeOf, refusalNumber, yesAfter, pairsOf, Answers};
 ghost use Rattle.typing.specs.Check.{Checked, Demands};
+ghost use Rattle.tallies.specs.Tally.{Tallied};
 
 // 0 where the file is readable, or the number under which it is refused.
 #[no_mangle]
@@ -74,4 +75,33 @@ pub extern "C" fn oat_check(
     *place = answer.place;
     *pairs = answer.pairs;
     answer.number
+}
+
+// Checks a file as `oat_check` does and, where it is accepted, writes how many expressions it has of each type to `by_type` and in each declaration
+// to `by_declaration`; 19 where either is short, and neither is changed.
+#[no_mangle]
+pub extern "C" fn oat_tally(
+    file: &[u8],
+    parts: usize,
+    depth: usize,
+    rows: &mut [u16],
+    work: &mut [u16],
+    by_type: &mut [u16],
+    by_declaration: &mut [u16],
+    step: &mut u16,
+    place: &mut u16,
+) -> u16
+    ensures { λ r. ⌜ Tallied (limitsOf parts depth) (now (file .entry)) (now (rows .entry)) (now (work .entry)) (now («by_type» .entry)) (now («by_declaration» .entry)) (now (rows .exit)) (now (work .exit)) (now («by_type» .exit)) (now («by_declaration» .exit)) (record { number = r; step = now (step .exit); place = now (place .exit) }) ⌝ }
+{
+    let tallied = tallies::tally(
+        file,
+        Limits { parts, depth },
+        rows,
+        work,
+        by_type,
+        by_declaration,
+    );
+    *step = tallied.step;
+    *place = tallied.place;
+    tallied.number
 }

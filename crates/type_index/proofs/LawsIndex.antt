@@ -134,7 +134,7 @@ module _ (t : ℕ → Ty) where
   abbrev pub firstOf : ℕ → ℕ
   firstOf i = firstBelow i (λ j. sameTy (t j) (t i))
 
-  first-type : (i : ℕ) → t (firstOf i) ≡ t i
+  pub first-type : (i : ℕ) → t (firstOf i) ≡ t i
   first-type i =
       ⊎-elim
       (λ e. ap t e)
@@ -163,9 +163,9 @@ module _ (t : ℕ → Ty) where
 
 -- entries read at their places
 module _ (index : List ℕ) where
-  pub lowest-read : (a b x y : ℕ) → x ≡ getD index a 0 → y ≡ getD index b 0 → eqb x y ≡ eqb (lowestEntry index a) (lowestEntry index b)
+  pub lowest-read : (i x : ℕ) → x ≡ getD index i 0 → x ≡ lowestEntry index i
   unfolding lowestEntry
-  lowest-read a b x y ex ey = ap₂ eqb ex ey
+  lowest-read i x e = e
 
   pub struct-read : (i x : ℕ) → x ≡ getD index (512 + i) 0 → x ≡ structEntry index i
   unfolding structEntry

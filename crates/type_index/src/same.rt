@@ -20,12 +20,20 @@ ghost use Rattle.oat.specs.Decide.{sameTy};
 ghost use Rattle.file_sections.specs.Layout.{Laid, tablesOf, GoodTables};
 ghost use Rattle.type_index.specs.Index.{firstBelow, lowestEntry, sameParams, bucketOf, Chained, Entered, Indexed, Listed, Operand, Parameters};
 
+// The lowest number of a type equal to the type i.
+pub fn lowest(index: &[u16], i: usize) -> usize
+    requires { ⌜ Entered (now index) i ⌝ }
+    ensures { λ r. ⌜ r ≡ lowestEntry (now (index .entry)) i ⌝ }
+{
+    entry(index, i)
+}
+
 // The index has the same lowest number for a and b: where both are indexed, these types are equal as written out.
 pub fn same(index: &[u16], a: usize, b: usize) -> bool
     requires { ⌜ Entered (now index) a × Entered (now index) b ⌝ }
     ensures { λ r. ⌜ r ≡ eqb (lowestEntry (now (index .entry)) a) (lowestEntry (now (index .entry)) b) ⌝ }
 {
-    entry(index, a) == entry(index, b)
+    lowest(index, a) == lowest(index, b)
 }
 
 // `count` parameters from the entries p and q of the type list on are equal, one by one.

@@ -41,7 +41,7 @@ use Rattle.steps.specs.declared.context.Stepped.the-variants.{Next, Refused}
 use Rattle.steps.specs.Contract.{contextAt, summing}
 use Rattle.typing.specs.declared.check.Answer.{Answer}
 use Rattle.typing.specs.Runs.{start, afterSteps, withSegments, Written, Runs, goes, stops, Declares, ReadyRun, programOf, ToldRun}
-use Rattle.typing.specs.Check.{outcomeOf, Checked, Demands, answerOf, rowsAfter, Small, ReadyCheck, AnswersAs, ToldCheck}
+use Rattle.typing.specs.Check.{outcomeOf, Checked, Demands, WasRead, ToldSections, answerOf, rowsAfter, Small, ReadyCheck, AnswersAs, ToldCheck}
 use Rattle.typing.proofs.LawsRows.{rows-are}
 
 -- segments, with nothing after them
@@ -56,13 +56,13 @@ empty-start T W = refl
 
 -- a file's program, and its sections
 module _ {F : List ℕ} {S : Sections} (p : Program) (f : IsFile widest F p) (e : readingWithin widest F ≡ Good S) where
-  tables-are : p .tables ≡ tablesOf F S
+  pub tables-are : p .tables ≡ tablesOf F S
   tables-are = tables-there widest F S p e f
 
   nodes-are : length (p .tables .nodes) ≡ S .nodes
   nodes-are = ap (λ T. length (T .nodes)) tables-are ∙ nodes-long F S
 
-  declares : Declares F S (p .declarations)
+  pub declares : Declares F S (p .declarations)
   declares = record { stand = subst (λ T. DeclsStand T 0 (p .declarations)) tables-are (f .stand); used-up = f .used-up ∙ nodes-are }
 
   program-is : p ≡ programOf F S (p .declarations)
@@ -177,18 +177,18 @@ module _ {F : List ℕ} {S : Sections} {R W : List ℕ} (z : ReadyCheck F S R W)
     }
 
 -- a readable file has few nodes
-pub nodes-few : (l : Limits) (F : List ℕ) {S : Sections} {g : Reading} → g ≡ readingOf l F → g ≡ Good S → S .nodes ≤ 4096
-nodes-few l F {S} {g} i j = good-tables l F g S i j .laid .nodes-most
+pub nodes-few : {F : List ℕ} {S : Sections} → WasRead F S → S .nodes ≤ 4096
+nodes-few {F} {S} w = good-tables (w .limits) F (readingOf (w .limits) F) S refl (w .reads) .laid .nodes-most
 
 -- a file that is read under some limits, as the check within speaks of it
-record Door (l : Limits) (F : List ℕ) (S : Sections) : Type 0 where
-  range : inRange l ≡ true
-  program : Program
-  file : IsFile l F program
-  wide : IsFile widest (meant F) program
-  reads : readingWithin widest (meant F) ≡ Good S
+pub record Door (l : Limits) (F : List ℕ) (S : Sections) : Type 0 where
+  pub range : inRange l ≡ true
+  pub program : Program
+  pub file : IsFile l F program
+  pub wide : IsFile widest (meant F) program
+  pub reads : readingWithin widest (meant F) ≡ Good S
 
-door : (l : Limits) (F : List ℕ) (S : Sections) → Bytes F → readingOf l F ≡ Good S → Door l F S
+pub door : (l : Limits) (F : List ℕ) (S : Sections) → Bytes F → readingOf l F ≡ Good S → Door l F S
 door l F S b e =
     let (range, good) = good-in-range l F S e in
     let (p, f) = program-of l F S b good in
@@ -215,18 +215,18 @@ module _ {l : Limits} {F R W : List ℕ} where
       }
 
   -- 6
-  pub check-rows-short : {S : Sections} {r : Answer} {g : Reading} → Bytes F → g ≡ readingOf l F → g ≡ Good S → length R < S .nodes * 2 → r ≡ record { number = 6; step = 0; place = 0; pairs = 0 } → Checked l F R W R W r
-  check-rows-short {S} {r} b i j h q =
-      let d = door l F S b (sym i ∙ j) in
+  pub check-rows-short : {S : Sections} {r : Answer} → Bytes F → readingOf l F ≡ Good S → length R < S .nodes * 2 → r ≡ record { number = 6; step = 0; place = 0; pairs = 0 } → Checked l F R W R W r
+  check-rows-short {S} {r} b e h q =
+      let d = door l F S b e in
       record {
         checks = subst (λ x. Checks l F R W (outcomeOf x R)) (sym q) (rows-short (d .range) (d .program) (d .file) (omega (arith, needed-is (d .program) (d .wide) (d .reads))));
         unchanged = λ a. refl;
         rest = λ p f. refl;
       }
 
-  pub check-work-short : {S : Sections} {r : Answer} {g : Reading} → Bytes F → g ≡ readingOf l F → g ≡ Good S → S .nodes * 2 ≤ length R → length W < S .nodes * 2 → r ≡ record { number = 6; step = 0; place = 0; pairs = 0 } → Checked l F R W R W r
-  check-work-short {S} {r} b i j k h q =
-      let d = door l F S b (sym i ∙ j) in
+  pub check-work-short : {S : Sections} {r : Answer} → Bytes F → readingOf l F ≡ Good S → S .nodes * 2 ≤ length R → length W < S .nodes * 2 → r ≡ record { number = 6; step = 0; place = 0; pairs = 0 } → Checked l F R W R W r
+  check-work-short {S} {r} b e k h q =
+      let d = door l F S b e in
       let n = needed-is (d .program) (d .wide) (d .reads) in
       record {
         checks = subst (λ x. Checks l F R W (outcomeOf x R)) (sym q) (work-short (d .range) (d .program) (d .file) (omega (arith, n)) (omega (arith, n)));
@@ -236,15 +236,15 @@ module _ {l : Limits} {F R W : List ℕ} where
 
 -- the check itself, of the bytes G that are meant, on the parts that are lent
 module _ (l : Limits) (F R W : List ℕ) where
-  module _ {S : Sections} {g : Reading} {G : List ℕ} (b : Bytes F) (i : g ≡ readingOf l F) (j : g ≡ Good S) (is : G ≡ meant F) (m : S .nodes * 2 ≤ length R) (k : S .nodes * 2 ≤ length W) where
+  module _ {S : Sections} {G : List ℕ} (b : Bytes F) (e : readingOf l F ≡ Good S) (is : G ≡ meant F) (m : S .nodes * 2 ≤ length R) (k : S .nodes * 2 ≤ length W) where
     pub check-ready : ReadyCheck G S (take (S .nodes * 2) R) (take (S .nodes * 2) W)
     check-ready =
-        let d = door l F S b (sym i ∙ j) in
+        let d = door l F S b e in
         subst (λ x. ReadyCheck x S (take (S .nodes * 2) R) (take (S .nodes * 2) W)) (sym is) (record { reads = d .reads; program = d .program; file = d .wide; rows-long = length-take-le (S .nodes * 2) R m; work-long = length-take-le (S .nodes * 2) W k })
 
     pub check-good : {R₁ W₁ : List ℕ} {a : Answer} → ToldCheck G S R₁ W₁ a → Checked l F R W (R₁ ++ drop (S .nodes * 2) R) (W₁ ++ drop (S .nodes * 2) W) a
     check-good {R₁} {W₁} {a} told =
-        let d = door l F S b (sym i ∙ j) in
+        let d = door l F S b e in
         let p = d .program in
         let n : needed p ≡ S .nodes * 2 = needed-is p (d .wide) (d .reads) in
         let t = subst (λ x. ToldCheck x S R₁ W₁ a) is told .tells p (d .wide) in
@@ -274,3 +274,15 @@ demands {l} {F} {R} {W} {R′} {W′} {r} c = record { demand3 = λ i p f k m. d
 
 pub with-demands : {l : Limits} {F R W R′ W′ : List ℕ} {r : Answer} → Checked l F R W R′ W′ r → Checked l F R W R′ W′ r × Demands l F R W R′ r
 with-demands c = (c, demands c)
+
+-- of a file that was read, under each of its limits
+pub told-sections : {F R W R′ W′ : List ℕ} {S : Sections} {r : Answer} → ((l : Limits) → readingOf l F ≡ Good S → Checked l F R W R′ W′ r) → ToldSections F S R W R′ W′ r
+told-sections f = record { checked = f; demands = λ l e. demands (f l e) }
+
+-- a file that was read under the limits l, and what the check of its sections says under these
+module _ (l : Limits) {F : List ℕ} {S : Sections} {g : Reading} (i : g ≡ readingOf l F) (j : g ≡ Good S) where
+  pub was-read : WasRead F S
+  was-read = record { limits = l; reads = sym i ∙ j }
+
+  pub check-told-sections : {R W R′ W′ : List ℕ} {r : Answer} → ToldSections F S R W R′ W′ r → Checked l F R W R′ W′ r × Demands l F R W R′ r
+  check-told-sections t = (t .checked l (sym i ∙ j), t .demands l (sym i ∙ j))

@@ -11,7 +11,7 @@ use Rattle.oat.specs.ProgramFile.{Limits, inRange, widest, Program, IsFile}
 use Rattle.typing_rules.specs.Check.{checkOf}
 use Rattle.file_sections.specs.declared.Sections.{Sections}
 use Rattle.file_sections.specs.declared.Reading.the-variants.{Good}
-use Rattle.program_file.specs.Reading.{readingWithin}
+use Rattle.program_file.specs.Reading.{readingWithin, readingOf}
 use Rattle.demand3.specs.CheckFile.{needed, Outcome, outcome, Checks}
 use Rattle.demand3.specs.Demand3.{Demand3}
 use Rattle.steps.specs.declared.context.Context.{Context}
@@ -32,6 +32,16 @@ pub record Checked (limits : Limits) (F R W R′ W′ : List ℕ) (r : Answer) :
 -- demand 3, on bytes and buffers: for every readable file under limits in range, with long enough buffers holding anything
 pub record Demands (limits : Limits) (F R W R′ : List ℕ) (r : Answer) : Type 0 where
   pub demand3 : inRange limits ≡ true → (p : Program) → IsFile limits F p → needed p ≤ length R → needed p ≤ length W → Demand3 p R (outcomeOf r R′)
+
+-- the file was read under some limits, with these sections
+pub record WasRead (F : List ℕ) (S : Sections) : Type 0 where
+  pub limits : Limits
+  pub reads : readingOf limits F ≡ Good S
+
+-- what `check` promises, under all limits under which the file has these sections
+pub record ToldSections (F : List ℕ) (S : Sections) (R W R′ W′ : List ℕ) (r : Answer) : Type 0 where
+  pub checked : (limits : Limits) → readingOf limits F ≡ Good S → Checked limits F R W R′ W′ r
+  pub demands : (limits : Limits) → readingOf limits F ≡ Good S → Demands limits F R W R′ r
 
 -- the answer after the last step, and the rows: a refusal fills them
 abbrev pub answerOf : Stepped → Answer

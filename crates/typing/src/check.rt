@@ -18,7 +18,7 @@ ghost use Prim.Native.Nat.{_*_, _≤_, _<_};
 ghost use lib.ListN.{length, replicate};
 ghost use Rattle.program_file.specs.Reading.{settingOf};
 ghost use Rattle.typing.specs.Runs.{ReadyRun, ToldFirst, ToldRun};
-ghost use Rattle.typing.specs.Check.{Checked, Demands, answerOf, rowsAfter, Small, ReadyCheck, ToldCheck};
+ghost use Rattle.typing.specs.Check.{Checked, Demands, WasRead, ToldSections, answerOf, rowsAfter, Small, ReadyCheck, ToldCheck};
 
 // 0 and how many steps there are; or the number, the step and the place of a refusal. Either way, how many pairs of types were compared.
 pub struct Answer {
@@ -153,16 +153,11 @@ fn check_read(file: &[u8], sections: Sections, rows: &mut [u16], work: &mut [u16
     finish(stepped, rows)
 }
 
-// Checks a program file: tests the limits, reads it, tests the buffers, and answers; `rows` gets two numbers for each node, and `work` lends as
-// many.
-pub fn check(file: &[u8], limits: Limits, rows: &mut [u16], work: &mut [u16]) -> Answer
-    ensures { λ r. ⌜ Checked (settingOf limits) (now (file .entry)) (now (rows .entry)) (now (work .entry)) (now (rows .exit)) (now (work .exit)) r ⌝ }
-    ensures { λ r. ⌜ Demands (settingOf limits) (now (file .entry)) (now (rows .entry)) (now (work .entry)) (now (rows .exit)) r ⌝ }
+// The check of a file that was read: tests the buffers, and answers; `rows` gets two numbers for each node, and `work` lends as many.
+pub fn check_sections(file: &[u8], sections: Sections, rows: &mut [u16], work: &mut [u16]) -> Answer
+    requires { ⌜ WasRead (now file) sections ⌝ }
+    ensures { λ r. ⌜ ToldSections (now (file .entry)) sections (now (rows .entry)) (now (work .entry)) (now (rows .exit)) (now (work .exit)) r ⌝ }
 {
-    let read = program_file::read(file, limits);
-    let Reading::Good(sections) = read else {
-        return bare(program_file::number(read));
-    };
     let needed = sections.nodes * 2;
     if rows.len() < needed {
         return bare(6);
@@ -177,4 +172,17 @@ pub fn check(file: &[u8], limits: Limits, rows: &mut [u16], work: &mut [u16]) ->
         &mut rows[..needed],
         &mut work[..needed],
     )
+}
+
+// Checks a program file: tests the limits, reads it, tests the buffers, and answers; `rows` gets two numbers for each node, and `work` lends as
+// many.
+pub fn check(file: &[u8], limits: Limits, rows: &mut [u16], work: &mut [u16]) -> Answer
+    ensures { λ r. ⌜ Checked (settingOf limits) (now (file .entry)) (now (rows .entry)) (now (work .entry)) (now (rows .exit)) (now (work .exit)) r ⌝ }
+    ensures { λ r. ⌜ Demands (settingOf limits) (now (file .entry)) (now (rows .entry)) (now (work .entry)) (now (rows .exit)) r ⌝ }
+{
+    let read = program_file::read(file, limits);
+    let Reading::Good(sections) = read else {
+        return bare(program_file::number(read));
+    };
+    check_sections(file, sections, rows, work)
 }

@@ -30,7 +30,7 @@ pub record Answers (p : Program) (number step place pairs : ℕ) (rows : List �
   pub file : IsFile widest (fileOf (p .tables)) p
   pub answer : checkOf p ≡ record { number = number; step = step; place = place; pairs = pairs; rows = rows }
 
-pub program-accepted-1 : Program
+unfoldable pub program-accepted-1 : Program
 program-accepted-1 = record {
   tables = record {
     types = (ty 0 0 0 0 ∷ ty 1 0 0 0 ∷ ty 2 0 0 0 ∷ ty 3 0 0 0 ∷ ty 7 2 0 0 ∷ ty 6 1 0 2 ∷ []);
@@ -49,7 +49,7 @@ pub accepted-1 : Answers program-accepted-1 0 2 0 5 (1 ∷ 65535 ∷ 4 ∷ 65535
 unfolding program-accepted-1 computed isFile
 accepted-1 = record { file = is-file widest program-accepted-1 refl; answer = refl }
 
-pub program-accepted-2 : Program
+unfoldable pub program-accepted-2 : Program
 program-accepted-2 = record {
   tables = record {
     types = (ty 0 0 0 0 ∷ ty 1 0 0 0 ∷ ty 2 0 0 0 ∷ ty 3 0 0 0 ∷ ty 6 3 0 0 ∷ ty 6 0 0 0 ∷ ty 6 0 0 1 ∷ ty 6 3 1 2 ∷ ty 7 2 0 0
@@ -72,7 +72,7 @@ pub accepted-2 : Answers program-accepted-2 0 2 0 2 (1 ∷ 65535 ∷ 0 ∷ 65535
 unfolding program-accepted-2 computed isFile
 accepted-2 = record { file = is-file widest program-accepted-2 refl; answer = refl }
 
-pub program-accepted-3 : Program
+unfoldable pub program-accepted-3 : Program
 program-accepted-3 = record {
   tables = record {
     types = (ty 0 0 0 0 ∷ ty 1 0 0 0 ∷ ty 2 0 0 0 ∷ ty 3 0 0 0 ∷ ty 5 0 0 0 ∷ ty 7 2 0 0 ∷ ty 6 3 0 1 ∷ ty 6 3 1 1 ∷ ty 6 3 2 2
@@ -98,7 +98,7 @@ pub accepted-3 : Answers program-accepted-3 0 2 0 0 (1 ∷ 65535 ∷ 6 ∷ 65535
 unfolding program-accepted-3 computed isFile
 accepted-3 = record { file = is-file widest program-accepted-3 refl; answer = refl }
 
-pub program-accepted-4 : Program
+unfoldable pub program-accepted-4 : Program
 program-accepted-4 = record {
   tables = record {
     types = (ty 0 0 0 0 ∷ ty 1 0 0 0 ∷ ty 2 0 0 0 ∷ ty 3 0 0 0 ∷ ty 4 1 0 0 ∷ ty 4 2 0 0 ∷ ty 4 3 0 0 ∷ ty 7 4 0 0 ∷ ty 7 5 0 0
@@ -119,7 +119,7 @@ pub accepted-4 : Answers program-accepted-4 0 2 0 1 (1 ∷ 65535 ∷ 1 ∷ 65535
 unfolding program-accepted-4 computed isFile
 accepted-4 = record { file = is-file widest program-accepted-4 refl; answer = refl }
 
-pub program-accepted-5 : Program
+unfoldable pub program-accepted-5 : Program
 program-accepted-5 = record {
   tables = record {
     types = (ty 0 0 0 0 ∷ ty 1 0 0 0 ∷ ty 2 0 0 0 ∷ ty 3 0 0 0 ∷ ty 4 1 0 0 ∷ ty 4 2 0 0 ∷ ty 4 3 0 0 ∷ ty 7 4 0 0 ∷ ty 7 5 0 0
@@ -141,7 +141,7 @@ pub accepted-5 : Answers program-accepted-5 0 2 0 1 (1 ∷ 65535 ∷ 1 ∷ 65535
 unfolding program-accepted-5 computed isFile
 accepted-5 = record { file = is-file widest program-accepted-5 refl; answer = refl }
 
-pub program-accepted-6 : Program
+unfoldable pub program-accepted-6 : Program
 program-accepted-6 = record {
   tables = record {
     types = (ty 0 0 0 0 ∷ ty 1 0 0 0 ∷ ty 2 0 0 0 ∷ ty 3 0 0 0 ∷ ty 4 1 0 0 ∷ ty 4 2 0 0 ∷ ty 4 3 0 0 ∷ ty 7 4 0 0 ∷ ty 7 5 0 0
@@ -163,7 +163,7 @@ pub accepted-6 : Answers program-accepted-6 0 2 0 1 (1 ∷ 65535 ∷ 1 ∷ 65535
 unfolding program-accepted-6 computed isFile
 accepted-6 = record { file = is-file widest program-accepted-6 refl; answer = refl }
 
-pub program-accepted-7 : Program
+unfoldable pub program-accepted-7 : Program
 program-accepted-7 = record {
   tables = record {
     types = (ty 0 0 0 0 ∷ ty 1 0 0 0 ∷ ty 2 0 0 0 ∷ ty 3 0 0 0 ∷ ty 4 1 0 0 ∷ ty 4 2 0 0 ∷ ty 4 3 0 0 ∷ ty 7 4 0 0 ∷ ty 7 5 0 0
@@ -187,7 +187,7 @@ pub accepted-7 : Answers program-accepted-7 0 2 0 0 (1 ∷ 65535 ∷ 1 ∷ 65535
 unfolding program-accepted-7 computed isFile
 accepted-7 = record { file = is-file widest program-accepted-7 refl; answer = refl }
 
-pub program-accepted-8 : Program
+unfoldable pub program-accepted-8 : Program
 program-accepted-8 = record {
   tables = record {
     types = (ty 0 0 0 0 ∷ ty 1 0 0 0 ∷ ty 2 0 0 0 ∷ ty 3 0 0 0 ∷ ty 4 1 0 0 ∷ ty 4 2 0 0 ∷ ty 4 3 0 0 ∷ ty 7 4 0 0 ∷ ty 7 5 0 0
@@ -210,7 +210,7 @@ pub accepted-8 : Answers program-accepted-8 0 4 0 4 (1 ∷ 65535 ∷ 1 ∷ 65535
 unfolding program-accepted-8 computed isFile
 accepted-8 = record { file = is-file widest program-accepted-8 refl; answer = refl }
 
-pub program-accepted-9 : Program
+unfoldable pub program-accepted-9 : Program
 program-accepted-9 = record {
   tables = record {
     types = (ty 0 0 0 0 ∷ ty 1 0 0 0 ∷ ty 2 0 0 0 ∷ ty 3 0 0 0 ∷ ty 6 3 0 0 ∷ ty 6 3 0 1 ∷ ty 6 0 1 0 ∷ ty 6 0 1 1 ∷ ty 7 2 0 0
@@ -238,7 +238,7 @@ pub accepted-9 : Answers program-accepted-9 0 5 0 2 (1 ∷ 65535 ∷ 1 ∷ 65535
 unfolding program-accepted-9 computed isFile
 accepted-9 = record { file = is-file widest program-accepted-9 refl; answer = refl }
 
-pub program-accepted-10 : Program
+unfoldable pub program-accepted-10 : Program
 program-accepted-10 = record {
   tables = record {
     types = (ty 0 0 0 0 ∷ ty 1 0 0 0 ∷ ty 2 0 0 0 ∷ ty 3 0 0 0 ∷ ty 6 3 0 0 ∷ ty 6 3 0 1 ∷ ty 6 3 1 1 ∷ ty 6 3 2 1 ∷ ty 7 2 0 0
@@ -273,7 +273,7 @@ pub accepted-10 : Answers program-accepted-10 0 7 0 9 (0 ∷ 65535 ∷ 0 ∷ 655
 unfolding program-accepted-10 computed isFile
 accepted-10 = record { file = is-file widest program-accepted-10 refl; answer = refl }
 
-pub program-accepted-11 : Program
+unfoldable pub program-accepted-11 : Program
 program-accepted-11 = record {
   tables = record {
     types = (ty 0 0 0 0 ∷ ty 1 0 0 0 ∷ ty 2 0 0 0 ∷ ty 3 0 0 0 ∷ ty 6 3 0 0 ∷ ty 6 3 0 1 ∷ ty 6 3 1 1 ∷ ty 6 3 2 1 ∷ ty 7 2 0 0
@@ -309,7 +309,7 @@ pub accepted-11 : Answers program-accepted-11 0 7 0 11 (0 ∷ 65535 ∷ 0 ∷ 65
 unfolding program-accepted-11 computed isFile
 accepted-11 = record { file = is-file widest program-accepted-11 refl; answer = refl }
 
-pub program-accepted-12 : Program
+unfoldable pub program-accepted-12 : Program
 program-accepted-12 = record {
   tables = record {
     types = (ty 0 0 0 0 ∷ ty 1 0 0 0 ∷ ty 2 0 0 0 ∷ ty 3 0 0 0 ∷ ty 4 0 0 0 ∷ ty 4 1 0 0 ∷ ty 4 77 0 0 ∷ ty 5 0 0 0 ∷ ty 5 4 0 0
@@ -351,7 +351,7 @@ pub accepted-12 : Answers program-accepted-12 0 10 0 26 (1 ∷ 65535 ∷ 1 ∷ 6
 unfolding program-accepted-12 computed isFile
 accepted-12 = record { file = is-file widest program-accepted-12 refl; answer = refl }
 
-pub program-accepted-13 : Program
+unfoldable pub program-accepted-13 : Program
 program-accepted-13 = record {
   tables = record {
     types = (ty 0 0 0 0 ∷ ty 1 0 0 0 ∷ ty 2 0 0 0 ∷ ty 3 0 0 0 ∷ ty 4 0 0 0 ∷ ty 4 1 0 0 ∷ ty 4 2 0 0 ∷ ty 4 3 0 0 ∷ ty 4 77 0 0
@@ -391,7 +391,7 @@ pub accepted-13 : Answers program-accepted-13 0 12 0 21 (1 ∷ 65535 ∷ 0 ∷ 6
 unfolding program-accepted-13 computed isFile
 accepted-13 = record { file = is-file widest program-accepted-13 refl; answer = refl }
 
-pub program-accepted-14 : Program
+unfoldable pub program-accepted-14 : Program
 program-accepted-14 = record {
   tables = record {
     types = (ty 0 0 0 0 ∷ ty 1 0 0 0 ∷ ty 2 0 0 0 ∷ ty 3 0 0 0 ∷ ty 4 0 0 0 ∷ ty 4 1 0 0 ∷ ty 4 2 0 0 ∷ ty 4 77 0 0 ∷ ty 5 0 0 0
@@ -440,7 +440,7 @@ pub accepted-14 : Answers program-accepted-14 0 18 0 31 (29 ∷ 65535 ∷ 29 ∷
 unfolding program-accepted-14 computed isFile
 accepted-14 = record { file = is-file widest program-accepted-14 refl; answer = refl }
 
-pub program-refused-7-1 : Program
+unfoldable pub program-refused-7-1 : Program
 program-refused-7-1 = record {
   tables = record {
     types = (ty 0 0 0 0 ∷ ty 1 0 0 0 ∷ ty 2 0 0 0 ∷ ty 3 0 0 0 ∷ ty 6 3 0 0 ∷ ty 4 1 0 0 ∷ ty 4 9 0 0 ∷ ty 6 6 0 0 ∷ []);
@@ -457,7 +457,7 @@ pub refused-7-1 : Answers program-refused-7-1 7 1 0 0 ([])
 unfolding program-refused-7-1 computed isFile
 refused-7-1 = record { file = is-file widest program-refused-7-1 refl; answer = refl }
 
-pub program-refused-7-2 : Program
+unfoldable pub program-refused-7-2 : Program
 program-refused-7-2 = record {
   tables = record {
     types = (ty 0 0 0 0 ∷ ty 1 0 0 0 ∷ ty 2 0 0 0 ∷ ty 3 0 0 0 ∷ ty 7 2 0 0 ∷ ty 6 3 0 1 ∷ ty 6 3 1 1 ∷ ty 6 3 2 2 ∷ []);
@@ -476,7 +476,7 @@ pub refused-7-2 : Answers program-refused-7-2 7 1 0 0 (65535 ∷ 65535 ∷ 65535
 unfolding program-refused-7-2 computed isFile
 refused-7-2 = record { file = is-file widest program-refused-7-2 refl; answer = refl }
 
-pub program-refused-7-3 : Program
+unfoldable pub program-refused-7-3 : Program
 program-refused-7-3 = record {
   tables = record {
     types = (ty 0 0 0 0 ∷ ty 1 0 0 0 ∷ ty 2 0 0 0 ∷ ty 3 0 0 0 ∷ ty 4 1 0 0 ∷ ty 4 2 0 0 ∷ ty 4 3 0 0 ∷ ty 7 4 0 0 ∷ ty 7 5 0 0
@@ -497,7 +497,7 @@ pub refused-7-3 : Answers program-refused-7-3 7 1 0 0 (65535 ∷ 65535 ∷ 65535
 unfolding program-refused-7-3 computed isFile
 refused-7-3 = record { file = is-file widest program-refused-7-3 refl; answer = refl }
 
-pub program-refused-7-4 : Program
+unfoldable pub program-refused-7-4 : Program
 program-refused-7-4 = record {
   tables = record {
     types = (ty 0 0 0 0 ∷ ty 1 0 0 0 ∷ ty 2 0 0 0 ∷ ty 3 0 0 0 ∷ ty 6 3 0 0 ∷ ty 4 1 0 0 ∷ ty 4 9 0 0 ∷ ty 6 6 0 0 ∷ []);
@@ -514,7 +514,7 @@ pub refused-7-4 : Answers program-refused-7-4 7 1 1 0 ([])
 unfolding program-refused-7-4 computed isFile
 refused-7-4 = record { file = is-file widest program-refused-7-4 refl; answer = refl }
 
-pub program-refused-7-5 : Program
+unfoldable pub program-refused-7-5 : Program
 program-refused-7-5 = record {
   tables = record {
     types = (ty 0 0 0 0 ∷ ty 1 0 0 0 ∷ ty 2 0 0 0 ∷ ty 3 0 0 0 ∷ ty 4 1 0 0 ∷ ty 4 2 0 0 ∷ ty 4 3 0 0 ∷ ty 7 4 0 0 ∷ ty 7 5 0 0
@@ -535,7 +535,7 @@ pub refused-7-5 : Answers program-refused-7-5 7 1 1 0 ([])
 unfolding program-refused-7-5 computed isFile
 refused-7-5 = record { file = is-file widest program-refused-7-5 refl; answer = refl }
 
-pub program-refused-7-6 : Program
+unfoldable pub program-refused-7-6 : Program
 program-refused-7-6 = record {
   tables = record {
     types = (ty 0 0 0 0 ∷ ty 1 0 0 0 ∷ ty 2 0 0 0 ∷ ty 3 0 0 0 ∷ ty 7 2 0 0 ∷ ty 6 3 0 1 ∷ ty 6 3 1 1 ∷ ty 6 3 2 2 ∷ []);
@@ -555,7 +555,7 @@ pub refused-7-6 : Answers program-refused-7-6 7 1 4 8 (65535 ∷ 65535 ∷ 65535
 unfolding program-refused-7-6 computed isFile
 refused-7-6 = record { file = is-file widest program-refused-7-6 refl; answer = refl }
 
-pub program-refused-7-7 : Program
+unfoldable pub program-refused-7-7 : Program
 program-refused-7-7 = record {
   tables = record {
     types = (ty 0 0 0 0 ∷ ty 1 0 0 0 ∷ ty 2 0 0 0 ∷ ty 3 0 0 0 ∷ ty 6 3 0 0 ∷ ty 6 0 0 0 ∷ ty 6 0 0 1 ∷ ty 6 3 1 2 ∷ ty 7 2 0 0
@@ -575,7 +575,7 @@ pub refused-7-7 : Answers program-refused-7-7 7 1 4 0 (65535 ∷ 65535 ∷ 65535
 unfolding program-refused-7-7 computed isFile
 refused-7-7 = record { file = is-file widest program-refused-7-7 refl; answer = refl }
 
-pub program-refused-7-8 : Program
+unfoldable pub program-refused-7-8 : Program
 program-refused-7-8 = record {
   tables = record {
     types = (ty 0 0 0 0 ∷ ty 1 0 0 0 ∷ ty 2 0 0 0 ∷ ty 3 0 0 0 ∷ ty 5 0 0 0 ∷ []);
@@ -595,7 +595,7 @@ pub refused-7-8 : Answers program-refused-7-8 7 1 5 5 (65535 ∷ 65535 ∷ 65535
 unfolding program-refused-7-8 computed isFile
 refused-7-8 = record { file = is-file widest program-refused-7-8 refl; answer = refl }
 
-pub program-refused-7-9 : Program
+unfoldable pub program-refused-7-9 : Program
 program-refused-7-9 = record {
   tables = record {
     types = (ty 0 0 0 0 ∷ ty 1 0 0 0 ∷ ty 2 0 0 0 ∷ ty 3 0 0 0 ∷ ty 6 3 0 0 ∷ ty 6 0 0 0 ∷ ty 6 0 0 1 ∷ ty 6 3 1 2 ∷ ty 7 2 0 0
@@ -617,7 +617,7 @@ pub refused-7-9 : Answers program-refused-7-9 7 1 5 0 (65535 ∷ 65535 ∷ 65535
 unfolding program-refused-7-9 computed isFile
 refused-7-9 = record { file = is-file widest program-refused-7-9 refl; answer = refl }
 
-pub program-refused-7-10 : Program
+unfoldable pub program-refused-7-10 : Program
 program-refused-7-10 = record {
   tables = record {
     types = (ty 0 0 0 0 ∷ ty 1 0 0 0 ∷ ty 2 0 0 0 ∷ ty 3 0 0 0 ∷ ty 6 3 0 0 ∷ ty 6 0 0 0 ∷ ty 6 0 0 1 ∷ ty 6 3 1 2 ∷ ty 7 2 0 0
@@ -639,7 +639,7 @@ pub refused-7-10 : Answers program-refused-7-10 7 1 6 0 (65535 ∷ 65535 ∷ 655
 unfolding program-refused-7-10 computed isFile
 refused-7-10 = record { file = is-file widest program-refused-7-10 refl; answer = refl }
 
-pub program-refused-7-11 : Program
+unfoldable pub program-refused-7-11 : Program
 program-refused-7-11 = record {
   tables = record {
     types = (ty 0 0 0 0 ∷ ty 1 0 0 0 ∷ ty 2 0 0 0 ∷ ty 3 0 0 0 ∷ ty 5 0 0 0 ∷ []);
@@ -660,7 +660,7 @@ pub refused-7-11 : Answers program-refused-7-11 7 3 0 6 (65535 ∷ 65535 ∷ 655
 unfolding program-refused-7-11 computed isFile
 refused-7-11 = record { file = is-file widest program-refused-7-11 refl; answer = refl }
 
-pub program-refused-7-12 : Program
+unfoldable pub program-refused-7-12 : Program
 program-refused-7-12 = record {
   tables = record {
     types = (ty 0 0 0 0 ∷ ty 1 0 0 0 ∷ ty 2 0 0 0 ∷ ty 3 0 0 0 ∷ ty 4 0 0 0 ∷ ty 4 1 0 0 ∷ ty 4 2 0 0 ∷ ty 4 3 0 0 ∷ ty 4 77 0 0
@@ -682,7 +682,7 @@ pub refused-7-12 : Answers program-refused-7-12 7 7 0 0 (65535 ∷ 65535 ∷ 655
 unfolding program-refused-7-12 computed isFile
 refused-7-12 = record { file = is-file widest program-refused-7-12 refl; answer = refl }
 
-pub program-refused-8-1 : Program
+unfoldable pub program-refused-8-1 : Program
 program-refused-8-1 = record {
   tables = record {
     types = (ty 0 0 0 0 ∷ ty 1 0 0 0 ∷ ty 2 0 0 0 ∷ ty 3 0 0 0 ∷ ty 4 1 0 0 ∷ ty 4 2 0 0 ∷ ty 4 3 0 0 ∷ ty 7 4 0 0 ∷ ty 7 5 0 0
@@ -703,7 +703,7 @@ pub refused-8-1 : Answers program-refused-8-1 8 0 1 0 (65535 ∷ 65535 ∷ 65535
 unfolding program-refused-8-1 computed isFile
 refused-8-1 = record { file = is-file widest program-refused-8-1 refl; answer = refl }
 
-pub program-refused-8-2 : Program
+unfoldable pub program-refused-8-2 : Program
 program-refused-8-2 = record {
   tables = record {
     types = (ty 0 0 0 0 ∷ ty 1 0 0 0 ∷ ty 2 0 0 0 ∷ ty 3 0 0 0 ∷ ty 5 0 0 0 ∷ ty 4 68 0 0 ∷ []);
@@ -722,7 +722,7 @@ pub refused-8-2 : Answers program-refused-8-2 8 1 7 2 (65535 ∷ 65535 ∷ 65535
 unfolding program-refused-8-2 computed isFile
 refused-8-2 = record { file = is-file widest program-refused-8-2 refl; answer = refl }
 
-pub program-refused-8-3 : Program
+unfoldable pub program-refused-8-3 : Program
 program-refused-8-3 = record {
   tables = record {
     types = (ty 0 0 0 0 ∷ ty 1 0 0 0 ∷ ty 2 0 0 0 ∷ ty 3 0 0 0 ∷ ty 7 2 0 0 ∷ ty 6 3 0 1 ∷ ty 6 3 1 1 ∷ ty 6 3 2 2 ∷ []);
@@ -742,7 +742,7 @@ pub refused-8-3 : Answers program-refused-8-3 8 1 8 4 (65535 ∷ 65535 ∷ 65535
 unfolding program-refused-8-3 computed isFile
 refused-8-3 = record { file = is-file widest program-refused-8-3 refl; answer = refl }
 
-pub program-refused-8-4 : Program
+unfoldable pub program-refused-8-4 : Program
 program-refused-8-4 = record {
   tables = record {
     types = (ty 0 0 0 0 ∷ ty 1 0 0 0 ∷ ty 2 0 0 0 ∷ ty 3 0 0 0 ∷ ty 7 2 0 0 ∷ ty 6 3 0 1 ∷ ty 6 3 1 1 ∷ ty 6 3 2 2 ∷ ty 6 3 4 3
@@ -763,7 +763,7 @@ pub refused-8-4 : Answers program-refused-8-4 8 1 8 0 (65535 ∷ 65535 ∷ 65535
 unfolding program-refused-8-4 computed isFile
 refused-8-4 = record { file = is-file widest program-refused-8-4 refl; answer = refl }
 
-pub program-refused-8-5 : Program
+unfoldable pub program-refused-8-5 : Program
 program-refused-8-5 = record {
   tables = record {
     types = (ty 0 0 0 0 ∷ ty 1 0 0 0 ∷ ty 2 0 0 0 ∷ ty 3 0 0 0 ∷ ty 4 1 0 0 ∷ ty 4 2 0 0 ∷ ty 4 3 0 0 ∷ ty 7 4 0 0 ∷ ty 7 5 0 0
@@ -787,7 +787,7 @@ pub refused-8-5 : Answers program-refused-8-5 8 7 3 2 (65535 ∷ 65535 ∷ 65535
 unfolding program-refused-8-5 computed isFile
 refused-8-5 = record { file = is-file widest program-refused-8-5 refl; answer = refl }
 
-pub program-refused-9-1 : Program
+unfoldable pub program-refused-9-1 : Program
 program-refused-9-1 = record {
   tables = record {
     types = (ty 0 0 0 0 ∷ ty 1 0 0 0 ∷ ty 2 0 0 0 ∷ ty 3 0 0 0 ∷ ty 6 3 0 0 ∷ ty 4 1 0 0 ∷ ty 4 9 0 0 ∷ ty 6 6 0 0 ∷ []);
@@ -804,7 +804,7 @@ pub refused-9-1 : Answers program-refused-9-1 9 0 0 0 ([])
 unfolding program-refused-9-1 computed isFile
 refused-9-1 = record { file = is-file widest program-refused-9-1 refl; answer = refl }
 
-pub program-refused-9-2 : Program
+unfoldable pub program-refused-9-2 : Program
 program-refused-9-2 = record {
   tables = record {
     types = (ty 0 0 0 0 ∷ ty 1 0 0 0 ∷ ty 2 0 0 0 ∷ ty 3 0 0 0 ∷ ty 4 81 0 0 ∷ ty 6 3 0 1 ∷ []);
@@ -821,7 +821,7 @@ pub refused-9-2 : Answers program-refused-9-2 9 0 0 0 (65535 ∷ 65535 ∷ 65535
 unfolding program-refused-9-2 computed isFile
 refused-9-2 = record { file = is-file widest program-refused-9-2 refl; answer = refl }
 
-pub program-refused-9-3 : Program
+unfoldable pub program-refused-9-3 : Program
 program-refused-9-3 = record {
   tables = record {
     types = (ty 0 0 0 0 ∷ ty 1 0 0 0 ∷ ty 2 0 0 0 ∷ ty 3 0 0 0 ∷ ty 4 1 0 0 ∷ ty 4 2 0 0 ∷ ty 4 3 0 0 ∷ ty 7 4 0 0 ∷ ty 7 5 0 0
@@ -842,7 +842,7 @@ pub refused-9-3 : Answers program-refused-9-3 9 0 1 0 (65535 ∷ 65535 ∷ 65535
 unfolding program-refused-9-3 computed isFile
 refused-9-3 = record { file = is-file widest program-refused-9-3 refl; answer = refl }
 
-pub program-refused-9-4 : Program
+unfoldable pub program-refused-9-4 : Program
 program-refused-9-4 = record {
   tables = record {
     types = (ty 0 0 0 0 ∷ ty 1 0 0 0 ∷ ty 2 0 0 0 ∷ ty 3 0 0 0 ∷ ty 6 3 0 0 ∷ ty 4 1 0 0 ∷ ty 4 9 0 0 ∷ ty 6 6 0 0 ∷ []);
@@ -859,7 +859,7 @@ pub refused-9-4 : Answers program-refused-9-4 9 1 0 0 ([])
 unfolding program-refused-9-4 computed isFile
 refused-9-4 = record { file = is-file widest program-refused-9-4 refl; answer = refl }
 
-pub program-refused-9-5 : Program
+unfoldable pub program-refused-9-5 : Program
 program-refused-9-5 = record {
   tables = record {
     types = (ty 0 0 0 0 ∷ ty 1 0 0 0 ∷ ty 2 0 0 0 ∷ ty 3 0 0 0 ∷ ty 4 1 0 0 ∷ ty 4 2 0 0 ∷ ty 4 3 0 0 ∷ ty 7 4 0 0 ∷ ty 7 5 0 0
@@ -880,7 +880,7 @@ pub refused-9-5 : Answers program-refused-9-5 9 1 3 0 (65535 ∷ 65535 ∷ 65535
 unfolding program-refused-9-5 computed isFile
 refused-9-5 = record { file = is-file widest program-refused-9-5 refl; answer = refl }
 
-pub program-refused-9-6 : Program
+unfoldable pub program-refused-9-6 : Program
 program-refused-9-6 = record {
   tables = record {
     types = (ty 0 0 0 0 ∷ ty 1 0 0 0 ∷ ty 2 0 0 0 ∷ ty 3 0 0 0 ∷ ty 4 1 0 0 ∷ ty 4 2 0 0 ∷ ty 4 3 0 0 ∷ ty 7 4 0 0 ∷ ty 7 5 0 0
@@ -902,7 +902,7 @@ pub refused-9-6 : Answers program-refused-9-6 9 1 3 0 (65535 ∷ 65535 ∷ 65535
 unfolding program-refused-9-6 computed isFile
 refused-9-6 = record { file = is-file widest program-refused-9-6 refl; answer = refl }
 
-pub program-refused-9-7 : Program
+unfoldable pub program-refused-9-7 : Program
 program-refused-9-7 = record {
   tables = record {
     types = (ty 0 0 0 0 ∷ ty 1 0 0 0 ∷ ty 2 0 0 0 ∷ ty 3 0 0 0 ∷ ty 6 3 0 0 ∷ ty 6 0 0 0 ∷ ty 6 0 0 1 ∷ ty 6 3 1 2 ∷ ty 7 2 0 0
@@ -923,7 +923,7 @@ pub refused-9-7 : Answers program-refused-9-7 9 1 5 0 (65535 ∷ 65535 ∷ 65535
 unfolding program-refused-9-7 computed isFile
 refused-9-7 = record { file = is-file widest program-refused-9-7 refl; answer = refl }
 
-pub program-refused-9-8 : Program
+unfoldable pub program-refused-9-8 : Program
 program-refused-9-8 = record {
   tables = record {
     types = (ty 0 0 0 0 ∷ ty 1 0 0 0 ∷ ty 2 0 0 0 ∷ ty 3 0 0 0 ∷ ty 6 3 0 0 ∷ ty 6 0 0 0 ∷ ty 6 0 0 1 ∷ ty 6 3 1 2 ∷ ty 7 2 0 0
@@ -945,7 +945,7 @@ pub refused-9-8 : Answers program-refused-9-8 9 1 5 0 (65535 ∷ 65535 ∷ 65535
 unfolding program-refused-9-8 computed isFile
 refused-9-8 = record { file = is-file widest program-refused-9-8 refl; answer = refl }
 
-pub program-refused-9-9 : Program
+unfoldable pub program-refused-9-9 : Program
 program-refused-9-9 = record {
   tables = record {
     types = (ty 0 0 0 0 ∷ ty 1 0 0 0 ∷ ty 2 0 0 0 ∷ ty 3 0 0 0 ∷ ty 4 81 0 0 ∷ ty 7 4 0 0 ∷ ty 7 2 0 0 ∷ ty 6 3 0 1 ∷ ty 6 3 1 1
@@ -966,7 +966,7 @@ pub refused-9-9 : Answers program-refused-9-9 9 1 8 4 (65535 ∷ 65535 ∷ 65535
 unfolding program-refused-9-9 computed isFile
 refused-9-9 = record { file = is-file widest program-refused-9-9 refl; answer = refl }
 
-pub program-refused-9-10 : Program
+unfoldable pub program-refused-9-10 : Program
 program-refused-9-10 = record {
   tables = record {
     types = (ty 0 0 0 0 ∷ ty 1 0 0 0 ∷ ty 2 0 0 0 ∷ ty 3 0 0 0 ∷ ty 4 81 0 0 ∷ ty 5 4 0 0 ∷ ty 7 2 0 0 ∷ ty 6 3 0 1 ∷ ty 6 3 1 1
@@ -987,7 +987,7 @@ pub refused-9-10 : Answers program-refused-9-10 9 1 8 4 (65535 ∷ 65535 ∷ 655
 unfolding program-refused-9-10 computed isFile
 refused-9-10 = record { file = is-file widest program-refused-9-10 refl; answer = refl }
 
-pub program-refused-9-11 : Program
+unfoldable pub program-refused-9-11 : Program
 program-refused-9-11 = record {
   tables = record {
     types = (ty 0 0 0 0 ∷ ty 1 0 0 0 ∷ ty 2 0 0 0 ∷ ty 3 0 0 0 ∷ ty 4 81 0 0 ∷ ty 7 4 0 0 ∷ ty 5 0 0 0 ∷ []);
@@ -1008,7 +1008,7 @@ pub refused-9-11 : Answers program-refused-9-11 9 3 0 6 (65535 ∷ 65535 ∷ 655
 unfolding program-refused-9-11 computed isFile
 refused-9-11 = record { file = is-file widest program-refused-9-11 refl; answer = refl }
 
-pub program-refused-9-12 : Program
+unfoldable pub program-refused-9-12 : Program
 program-refused-9-12 = record {
   tables = record {
     types = (ty 0 0 0 0 ∷ ty 1 0 0 0 ∷ ty 2 0 0 0 ∷ ty 3 0 0 0 ∷ ty 4 0 0 0 ∷ ty 4 1 0 0 ∷ ty 4 77 0 0 ∷ ty 5 0 0 0 ∷ ty 5 4 0 0
@@ -1029,7 +1029,7 @@ pub refused-9-12 : Answers program-refused-9-12 9 9 5 0 (65535 ∷ 65535 ∷ 655
 unfolding program-refused-9-12 computed isFile
 refused-9-12 = record { file = is-file widest program-refused-9-12 refl; answer = refl }
 
-pub program-refused-9-13 : Program
+unfoldable pub program-refused-9-13 : Program
 program-refused-9-13 = record {
   tables = record {
     types = (ty 0 0 0 0 ∷ ty 1 0 0 0 ∷ ty 2 0 0 0 ∷ ty 3 0 0 0 ∷ ty 4 0 0 0 ∷ ty 4 1 0 0 ∷ ty 4 2 0 0 ∷ ty 4 77 0 0 ∷ ty 5 0 0 0
@@ -1051,7 +1051,7 @@ pub refused-9-13 : Answers program-refused-9-13 9 10 9 0 (65535 ∷ 65535 ∷ 65
 unfolding program-refused-9-13 computed isFile
 refused-9-13 = record { file = is-file widest program-refused-9-13 refl; answer = refl }
 
-pub program-refused-10-1 : Program
+unfoldable pub program-refused-10-1 : Program
 program-refused-10-1 = record {
   tables = record {
     types = (ty 0 0 0 0 ∷ ty 1 0 0 0 ∷ ty 2 0 0 0 ∷ ty 3 0 0 0 ∷ ty 6 3 0 0 ∷ ty 6 0 0 0 ∷ ty 6 0 0 1 ∷ ty 6 3 1 2 ∷ ty 7 2 0 0
@@ -1073,7 +1073,7 @@ pub refused-10-1 : Answers program-refused-10-1 10 1 2 0 (65535 ∷ 65535 ∷ 65
 unfolding program-refused-10-1 computed isFile
 refused-10-1 = record { file = is-file widest program-refused-10-1 refl; answer = refl }
 
-pub program-refused-10-2 : Program
+unfoldable pub program-refused-10-2 : Program
 program-refused-10-2 = record {
   tables = record {
     types = (ty 0 0 0 0 ∷ ty 1 0 0 0 ∷ ty 2 0 0 0 ∷ ty 3 0 0 0 ∷ ty 4 1 0 0 ∷ ty 4 2 0 0 ∷ ty 4 3 0 0 ∷ ty 7 4 0 0 ∷ ty 7 5 0 0
@@ -1096,7 +1096,7 @@ pub refused-10-2 : Answers program-refused-10-2 10 1 2 0 (65535 ∷ 65535 ∷ 65
 unfolding program-refused-10-2 computed isFile
 refused-10-2 = record { file = is-file widest program-refused-10-2 refl; answer = refl }
 
-pub program-refused-10-3 : Program
+unfoldable pub program-refused-10-3 : Program
 program-refused-10-3 = record {
   tables = record {
     types = (ty 0 0 0 0 ∷ ty 1 0 0 0 ∷ ty 2 0 0 0 ∷ ty 3 0 0 0 ∷ ty 6 3 0 1 ∷ []);
@@ -1116,7 +1116,7 @@ pub refused-10-3 : Answers program-refused-10-3 10 1 3 0 (65535 ∷ 65535 ∷ 65
 unfolding program-refused-10-3 computed isFile
 refused-10-3 = record { file = is-file widest program-refused-10-3 refl; answer = refl }
 
-pub program-refused-10-4 : Program
+unfoldable pub program-refused-10-4 : Program
 program-refused-10-4 = record {
   tables = record {
     types = (ty 0 0 0 0 ∷ ty 1 0 0 0 ∷ ty 2 0 0 0 ∷ ty 3 0 0 0 ∷ ty 4 1 0 0 ∷ ty 4 2 0 0 ∷ ty 4 3 0 0 ∷ ty 7 4 0 0 ∷ ty 7 5 0 0
@@ -1138,7 +1138,7 @@ pub refused-10-4 : Answers program-refused-10-4 10 1 3 0 (65535 ∷ 65535 ∷ 65
 unfolding program-refused-10-4 computed isFile
 refused-10-4 = record { file = is-file widest program-refused-10-4 refl; answer = refl }
 
-pub program-refused-10-5 : Program
+unfoldable pub program-refused-10-5 : Program
 program-refused-10-5 = record {
   tables = record {
     types = (ty 0 0 0 0 ∷ ty 1 0 0 0 ∷ ty 2 0 0 0 ∷ ty 3 0 0 0 ∷ ty 4 1 0 0 ∷ ty 4 2 0 0 ∷ ty 4 3 0 0 ∷ ty 7 4 0 0 ∷ ty 7 5 0 0
@@ -1160,7 +1160,7 @@ pub refused-10-5 : Answers program-refused-10-5 10 1 3 0 (65535 ∷ 65535 ∷ 65
 unfolding program-refused-10-5 computed isFile
 refused-10-5 = record { file = is-file widest program-refused-10-5 refl; answer = refl }
 
-pub program-refused-10-6 : Program
+unfoldable pub program-refused-10-6 : Program
 program-refused-10-6 = record {
   tables = record {
     types = (ty 0 0 0 0 ∷ ty 1 0 0 0 ∷ ty 2 0 0 0 ∷ ty 3 0 0 0 ∷ ty 4 1 0 0 ∷ ty 4 2 0 0 ∷ ty 4 3 0 0 ∷ ty 7 4 0 0 ∷ ty 7 5 0 0
@@ -1182,7 +1182,7 @@ pub refused-10-6 : Answers program-refused-10-6 10 1 3 0 (65535 ∷ 65535 ∷ 65
 unfolding program-refused-10-6 computed isFile
 refused-10-6 = record { file = is-file widest program-refused-10-6 refl; answer = refl }
 
-pub program-refused-10-7 : Program
+unfoldable pub program-refused-10-7 : Program
 program-refused-10-7 = record {
   tables = record {
     types = (ty 0 0 0 0 ∷ ty 1 0 0 0 ∷ ty 2 0 0 0 ∷ ty 3 0 0 0 ∷ ty 4 1 0 0 ∷ ty 4 2 0 0 ∷ ty 4 3 0 0 ∷ ty 7 4 0 0 ∷ ty 7 5 0 0
@@ -1205,7 +1205,7 @@ pub refused-10-7 : Answers program-refused-10-7 10 1 3 0 (65535 ∷ 65535 ∷ 65
 unfolding program-refused-10-7 computed isFile
 refused-10-7 = record { file = is-file widest program-refused-10-7 refl; answer = refl }
 
-pub program-refused-10-8 : Program
+unfoldable pub program-refused-10-8 : Program
 program-refused-10-8 = record {
   tables = record {
     types = (ty 0 0 0 0 ∷ ty 1 0 0 0 ∷ ty 2 0 0 0 ∷ ty 3 0 0 0 ∷ ty 4 1 0 0 ∷ ty 4 2 0 0 ∷ ty 4 3 0 0 ∷ ty 7 4 0 0 ∷ ty 7 5 0 0
@@ -1228,7 +1228,7 @@ pub refused-10-8 : Answers program-refused-10-8 10 1 3 0 (65535 ∷ 65535 ∷ 65
 unfolding program-refused-10-8 computed isFile
 refused-10-8 = record { file = is-file widest program-refused-10-8 refl; answer = refl }
 
-pub program-refused-10-9 : Program
+unfoldable pub program-refused-10-9 : Program
 program-refused-10-9 = record {
   tables = record {
     types = (ty 0 0 0 0 ∷ ty 1 0 0 0 ∷ ty 2 0 0 0 ∷ ty 3 0 0 0 ∷ ty 4 1 0 0 ∷ ty 4 2 0 0 ∷ ty 4 3 0 0 ∷ ty 7 4 0 0 ∷ ty 7 5 0 0
@@ -1251,7 +1251,7 @@ pub refused-10-9 : Answers program-refused-10-9 10 1 3 0 (65535 ∷ 65535 ∷ 65
 unfolding program-refused-10-9 computed isFile
 refused-10-9 = record { file = is-file widest program-refused-10-9 refl; answer = refl }
 
-pub program-refused-10-10 : Program
+unfoldable pub program-refused-10-10 : Program
 program-refused-10-10 = record {
   tables = record {
     types = (ty 0 0 0 0 ∷ ty 1 0 0 0 ∷ ty 2 0 0 0 ∷ ty 3 0 0 0 ∷ ty 7 2 0 0 ∷ ty 6 3 0 1 ∷ ty 6 3 1 1 ∷ ty 6 3 2 2 ∷ []);
@@ -1272,7 +1272,7 @@ pub refused-10-10 : Answers program-refused-10-10 10 1 4 8 (65535 ∷ 65535 ∷ 
 unfolding program-refused-10-10 computed isFile
 refused-10-10 = record { file = is-file widest program-refused-10-10 refl; answer = refl }
 
-pub program-refused-10-11 : Program
+unfoldable pub program-refused-10-11 : Program
 program-refused-10-11 = record {
   tables = record {
     types = (ty 0 0 0 0 ∷ ty 1 0 0 0 ∷ ty 2 0 0 0 ∷ ty 3 0 0 0 ∷ ty 7 2 0 0 ∷ ty 6 3 0 1 ∷ ty 6 3 1 1 ∷ ty 6 3 2 2 ∷ []);
@@ -1292,7 +1292,7 @@ pub refused-10-11 : Answers program-refused-10-11 10 1 5 8 (65535 ∷ 65535 ∷ 
 unfolding program-refused-10-11 computed isFile
 refused-10-11 = record { file = is-file widest program-refused-10-11 refl; answer = refl }
 
-pub program-refused-10-12 : Program
+unfoldable pub program-refused-10-12 : Program
 program-refused-10-12 = record {
   tables = record {
     types = (ty 0 0 0 0 ∷ ty 1 0 0 0 ∷ ty 2 0 0 0 ∷ ty 3 0 0 0 ∷ ty 6 3 0 0 ∷ ty 6 0 0 0 ∷ ty 6 0 0 1 ∷ ty 6 3 1 2 ∷ ty 7 2 0 0
@@ -1314,7 +1314,7 @@ pub refused-10-12 : Answers program-refused-10-12 10 1 5 0 (65535 ∷ 65535 ∷ 
 unfolding program-refused-10-12 computed isFile
 refused-10-12 = record { file = is-file widest program-refused-10-12 refl; answer = refl }
 
-pub program-refused-10-13 : Program
+unfoldable pub program-refused-10-13 : Program
 program-refused-10-13 = record {
   tables = record {
     types = (ty 0 0 0 0 ∷ ty 1 0 0 0 ∷ ty 2 0 0 0 ∷ ty 3 0 0 0 ∷ ty 6 3 0 0 ∷ ty 6 0 0 0 ∷ ty 6 0 0 1 ∷ ty 6 3 1 2 ∷ ty 7 2 0 0
@@ -1336,7 +1336,7 @@ pub refused-10-13 : Answers program-refused-10-13 10 1 5 0 (65535 ∷ 65535 ∷ 
 unfolding program-refused-10-13 computed isFile
 refused-10-13 = record { file = is-file widest program-refused-10-13 refl; answer = refl }
 
-pub program-refused-10-14 : Program
+unfoldable pub program-refused-10-14 : Program
 program-refused-10-14 = record {
   tables = record {
     types = (ty 0 0 0 0 ∷ ty 1 0 0 0 ∷ ty 2 0 0 0 ∷ ty 3 0 0 0 ∷ ty 7 2 0 0 ∷ ty 6 3 0 1 ∷ ty 6 3 1 1 ∷ ty 6 3 2 2 ∷ []);
@@ -1356,7 +1356,7 @@ pub refused-10-14 : Answers program-refused-10-14 10 1 7 4 (65535 ∷ 65535 ∷ 
 unfolding program-refused-10-14 computed isFile
 refused-10-14 = record { file = is-file widest program-refused-10-14 refl; answer = refl }
 
-pub program-refused-10-15 : Program
+unfoldable pub program-refused-10-15 : Program
 program-refused-10-15 = record {
   tables = record {
     types = (ty 0 0 0 0 ∷ ty 1 0 0 0 ∷ ty 2 0 0 0 ∷ ty 3 0 0 0 ∷ ty 6 3 0 0 ∷ ty 6 0 0 0 ∷ ty 6 0 0 1 ∷ ty 6 3 1 2 ∷ ty 7 2 0 0
@@ -1378,7 +1378,7 @@ pub refused-10-15 : Answers program-refused-10-15 10 1 7 0 (65535 ∷ 65535 ∷ 
 unfolding program-refused-10-15 computed isFile
 refused-10-15 = record { file = is-file widest program-refused-10-15 refl; answer = refl }
 
-pub program-refused-10-16 : Program
+unfoldable pub program-refused-10-16 : Program
 program-refused-10-16 = record {
   tables = record {
     types = (ty 0 0 0 0 ∷ ty 1 0 0 0 ∷ ty 2 0 0 0 ∷ ty 3 0 0 0 ∷ ty 7 2 0 0 ∷ ty 6 3 0 1 ∷ ty 6 3 1 1 ∷ ty 6 3 2 2 ∷ []);
@@ -1398,7 +1398,7 @@ pub refused-10-16 : Answers program-refused-10-16 10 1 8 4 (65535 ∷ 65535 ∷ 
 unfolding program-refused-10-16 computed isFile
 refused-10-16 = record { file = is-file widest program-refused-10-16 refl; answer = refl }
 
-pub program-refused-10-17 : Program
+unfoldable pub program-refused-10-17 : Program
 program-refused-10-17 = record {
   tables = record {
     types = (ty 0 0 0 0 ∷ ty 1 0 0 0 ∷ ty 2 0 0 0 ∷ ty 3 0 0 0 ∷ ty 6 3 0 0 ∷ ty 6 0 0 0 ∷ ty 6 0 0 1 ∷ ty 6 3 1 2 ∷ ty 7 2 0 0
@@ -1422,7 +1422,7 @@ pub refused-10-17 : Answers program-refused-10-17 10 1 10 0 (65535 ∷ 65535 ∷
 unfolding program-refused-10-17 computed isFile
 refused-10-17 = record { file = is-file widest program-refused-10-17 refl; answer = refl }
 
-pub program-refused-10-18 : Program
+unfoldable pub program-refused-10-18 : Program
 program-refused-10-18 = record {
   tables = record {
     types = (ty 0 0 0 0 ∷ ty 1 0 0 0 ∷ ty 2 0 0 0 ∷ ty 3 0 0 0 ∷ ty 5 0 0 0 ∷ ty 5 4 0 0 ∷ ty 7 2 0 0 ∷ ty 6 3 0 1 ∷ ty 6 3 1 1
@@ -1445,7 +1445,7 @@ pub refused-10-18 : Answers program-refused-10-18 10 1 13 6 (65535 ∷ 65535 ∷
 unfolding program-refused-10-18 computed isFile
 refused-10-18 = record { file = is-file widest program-refused-10-18 refl; answer = refl }
 
-pub program-refused-10-19 : Program
+unfoldable pub program-refused-10-19 : Program
 program-refused-10-19 = record {
   tables = record {
     types = (ty 0 0 0 0 ∷ ty 1 0 0 0 ∷ ty 2 0 0 0 ∷ ty 3 0 0 0 ∷ ty 6 3 0 0 ∷ ty 6 3 0 1 ∷ ty 6 3 1 1 ∷ ty 6 3 2 1 ∷ ty 7 2 0 0
@@ -1482,7 +1482,7 @@ pub refused-10-19 : Answers program-refused-10-19 10 6 9 1 (65535 ∷ 65535 ∷ 
 unfolding program-refused-10-19 computed isFile
 refused-10-19 = record { file = is-file widest program-refused-10-19 refl; answer = refl }
 
-pub program-refused-10-20 : Program
+unfoldable pub program-refused-10-20 : Program
 program-refused-10-20 = record {
   tables = record {
     types = (ty 0 0 0 0 ∷ ty 1 0 0 0 ∷ ty 2 0 0 0 ∷ ty 3 0 0 0 ∷ ty 4 0 0 0 ∷ ty 4 1 0 0 ∷ ty 4 2 0 0 ∷ ty 4 3 0 0 ∷ ty 4 77 0 0
@@ -1528,7 +1528,7 @@ pub refused-10-20 : Answers program-refused-10-20 10 15 13 4 (65535 ∷ 65535 �
 unfolding program-refused-10-20 computed isFile
 refused-10-20 = record { file = is-file widest program-refused-10-20 refl; answer = refl }
 
-pub program-refused-10-21 : Program
+unfoldable pub program-refused-10-21 : Program
 program-refused-10-21 = record {
   tables = record {
     types = (ty 0 0 0 0 ∷ ty 1 0 0 0 ∷ ty 2 0 0 0 ∷ ty 3 0 0 0 ∷ ty 4 0 0 0 ∷ ty 4 1 0 0 ∷ ty 4 2 0 0 ∷ ty 4 3 0 0 ∷ ty 4 4 0 0
@@ -1572,7 +1572,7 @@ pub refused-10-21 : Answers program-refused-10-21 10 16 23 2 (65535 ∷ 65535 �
 unfolding program-refused-10-21 computed isFile
 refused-10-21 = record { file = is-file widest program-refused-10-21 refl; answer = refl }
 
-pub program-refused-11-1 : Program
+unfoldable pub program-refused-11-1 : Program
 program-refused-11-1 = record {
   tables = record {
     types = (ty 0 0 0 0 ∷ ty 1 0 0 0 ∷ ty 2 0 0 0 ∷ ty 3 0 0 0 ∷ ty 7 2 0 0 ∷ ty 6 4 0 1 ∷ []);
@@ -1590,7 +1590,7 @@ pub refused-11-1 : Answers program-refused-11-1 11 1 3 1 (65535 ∷ 65535 ∷ 65
 unfolding program-refused-11-1 computed isFile
 refused-11-1 = record { file = is-file widest program-refused-11-1 refl; answer = refl }
 
-pub program-refused-11-2 : Program
+unfoldable pub program-refused-11-2 : Program
 program-refused-11-2 = record {
   tables = record {
     types = (ty 0 0 0 0 ∷ ty 1 0 0 0 ∷ ty 2 0 0 0 ∷ ty 3 0 0 0 ∷ ty 5 0 0 0 ∷ ty 7 2 0 0 ∷ ty 6 3 0 1 ∷ []);
@@ -1610,7 +1610,7 @@ pub refused-11-2 : Answers program-refused-11-2 11 1 3 1 (65535 ∷ 65535 ∷ 65
 unfolding program-refused-11-2 computed isFile
 refused-11-2 = record { file = is-file widest program-refused-11-2 refl; answer = refl }
 
-pub program-refused-11-3 : Program
+unfoldable pub program-refused-11-3 : Program
 program-refused-11-3 = record {
   tables = record {
     types = (ty 0 0 0 0 ∷ ty 1 0 0 0 ∷ ty 2 0 0 0 ∷ ty 3 0 0 0 ∷ ty 7 2 0 0 ∷ ty 6 3 0 1 ∷ ty 6 3 1 1 ∷ ty 6 3 2 2 ∷ []);
@@ -1629,7 +1629,7 @@ pub refused-11-3 : Answers program-refused-11-3 11 1 4 2 (65535 ∷ 65535 ∷ 65
 unfolding program-refused-11-3 computed isFile
 refused-11-3 = record { file = is-file widest program-refused-11-3 refl; answer = refl }
 
-pub program-refused-11-4 : Program
+unfoldable pub program-refused-11-4 : Program
 program-refused-11-4 = record {
   tables = record {
     types = (ty 0 0 0 0 ∷ ty 1 0 0 0 ∷ ty 2 0 0 0 ∷ ty 3 0 0 0 ∷ ty 7 2 0 0 ∷ ty 6 1 0 2 ∷ []);
@@ -1648,7 +1648,7 @@ pub refused-11-4 : Answers program-refused-11-4 11 1 5 1 (65535 ∷ 65535 ∷ 65
 unfolding program-refused-11-4 computed isFile
 refused-11-4 = record { file = is-file widest program-refused-11-4 refl; answer = refl }
 
-pub program-refused-11-5 : Program
+unfoldable pub program-refused-11-5 : Program
 program-refused-11-5 = record {
   tables = record {
     types = (ty 0 0 0 0 ∷ ty 1 0 0 0 ∷ ty 2 0 0 0 ∷ ty 3 0 0 0 ∷ ty 5 1 0 0 ∷ ty 7 2 0 0 ∷ ty 6 3 0 1 ∷ ty 6 3 1 1 ∷ ty 6 3 2 2
@@ -1669,7 +1669,7 @@ pub refused-11-5 : Answers program-refused-11-5 11 1 5 1 (65535 ∷ 65535 ∷ 65
 unfolding program-refused-11-5 computed isFile
 refused-11-5 = record { file = is-file widest program-refused-11-5 refl; answer = refl }
 
-pub program-refused-11-6 : Program
+unfoldable pub program-refused-11-6 : Program
 program-refused-11-6 = record {
   tables = record {
     types = (ty 0 0 0 0 ∷ ty 1 0 0 0 ∷ ty 2 0 0 0 ∷ ty 3 0 0 0 ∷ ty 7 2 0 0 ∷ ty 6 3 0 1 ∷ ty 5 5 0 0 ∷ ty 6 3 1 1 ∷ ty 5 7 0 0
@@ -1690,7 +1690,7 @@ pub refused-11-6 : Answers program-refused-11-6 11 1 5 6 (65535 ∷ 65535 ∷ 65
 unfolding program-refused-11-6 computed isFile
 refused-11-6 = record { file = is-file widest program-refused-11-6 refl; answer = refl }
 
-pub program-refused-11-7 : Program
+unfoldable pub program-refused-11-7 : Program
 program-refused-11-7 = record {
   tables = record {
     types = (ty 0 0 0 0 ∷ ty 1 0 0 0 ∷ ty 2 0 0 0 ∷ ty 3 0 0 0 ∷ ty 7 2 0 0 ∷ ty 6 3 0 1 ∷ ty 6 3 1 1 ∷ ty 6 3 2 2 ∷ ty 6 3 4 3
@@ -1711,7 +1711,7 @@ pub refused-11-7 : Answers program-refused-11-7 11 1 5 1 (65535 ∷ 65535 ∷ 65
 unfolding program-refused-11-7 computed isFile
 refused-11-7 = record { file = is-file widest program-refused-11-7 refl; answer = refl }
 
-pub program-refused-11-8 : Program
+unfoldable pub program-refused-11-8 : Program
 program-refused-11-8 = record {
   tables = record {
     types = (ty 0 0 0 0 ∷ ty 1 0 0 0 ∷ ty 2 0 0 0 ∷ ty 3 0 0 0 ∷ ty 7 2 0 0 ∷ ty 6 3 0 1 ∷ ty 6 3 1 1 ∷ ty 6 0 2 2 ∷ ty 6 3 4 3
@@ -1732,7 +1732,7 @@ pub refused-11-8 : Answers program-refused-11-8 11 1 6 1 (65535 ∷ 65535 ∷ 65
 unfolding program-refused-11-8 computed isFile
 refused-11-8 = record { file = is-file widest program-refused-11-8 refl; answer = refl }
 
-pub program-refused-11-9 : Program
+unfoldable pub program-refused-11-9 : Program
 program-refused-11-9 = record {
   tables = record {
     types = (ty 0 0 0 0 ∷ ty 1 0 0 0 ∷ ty 2 0 0 0 ∷ ty 3 0 0 0 ∷ ty 5 0 0 0 ∷ ty 7 2 0 0 ∷ ty 6 3 0 1 ∷ ty 6 3 1 1 ∷ ty 6 3 2 2
@@ -1758,7 +1758,7 @@ pub refused-11-9 : Answers program-refused-11-9 11 2 1 2 (65535 ∷ 65535 ∷ 65
 unfolding program-refused-11-9 computed isFile
 refused-11-9 = record { file = is-file widest program-refused-11-9 refl; answer = refl }
 
-pub program-refused-11-10 : Program
+unfoldable pub program-refused-11-10 : Program
 program-refused-11-10 = record {
   tables = record {
     types = (ty 0 0 0 0 ∷ ty 1 0 0 0 ∷ ty 2 0 0 0 ∷ ty 3 0 0 0 ∷ ty 4 81 0 0 ∷ ty 5 0 0 0 ∷ ty 4 68 0 0 ∷ []);
@@ -1778,7 +1778,7 @@ pub refused-11-10 : Answers program-refused-11-10 11 2 7 5 (65535 ∷ 65535 ∷ 
 unfolding program-refused-11-10 computed isFile
 refused-11-10 = record { file = is-file widest program-refused-11-10 refl; answer = refl }
 
-pub program-refused-11-11 : Program
+unfoldable pub program-refused-11-11 : Program
 program-refused-11-11 = record {
   tables = record {
     types = (ty 0 0 0 0 ∷ ty 1 0 0 0 ∷ ty 2 0 0 0 ∷ ty 3 0 0 0 ∷ ty 6 3 0 1 ∷ ty 4 68 0 0 ∷ ty 7 2 0 0 ∷ ty 6 3 1 1 ∷ ty 6 3 2 2
@@ -1799,7 +1799,7 @@ pub refused-11-11 : Answers program-refused-11-11 11 3 5 1 (65535 ∷ 65535 ∷ 
 unfolding program-refused-11-11 computed isFile
 refused-11-11 = record { file = is-file widest program-refused-11-11 refl; answer = refl }
 
-pub program-refused-12-1 : Program
+unfoldable pub program-refused-12-1 : Program
 program-refused-12-1 = record {
   tables = record {
     types = (ty 0 0 0 0 ∷ ty 1 0 0 0 ∷ ty 2 0 0 0 ∷ ty 3 0 0 0 ∷ ty 7 2 0 0 ∷ ty 6 3 0 1 ∷ ty 6 3 1 1 ∷ ty 6 3 2 2 ∷ ty 6 3 4 3
@@ -1820,7 +1820,7 @@ pub refused-12-1 : Answers program-refused-12-1 12 1 5 0 (65535 ∷ 65535 ∷ 65
 unfolding program-refused-12-1 computed isFile
 refused-12-1 = record { file = is-file widest program-refused-12-1 refl; answer = refl }
 
-pub program-refused-12-2 : Program
+unfoldable pub program-refused-12-2 : Program
 program-refused-12-2 = record {
   tables = record {
     types = (ty 0 0 0 0 ∷ ty 1 0 0 0 ∷ ty 2 0 0 0 ∷ ty 3 0 0 0 ∷ ty 7 2 0 0 ∷ ty 6 3 0 1 ∷ ty 6 3 1 1 ∷ ty 6 0 2 2 ∷ ty 6 3 4 3
@@ -1841,7 +1841,7 @@ pub refused-12-2 : Answers program-refused-12-2 12 1 6 0 (65535 ∷ 65535 ∷ 65
 unfolding program-refused-12-2 computed isFile
 refused-12-2 = record { file = is-file widest program-refused-12-2 refl; answer = refl }
 
-pub program-refused-12-3 : Program
+unfoldable pub program-refused-12-3 : Program
 program-refused-12-3 = record {
   tables = record {
     types = (ty 0 0 0 0 ∷ ty 1 0 0 0 ∷ ty 2 0 0 0 ∷ ty 3 0 0 0 ∷ ty 7 2 0 0 ∷ ty 6 3 0 1 ∷ ty 6 3 1 1 ∷ ty 6 3 2 2 ∷ []);
@@ -1861,7 +1861,7 @@ pub refused-12-3 : Answers program-refused-12-3 12 1 7 4 (65535 ∷ 65535 ∷ 65
 unfolding program-refused-12-3 computed isFile
 refused-12-3 = record { file = is-file widest program-refused-12-3 refl; answer = refl }
 
-pub program-refused-12-4 : Program
+unfoldable pub program-refused-12-4 : Program
 program-refused-12-4 = record {
   tables = record {
     types = (ty 0 0 0 0 ∷ ty 1 0 0 0 ∷ ty 2 0 0 0 ∷ ty 3 0 0 0 ∷ ty 4 0 0 0 ∷ ty 7 4 0 0 ∷ ty 6 3 0 0 ∷ ty 6 3 0 1 ∷ ty 6 3 1 2
@@ -1883,7 +1883,7 @@ pub refused-12-4 : Answers program-refused-12-4 12 2 1 0 (65535 ∷ 65535 ∷ 65
 unfolding program-refused-12-4 computed isFile
 refused-12-4 = record { file = is-file widest program-refused-12-4 refl; answer = refl }
 
-pub program-refused-12-5 : Program
+unfoldable pub program-refused-12-5 : Program
 program-refused-12-5 = record {
   tables = record {
     types = (ty 0 0 0 0 ∷ ty 1 0 0 0 ∷ ty 2 0 0 0 ∷ ty 3 0 0 0 ∷ ty 5 0 0 0 ∷ ty 4 68 0 0 ∷ []);
@@ -1905,7 +1905,7 @@ pub refused-12-5 : Answers program-refused-12-5 12 2 7 4 (65535 ∷ 65535 ∷ 65
 unfolding program-refused-12-5 computed isFile
 refused-12-5 = record { file = is-file widest program-refused-12-5 refl; answer = refl }
 
-pub program-refused-12-6 : Program
+unfoldable pub program-refused-12-6 : Program
 program-refused-12-6 = record {
   tables = record {
     types = (ty 0 0 0 0 ∷ ty 1 0 0 0 ∷ ty 2 0 0 0 ∷ ty 3 0 0 0 ∷ ty 6 3 0 1 ∷ ty 4 68 0 0 ∷ ty 7 2 0 0 ∷ ty 6 3 1 1 ∷ ty 6 3 2 2
@@ -1926,7 +1926,7 @@ pub refused-12-6 : Answers program-refused-12-6 12 3 5 0 (65535 ∷ 65535 ∷ 65
 unfolding program-refused-12-6 computed isFile
 refused-12-6 = record { file = is-file widest program-refused-12-6 refl; answer = refl }
 
-pub program-refused-12-7 : Program
+unfoldable pub program-refused-12-7 : Program
 program-refused-12-7 = record {
   tables = record {
     types = (ty 0 0 0 0 ∷ ty 1 0 0 0 ∷ ty 2 0 0 0 ∷ ty 3 0 0 0 ∷ ty 6 3 0 1 ∷ ty 4 68 0 0 ∷ ty 6 0 1 1 ∷ ty 5 6 0 0 ∷ ty 7 2 0 0
@@ -1950,7 +1950,7 @@ pub refused-12-7 : Answers program-refused-12-7 12 3 12 4 (65535 ∷ 65535 ∷ 6
 unfolding program-refused-12-7 computed isFile
 refused-12-7 = record { file = is-file widest program-refused-12-7 refl; answer = refl }
 
-pub program-refused-12-8 : Program
+unfoldable pub program-refused-12-8 : Program
 program-refused-12-8 = record {
   tables = record {
     types = (ty 0 0 0 0 ∷ ty 1 0 0 0 ∷ ty 2 0 0 0 ∷ ty 3 0 0 0 ∷ ty 4 0 0 0 ∷ ty 4 1 0 0 ∷ ty 7 4 0 0 ∷ ty 7 5 0 0 ∷ ty 6 3 0 0
@@ -1976,7 +1976,7 @@ pub refused-12-8 : Answers program-refused-12-8 12 6 11 3 (65535 ∷ 65535 ∷ 6
 unfolding program-refused-12-8 computed isFile
 refused-12-8 = record { file = is-file widest program-refused-12-8 refl; answer = refl }
 
-pub program-refused-13-1 : Program
+unfoldable pub program-refused-13-1 : Program
 program-refused-13-1 = record {
   tables = record {
     types = (ty 0 0 0 0 ∷ ty 1 0 0 0 ∷ ty 2 0 0 0 ∷ ty 3 0 0 0 ∷ ty 4 1 0 0 ∷ ty 4 2 0 0 ∷ ty 4 3 0 0 ∷ ty 7 4 0 0 ∷ ty 7 5 0 0
@@ -1997,7 +1997,7 @@ pub refused-13-1 : Answers program-refused-13-1 13 1 2 0 (65535 ∷ 65535 ∷ 65
 unfolding program-refused-13-1 computed isFile
 refused-13-1 = record { file = is-file widest program-refused-13-1 refl; answer = refl }
 
-pub program-refused-13-2 : Program
+unfoldable pub program-refused-13-2 : Program
 program-refused-13-2 = record {
   tables = record {
     types = (ty 0 0 0 0 ∷ ty 1 0 0 0 ∷ ty 2 0 0 0 ∷ ty 3 0 0 0 ∷ ty 7 2 0 0 ∷ ty 6 3 0 1 ∷ ty 6 3 1 1 ∷ ty 6 3 2 2 ∷ []);
@@ -2017,7 +2017,7 @@ pub refused-13-2 : Answers program-refused-13-2 13 1 4 0 (65535 ∷ 65535 ∷ 65
 unfolding program-refused-13-2 computed isFile
 refused-13-2 = record { file = is-file widest program-refused-13-2 refl; answer = refl }
 
-pub program-refused-13-3 : Program
+unfoldable pub program-refused-13-3 : Program
 program-refused-13-3 = record {
   tables = record {
     types = (ty 0 0 0 0 ∷ ty 1 0 0 0 ∷ ty 2 0 0 0 ∷ ty 3 0 0 0 ∷ ty 7 2 0 0 ∷ ty 6 3 0 1 ∷ ty 6 3 1 1 ∷ ty 6 0 2 2 ∷ ty 6 3 4 3
@@ -2038,7 +2038,7 @@ pub refused-13-3 : Answers program-refused-13-3 13 1 5 0 (65535 ∷ 65535 ∷ 65
 unfolding program-refused-13-3 computed isFile
 refused-13-3 = record { file = is-file widest program-refused-13-3 refl; answer = refl }
 
-pub program-refused-13-4 : Program
+unfoldable pub program-refused-13-4 : Program
 program-refused-13-4 = record {
   tables = record {
     types = (ty 0 0 0 0 ∷ ty 1 0 0 0 ∷ ty 2 0 0 0 ∷ ty 3 0 0 0 ∷ ty 7 2 0 0 ∷ ty 6 3 0 1 ∷ ty 6 3 1 1 ∷ ty 6 3 2 2 ∷ ty 6 3 4 3
@@ -2059,7 +2059,7 @@ pub refused-13-4 : Answers program-refused-13-4 13 1 6 0 (65535 ∷ 65535 ∷ 65
 unfolding program-refused-13-4 computed isFile
 refused-13-4 = record { file = is-file widest program-refused-13-4 refl; answer = refl }
 
-pub program-refused-13-5 : Program
+unfoldable pub program-refused-13-5 : Program
 program-refused-13-5 = record {
   tables = record {
     types = (ty 0 0 0 0 ∷ ty 1 0 0 0 ∷ ty 2 0 0 0 ∷ ty 3 0 0 0 ∷ ty 7 2 0 0 ∷ ty 6 3 0 1 ∷ ty 6 3 1 1 ∷ ty 6 3 2 2 ∷ []);
@@ -2079,7 +2079,7 @@ pub refused-13-5 : Answers program-refused-13-5 13 1 7 4 (65535 ∷ 65535 ∷ 65
 unfolding program-refused-13-5 computed isFile
 refused-13-5 = record { file = is-file widest program-refused-13-5 refl; answer = refl }
 
-pub program-refused-13-6 : Program
+unfoldable pub program-refused-13-6 : Program
 program-refused-13-6 = record {
   tables = record {
     types = (ty 0 0 0 0 ∷ ty 1 0 0 0 ∷ ty 2 0 0 0 ∷ ty 3 0 0 0 ∷ ty 7 2 0 0 ∷ ty 6 3 0 1 ∷ ty 6 3 1 1 ∷ ty 6 3 2 2 ∷ []);
@@ -2099,7 +2099,7 @@ pub refused-13-6 : Answers program-refused-13-6 13 1 8 4 (65535 ∷ 65535 ∷ 65
 unfolding program-refused-13-6 computed isFile
 refused-13-6 = record { file = is-file widest program-refused-13-6 refl; answer = refl }
 
-pub program-refused-13-7 : Program
+unfoldable pub program-refused-13-7 : Program
 program-refused-13-7 = record {
   tables = record {
     types = (ty 0 0 0 0 ∷ ty 1 0 0 0 ∷ ty 2 0 0 0 ∷ ty 3 0 0 0 ∷ ty 6 3 0 0 ∷ ty 6 3 0 1 ∷ ty 6 3 1 1 ∷ ty 6 3 2 1 ∷ ty 7 2 0 0
@@ -2135,7 +2135,7 @@ pub refused-13-7 : Answers program-refused-13-7 13 6 10 1 (65535 ∷ 65535 ∷ 6
 unfolding program-refused-13-7 computed isFile
 refused-13-7 = record { file = is-file widest program-refused-13-7 refl; answer = refl }
 
-pub program-refused-13-8 : Program
+unfoldable pub program-refused-13-8 : Program
 program-refused-13-8 = record {
   tables = record {
     types = (ty 0 0 0 0 ∷ ty 1 0 0 0 ∷ ty 2 0 0 0 ∷ ty 3 0 0 0 ∷ ty 4 0 0 0 ∷ ty 4 1 0 0 ∷ ty 4 2 0 0 ∷ ty 4 3 0 0 ∷ ty 4 77 0 0
@@ -2175,7 +2175,7 @@ pub refused-13-8 : Answers program-refused-13-8 13 20 40 27 (65535 ∷ 65535 ∷
 unfolding program-refused-13-8 computed isFile
 refused-13-8 = record { file = is-file widest program-refused-13-8 refl; answer = refl }
 
-pub program-refused-14-1 : Program
+unfoldable pub program-refused-14-1 : Program
 program-refused-14-1 = record {
   tables = record {
     types = (ty 0 0 0 0 ∷ ty 1 0 0 0 ∷ ty 2 0 0 0 ∷ ty 3 0 0 0 ∷ ty 7 2 0 0 ∷ ty 6 3 0 1 ∷ ty 6 3 1 1 ∷ ty 6 3 2 2 ∷ []);
@@ -2193,7 +2193,7 @@ pub refused-14-1 : Answers program-refused-14-1 14 1 0 4 (65535 ∷ 65535 ∷ 65
 unfolding program-refused-14-1 computed isFile
 refused-14-1 = record { file = is-file widest program-refused-14-1 refl; answer = refl }
 
-pub program-refused-14-2 : Program
+unfoldable pub program-refused-14-2 : Program
 program-refused-14-2 = record {
   tables = record {
     types = (ty 0 0 0 0 ∷ ty 1 0 0 0 ∷ ty 2 0 0 0 ∷ ty 3 0 0 0 ∷ ty 4 1 0 0 ∷ ty 4 2 0 0 ∷ ty 4 3 0 0 ∷ ty 7 4 0 0 ∷ ty 7 5 0 0
@@ -2216,7 +2216,7 @@ pub refused-14-2 : Answers program-refused-14-2 14 1 0 0 (65535 ∷ 65535 ∷ 65
 unfolding program-refused-14-2 computed isFile
 refused-14-2 = record { file = is-file widest program-refused-14-2 refl; answer = refl }
 
-pub program-refused-14-3 : Program
+unfoldable pub program-refused-14-3 : Program
 program-refused-14-3 = record {
   tables = record {
     types = (ty 0 0 0 0 ∷ ty 1 0 0 0 ∷ ty 2 0 0 0 ∷ ty 3 0 0 0 ∷ ty 4 1 0 0 ∷ ty 4 2 0 0 ∷ ty 4 3 0 0 ∷ ty 7 4 0 0 ∷ ty 7 5 0 0
@@ -2240,7 +2240,7 @@ pub refused-14-3 : Answers program-refused-14-3 14 1 2 1 (65535 ∷ 65535 ∷ 65
 unfolding program-refused-14-3 computed isFile
 refused-14-3 = record { file = is-file widest program-refused-14-3 refl; answer = refl }
 
-pub program-refused-14-4 : Program
+unfoldable pub program-refused-14-4 : Program
 program-refused-14-4 = record {
   tables = record {
     types = (ty 0 0 0 0 ∷ ty 1 0 0 0 ∷ ty 2 0 0 0 ∷ ty 3 0 0 0 ∷ ty 6 3 0 0 ∷ ty 6 0 0 0 ∷ ty 6 0 0 1 ∷ ty 6 3 1 2 ∷ ty 7 2 0 0
@@ -2265,7 +2265,7 @@ pub refused-14-4 : Answers program-refused-14-4 14 1 4 0 (65535 ∷ 65535 ∷ 65
 unfolding program-refused-14-4 computed isFile
 refused-14-4 = record { file = is-file widest program-refused-14-4 refl; answer = refl }
 
-pub program-refused-14-5 : Program
+unfoldable pub program-refused-14-5 : Program
 program-refused-14-5 = record {
   tables = record {
     types = (ty 0 0 0 0 ∷ ty 1 0 0 0 ∷ ty 2 0 0 0 ∷ ty 3 0 0 0 ∷ ty 7 2 0 0 ∷ ty 6 3 0 1 ∷ ty 6 3 1 1 ∷ ty 6 3 2 2 ∷ []);
@@ -2285,7 +2285,7 @@ pub refused-14-5 : Answers program-refused-14-5 14 1 6 0 (65535 ∷ 65535 ∷ 65
 unfolding program-refused-14-5 computed isFile
 refused-14-5 = record { file = is-file widest program-refused-14-5 refl; answer = refl }
 
-pub program-refused-14-6 : Program
+unfoldable pub program-refused-14-6 : Program
 program-refused-14-6 = record {
   tables = record {
     types = (ty 0 0 0 0 ∷ ty 1 0 0 0 ∷ ty 2 0 0 0 ∷ ty 3 0 0 0 ∷ ty 7 2 0 0 ∷ ty 6 3 0 1 ∷ ty 6 3 1 1 ∷ ty 6 3 2 2 ∷ []);
@@ -2305,7 +2305,7 @@ pub refused-14-6 : Answers program-refused-14-6 14 1 7 4 (65535 ∷ 65535 ∷ 65
 unfolding program-refused-14-6 computed isFile
 refused-14-6 = record { file = is-file widest program-refused-14-6 refl; answer = refl }
 
-pub program-refused-14-7 : Program
+unfoldable pub program-refused-14-7 : Program
 program-refused-14-7 = record {
   tables = record {
     types = (ty 0 0 0 0 ∷ ty 1 0 0 0 ∷ ty 2 0 0 0 ∷ ty 3 0 0 0 ∷ ty 6 3 0 0 ∷ ty 6 3 0 1 ∷ ty 6 0 1 0 ∷ ty 6 0 1 1 ∷ ty 7 2 0 0
@@ -2324,7 +2324,7 @@ pub refused-14-7 : Answers program-refused-14-7 14 4 4 0 (65535 ∷ 65535 ∷ 65
 unfolding program-refused-14-7 computed isFile
 refused-14-7 = record { file = is-file widest program-refused-14-7 refl; answer = refl }
 
-pub program-refused-14-8 : Program
+unfoldable pub program-refused-14-8 : Program
 program-refused-14-8 = record {
   tables = record {
     types = (ty 0 0 0 0 ∷ ty 1 0 0 0 ∷ ty 2 0 0 0 ∷ ty 3 0 0 0 ∷ ty 6 3 0 0 ∷ ty 6 3 0 1 ∷ ty 6 0 1 0 ∷ ty 6 0 1 1 ∷ ty 7 2 0 0
@@ -2349,7 +2349,7 @@ pub refused-14-8 : Answers program-refused-14-8 14 4 4 2 (65535 ∷ 65535 ∷ 65
 unfolding program-refused-14-8 computed isFile
 refused-14-8 = record { file = is-file widest program-refused-14-8 refl; answer = refl }
 
-pub program-refused-14-9 : Program
+unfoldable pub program-refused-14-9 : Program
 program-refused-14-9 = record {
   tables = record {
     types = (ty 0 0 0 0 ∷ ty 1 0 0 0 ∷ ty 2 0 0 0 ∷ ty 3 0 0 0 ∷ ty 6 3 0 0 ∷ ty 6 3 0 1 ∷ ty 6 0 1 0 ∷ ty 6 0 1 1 ∷ ty 7 2 0 0
@@ -2387,7 +2387,7 @@ pub refused-14-9 : Answers program-refused-14-9 14 4 6 1 (65535 ∷ 65535 ∷ 65
 unfolding program-refused-14-9 computed isFile
 refused-14-9 = record { file = is-file widest program-refused-14-9 refl; answer = refl }
 
-pub program-refused-14-10 : Program
+unfoldable pub program-refused-14-10 : Program
 program-refused-14-10 = record {
   tables = record {
     types = (ty 0 0 0 0 ∷ ty 1 0 0 0 ∷ ty 2 0 0 0 ∷ ty 3 0 0 0 ∷ ty 6 3 0 0 ∷ ty 6 3 0 1 ∷ ty 6 0 1 0 ∷ ty 6 0 1 1 ∷ ty 7 2 0 0
@@ -2416,7 +2416,7 @@ pub refused-14-10 : Answers program-refused-14-10 14 4 9 0 (65535 ∷ 65535 ∷ 
 unfolding program-refused-14-10 computed isFile
 refused-14-10 = record { file = is-file widest program-refused-14-10 refl; answer = refl }
 
-pub program-refused-14-11 : Program
+unfoldable pub program-refused-14-11 : Program
 program-refused-14-11 = record {
   tables = record {
     types = (ty 0 0 0 0 ∷ ty 1 0 0 0 ∷ ty 2 0 0 0 ∷ ty 3 0 0 0 ∷ ty 6 3 0 0 ∷ ty 6 3 0 1 ∷ ty 6 0 1 0 ∷ ty 6 0 1 1 ∷ ty 7 2 0 0
@@ -2443,7 +2443,7 @@ pub refused-14-11 : Answers program-refused-14-11 14 4 12 1 (65535 ∷ 65535 ∷
 unfolding program-refused-14-11 computed isFile
 refused-14-11 = record { file = is-file widest program-refused-14-11 refl; answer = refl }
 
-pub program-refused-14-12 : Program
+unfoldable pub program-refused-14-12 : Program
 program-refused-14-12 = record {
   tables = record {
     types = (ty 0 0 0 0 ∷ ty 1 0 0 0 ∷ ty 2 0 0 0 ∷ ty 3 0 0 0 ∷ ty 6 3 0 0 ∷ ty 6 3 0 1 ∷ ty 6 0 1 0 ∷ ty 6 0 1 1 ∷ ty 7 2 0 0
@@ -2469,7 +2469,7 @@ pub refused-14-12 : Answers program-refused-14-12 14 4 15 0 (65535 ∷ 65535 ∷
 unfolding program-refused-14-12 computed isFile
 refused-14-12 = record { file = is-file widest program-refused-14-12 refl; answer = refl }
 
-pub program-refused-14-13 : Program
+unfoldable pub program-refused-14-13 : Program
 program-refused-14-13 = record {
   tables = record {
     types = (ty 0 0 0 0 ∷ ty 1 0 0 0 ∷ ty 2 0 0 0 ∷ ty 3 0 0 0 ∷ ty 6 3 0 0 ∷ ty 6 3 0 1 ∷ ty 6 0 1 0 ∷ ty 6 0 1 1 ∷ ty 7 2 0 0
@@ -2494,7 +2494,7 @@ pub refused-14-13 : Answers program-refused-14-13 14 5 9 2 (65535 ∷ 65535 ∷ 
 unfolding program-refused-14-13 computed isFile
 refused-14-13 = record { file = is-file widest program-refused-14-13 refl; answer = refl }
 
-pub program-refused-14-14 : Program
+unfoldable pub program-refused-14-14 : Program
 program-refused-14-14 = record {
   tables = record {
     types = (ty 0 0 0 0 ∷ ty 1 0 0 0 ∷ ty 2 0 0 0 ∷ ty 3 0 0 0 ∷ ty 4 0 0 0 ∷ ty 4 1 0 0 ∷ ty 4 77 0 0 ∷ ty 5 0 0 0 ∷ ty 5 4 0 0
@@ -2530,7 +2530,7 @@ pub refused-14-14 : Answers program-refused-14-14 14 12 24 32 (65535 ∷ 65535 �
 unfolding program-refused-14-14 computed isFile
 refused-14-14 = record { file = is-file widest program-refused-14-14 refl; answer = refl }
 
-pub program-refused-15-1 : Program
+unfoldable pub program-refused-15-1 : Program
 program-refused-15-1 = record {
   tables = record {
     types = (ty 0 0 0 0 ∷ ty 1 0 0 0 ∷ ty 2 0 0 0 ∷ ty 3 0 0 0 ∷ ty 7 2 0 0 ∷ ty 6 3 0 1 ∷ ty 6 3 1 1 ∷ ty 6 3 2 2 ∷ []);
@@ -2550,7 +2550,7 @@ pub refused-15-1 : Answers program-refused-15-1 15 1 4 0 (65535 ∷ 65535 ∷ 65
 unfolding program-refused-15-1 computed isFile
 refused-15-1 = record { file = is-file widest program-refused-15-1 refl; answer = refl }
 
-pub program-refused-15-2 : Program
+unfoldable pub program-refused-15-2 : Program
 program-refused-15-2 = record {
   tables = record {
     types = (ty 0 0 0 0 ∷ ty 1 0 0 0 ∷ ty 2 0 0 0 ∷ ty 3 0 0 0 ∷ ty 7 2 0 0 ∷ ty 6 3 0 1 ∷ ty 6 3 1 1 ∷ ty 6 3 2 2 ∷ []);
@@ -2570,7 +2570,7 @@ pub refused-15-2 : Answers program-refused-15-2 15 1 7 4 (65535 ∷ 65535 ∷ 65
 unfolding program-refused-15-2 computed isFile
 refused-15-2 = record { file = is-file widest program-refused-15-2 refl; answer = refl }
 
-pub program-refused-16-1 : Program
+unfoldable pub program-refused-16-1 : Program
 program-refused-16-1 = record {
   tables = record {
     types = (ty 0 0 0 0 ∷ ty 1 0 0 0 ∷ ty 2 0 0 0 ∷ ty 3 0 0 0 ∷ ty 4 1 0 0 ∷ ty 4 2 0 0 ∷ ty 4 3 0 0 ∷ ty 7 4 0 0 ∷ ty 7 5 0 0
@@ -2593,7 +2593,7 @@ pub refused-16-1 : Answers program-refused-16-1 16 1 3 0 (65535 ∷ 65535 ∷ 65
 unfolding program-refused-16-1 computed isFile
 refused-16-1 = record { file = is-file widest program-refused-16-1 refl; answer = refl }
 
-pub program-refused-16-2 : Program
+unfoldable pub program-refused-16-2 : Program
 program-refused-16-2 = record {
   tables = record {
     types = (ty 0 0 0 0 ∷ ty 1 0 0 0 ∷ ty 2 0 0 0 ∷ ty 3 0 0 0 ∷ ty 5 2 0 0 ∷ ty 7 2 0 0 ∷ ty 6 3 0 1 ∷ ty 6 3 1 1 ∷ ty 6 3 2 2

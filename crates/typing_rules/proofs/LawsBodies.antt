@@ -22,6 +22,13 @@ rule-of : {T : Tables} {D : Labels Ty} {C E : Context Ty} {s : Step} {ss : List 
 rule-of (next-step r rs) in-first = (_, r)
 rule-of (next-step r rs) (in-later i) = rule-of rs i
 
+-- every step has its rule; so have those of a file
+abbrev pub StepsRuled : Tables → Labels Ty → List Step → Type 0
+StepsRuled T D ss = (s : Step) → In s ss → (B : Context Ty) × StepRule T B D s
+
+pub step-rule : (p : Program) (D : Labels Ty) (C : Context Ty) → DerivesFile p D C → StepsRuled (p .tables) D (stepsOf p)
+step-rule p D C d s i = rule-of (subst (λ ss. StepsRule (p .tables) D emptyContext ss C) (take-length (stepsOf p)) (d .rules)) i
+
 pub record OfBody (T : Tables) (D : Labels Ty) (m : ℕ) (u : Node) : Type 0 where
   pub node : ℕ
   pub type : ℕ
@@ -31,8 +38,7 @@ pub record OfBody (T : Tables) (D : Labels Ty) (m : ℕ) (u : Node) : Type 0 whe
   pub rule : StepRule T context D (body node type parameters block)
   pub stands : AtBlock block (node + 1 + length parameters) m u
 
-of-bodies : {T : Tables} {D : Labels Ty} (ds : List Decl) (n m : ℕ) {u : Node} → ((s : Step) → In s (bodies n ds) → (B : Context Ty) × StepRule T B D s)
-    → InBodies n ds m u → OfBody T D m u
+of-bodies : {T : Tables} {D : Labels Ty} (ds : List Decl) (n m : ℕ) {u : Node} → StepsRuled T D (bodies n ds) → InBodies n ds m u → OfBody T D m u
 unfolding bodies
 of-bodies (function x t ps b ∷ ds) n m f (in-body w) =
     let (B, r) = f (body n t ps b) in-first in
@@ -41,6 +47,4 @@ of-bodies (function x t ps b ∷ ds) n m f (in-others w) = of-bodies ds (n + siz
 of-bodies (global x a ∷ ds) n m f (in-others w) = of-bodies ds (n + sizeDecl (global x a)) m f w
 
 pub of-body : (p : Program) (D : Labels Ty) (C : Context Ty) (m : ℕ) {u : Node} → DerivesFile p D C → InBodies 0 (p .declarations) m u → OfBody (p .tables) D m u
-of-body p D C m d w =
-    let rules = subst (λ ss. StepsRule (p .tables) D emptyContext ss C) (take-length (stepsOf p)) (d .rules) in
-    of-bodies (p .declarations) 0 m (λ s i. rule-of rules (body-in p s i)) w
+of-body p D C m d w = of-bodies (p .declarations) 0 m (λ s i. step-rule p D C d s (body-in p s i)) w

@@ -23,7 +23,7 @@ target-size (fieldTarget x a) = omega arith
 
 -- expressions
 mutual
-  expr-holds : (e : Expr) {n m : ℕ} {u : Expr} → At e n m u → (n ≤ m) × (m < n + size e)
+  pub expr-holds : (e : Expr) {n m : ℕ} {u : Expr} → At e n m u → (n ≤ m) × (m < n + size e)
   expr-holds (null t) here = (omega arith, omega arith)
   expr-holds (literal l) here = (omega arith, omega arith)
   expr-holds (name x) here = (omega arith, omega arith)

@@ -1,4 +1,5 @@
--- The row of a node of a function's body, in the rows of a derivation: its result and its binder are those of the node's label. Assumes nothing.
+-- The row of a node of a global or of a function's body, in the rows of a derivation: its result and its binder are those of the node's label.
+-- Assumes nothing.
 use mathlib.Core.Path.{_≡_, ap, sym, subst, _∙_}
 use mathlib.Core.List.{List, _∷_, _++_, append-assoc}
 use Prim.Native.Nat.{ℕ, zero, suc, _+_, _*_, _-_, _≤_, _<_}
@@ -7,7 +8,7 @@ use lib.ListN.{length, getD, length-append, List·getD-append}
 use lib.Seq.{getD-append-add}
 use Rattle.oat.specs.Tables.{Tables}
 use Rattle.oat.specs.Types.{Ty}
-use Rattle.oat.specs.Syntax.{Decl, global, function, size, sizeBlock, sizeDecl}
+use Rattle.oat.specs.Syntax.{Expr, Block, Decl, global, function, size, sizeBlock, sizeDecl}
 use Rattle.typing_rules.specs.Labels.{Label, Labels}
 use Rattle.typing_rules.specs.Derivations.{Node}
 use Rattle.typing_rules.specs.Endless.{InBodies, in-body, in-others}
@@ -62,30 +63,47 @@ body-row r P R Q i j h k q =
         ∙ getD-append-add (r ∷ 65535 ∷ P) (R ++ Q) x 65535
         ∙ List·getD-append R Q 65535 x l
 
--- the functions' bodies of declarations stand where these do
-bodies-low : (ds : List Decl) {n m : ℕ} {u : Node} → InBodies n ds m u → n ≤ m
-bodies-low (function x t ps b ∷ ds) (in-body w) = let (h, k) = block-holds b w in omega (arith, h)
-bodies-low (d ∷ ds) (in-others w) = omega (arith, bodies-low ds w)
+-- of the declarations that stand from n on, m is a node of a global or of a function's block; a function's own row and its parameters' are
+-- not those of their labels
+pub data HasRow : ℕ → List Decl → ℕ → Type 0 where
+  of-global : {n m x : ℕ} {a : Expr} {ds : List Decl} → n ≤ m → m < n + 1 + size a → HasRow n (global x a ∷ ds) m
+  of-block : {n m x t : ℕ} {ps : List ℕ} {b : Block} {ds : List Decl} → n + 1 + length ps ≤ m → m < n + 1 + length ps + sizeBlock b → HasRow n (function x t ps b ∷ ds) m
+  of-others : {n m : ℕ} {d : Decl} {ds : List Decl} → HasRow (n + sizeDecl d) ds m → HasRow n (d ∷ ds) m
+
+row-low : (ds : List Decl) {n m : ℕ} → HasRow n ds m → n ≤ m
+row-low (global x a ∷ ds) (of-global h k) = h
+row-low (function x t ps b ∷ ds) (of-block h k) = omega (arith, h)
+row-low (d ∷ ds) (of-others w) = omega (arith, row-low ds w)
+
+body-has-row : (ds : List Decl) {n m : ℕ} {u : Node} → InBodies n ds m u → HasRow n ds m
+body-has-row (function x t ps b ∷ ds) (in-body w) = let (h, k) = block-holds b w in of-block h k
+body-has-row (d ∷ ds) (in-others w) = of-others (body-has-row ds w)
 
 -- among the rows of the declarations that stand from n on
-decl-row : (T : Tables) (D : Labels Ty) (ds : List Decl) (n i m : ℕ) (R : List ℕ) {u : Node} → DeclRows T D n ds R → InBodies n ds m u → m ≡ n + i → RowIs T (D m) i R
-decl-row T D (function x t ps b ∷ ds) n i m _ (function-rows {m = f} {P = P} {R = R} {Q = Q} k h r z) (in-body w) j =
-    let (low, high) = block-holds b w in
+decl-row : (T : Tables) (D : Labels Ty) (ds : List Decl) (n i m : ℕ) (R : List ℕ) → DeclRows T D n ds R → HasRow n ds m → m ≡ n + i → RowIs T (D m) i R
+decl-row T D (function x t ps b ∷ ds) n i m _ (function-rows {m = f} {P = P} {R = R} {Q = Q} k h r z) (of-block low high) j =
     let front = 1 + length ps in
     let long : length R ≡ 2 * sizeBlock b = rows-long r ∙ ap (λ k. 2 * k) (labels-long D (n + 1 + length ps) (sizeBlock b)) in
     body-row f P R Q (i - front) i (omega (arith, parameters-long h, low, j)) (omega (arith, long, high, low, j))
     (label-row T D (n + 1 + length ps) (sizeBlock b) (i - front) m R r (omega (arith, high, low, j)) (omega (arith, low, j)))
-decl-row T D (function x t ps b ∷ ds) n i m _ (function-rows {m = f} {P = P} {R = R} {Q = Q} k h r z) (in-others w) j =
-    let low = bodies-low ds w in
+decl-row T D (function x t ps b ∷ ds) n i m _ (function-rows {m = f} {P = P} {R = R} {Q = Q} k h r z) (of-others w) j =
+    let low = row-low ds w in
     let long : length R ≡ 2 * sizeBlock b = rows-long r ∙ ap (λ k. 2 * k) (labels-long D (n + 1 + length ps) (sizeBlock b)) in
     later-row (f ∷ 65535 ∷ P ++ R) Q (sizeDecl (function x t ps b)) (i - sizeDecl (function x t ps b)) i
     (simp length-append (omega (arith, parameters-long h, long))) (omega (arith, low, j))
     (decl-row T D ds (n + sizeDecl (function x t ps b)) (i - sizeDecl (function x t ps b)) m Q z w (omega (arith, low, j)))
-decl-row T D (global x a ∷ ds) n i m _ (global-rows {R = R} {Q = Q} r z) (in-others w) j =
-    let low = bodies-low ds w in
+decl-row T D (global x a ∷ ds) n i m _ (global-rows {R = R} {Q = Q} r z) (of-global low high) j =
+    let row = label-row T D n (1 + size a) i m R r (omega (arith, high, j)) j in
+    moved (List·getD-append R Q 65535 (2 * i) (omega (arith, row .within))) (List·getD-append R Q 65535 (2 * i + 1) (row .within))
+    (simp length-append (omega (arith, row .within))) row
+decl-row T D (global x a ∷ ds) n i m _ (global-rows {R = R} {Q = Q} r z) (of-others w) j =
+    let low = row-low ds w in
     later-row R Q (sizeDecl (global x a)) (i - sizeDecl (global x a)) i
     (rows-long r ∙ ap (λ k. 2 * k) (labels-long D n (1 + size a))) (omega (arith, low, j))
     (decl-row T D ds (n + sizeDecl (global x a)) (i - sizeDecl (global x a)) m Q z w (omega (arith, low, j)))
 
+pub row-of : (T : Tables) (D : Labels Ty) (ds : List Decl) (m : ℕ) (R : List ℕ) → DeclRows T D 0 ds R → HasRow 0 ds m → RowIs T (D m) m R
+row-of T D ds m R r w = decl-row T D ds 0 m m R r w (omega arith)
+
 pub row-at : (T : Tables) (D : Labels Ty) (ds : List Decl) (m : ℕ) (R : List ℕ) {u : Node} → DeclRows T D 0 ds R → InBodies 0 ds m u → RowIs T (D m) m R
-row-at T D ds m R r w = decl-row T D ds 0 m m R r w (omega arith)
+row-at T D ds m R r w = row-of T D ds m R r (body-has-row ds w)

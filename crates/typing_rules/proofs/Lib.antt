@@ -9,6 +9,7 @@ pub mod LawsBodies
 pub mod LawsBridge
 pub mod LawsComputed
 pub mod LawsExecute
+pub mod LawsExpressions
 pub mod LawsFields
 pub mod LawsFit
 pub mod LawsFitStmts

@@ -29,7 +29,7 @@ in-right : {s : Step} (xs : List Step) {ys : List Step} → In s ys → In s (xs
 in-right [] i = i
 in-right (x ∷ xs) i = in-later (in-right xs i)
 
-global-in : (p : Program) (s : Step) → In s (globals 0 (p .declarations)) → In s (stepsOf p)
+pub global-in : (p : Program) (s : Step) → In s (globals 0 (p .declarations)) → In s (stepsOf p)
 unfolding stepsOf
 global-in p s i =
     in-right (tabulate (length (p .tables .structs)) structName)

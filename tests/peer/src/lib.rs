@@ -1,8 +1,8 @@
 //! An independent checker for Oat v.2 program files, after document 01 ("The
 //! Oat v.2 checker for pan programs"), document 001 (the specification) and
-//! document 02's requests (i), loops that never end, (v), zero bytes, (vi), the
-//! same name in an inner block, (viii), counts of compared pairs, and (xi), limits
-//! as parameters.
+//! document 02's requests (i), loops that never end, (iv), tallies of expressions,
+//! (v), zero bytes, (vi), the same name in an inner block, (viii), counts of
+//! compared pairs, and (xi), limits as parameters.
 
 pub mod cases;
 mod empty;
@@ -17,12 +17,14 @@ mod pairs;
 pub mod print;
 pub mod program;
 mod statements;
+mod tallies;
 mod tree;
 mod types;
 mod typing;
 pub mod vectors;
 
 pub use limits::{Limits, measures};
+pub use tallies::{Tallied, tally, tally_lengths, tally_under};
 
 use empty::with_types;
 use file::{File, records_broken, sections, types_broken};

@@ -46,7 +46,7 @@ impl Rules for Document01 {
 
 /// The part of document 01 that a mutant breaks, or document 02's limits, its
 /// empty file, zero bytes, its comparing of field names, its endless loops, its
-/// block levels, or its counts of pairs.
+/// block levels, its counts of pairs, or its tallies.
 #[derive(Clone, Copy, PartialEq, Eq, Debug)]
 pub enum Part {
     Reading,
@@ -60,6 +60,7 @@ pub enum Part {
     Endless,
     Levels,
     Pairs,
+    Tallies,
 }
 
 macro_rules! mutants {
@@ -522,5 +523,55 @@ mutants! {
         SumCut: "the sum is cut to 16 bits",
         SortsCounted: "a sort int or bool that is tested counts 1",
         BareReturnCounted: "a return without a value counts 1",
+    }
+    Tallies {
+        EqualApart: "equal types are not added together",
+        EqualUnderHighest: "equal types are added under their highest number",
+        EqualUnderUsed: "equal types are added under the lowest number that an expression's row has",
+        EqualUnderBefore: "a type is added under the equal one before it, not under the lowest",
+        EqualRecords: "only types with the same record are added together",
+        EqualByFields: "structs with the same fields are one type",
+        EqualByResult: "functions that give the same are one type, whatever they take",
+        EqualBothWays: "types below each other are added together",
+        UnderAbove: "a type is added under the lowest type that it is below",
+        NullablesPlain: "a nullable is added under what it refers to",
+        NullsPlain: "null is added under what its t refers to",
+        NullsLeftOut: "null, kind 10, is left out",
+        NamesLeftOut: "a name, kind 15, is left out",
+        RecordsLeftOut: "a struct literal, kind 21, is left out",
+        FieldsLeftOut: "a field, kind 23, is left out",
+        BinariesLeftOut: "a binary expression, kind 26, is left out",
+        CalleesLeftOut: "callees are left out",
+        LeftSidesLeftOut: "left sides of assignments are left out",
+        RunsLeftOut: "callees and arguments of call statements are left out",
+        InitializedLeftOut: "values of field initializers are left out",
+        GlobalsTallied: "a global is an expression of its initializer's type",
+        ParametersTallied: "a parameter is an expression",
+        InitializersTallied: "a field initializer is an expression",
+        RunsTallied: "a call statement is an expression of type void",
+        StatementsTallied: "a statement is an expression, its mark taken for a type",
+        AbsentTallied: "an absent part is an expression of type 0",
+        FunctionsAlone: "only functions have a number by declaration",
+        GlobalsBeforeFunctions: "declarations stand in the order of their steps, globals before functions",
+        UnderNextDeclaration: "a declaration's count stands under the next one, the last one's under the first",
+        StructsAreDeclarations: "structs are declarations too, before all others",
+        DeclarationsCountThemselves: "a declaration counts its own node, by declaration alone",
+        TalliesSwapped: "the two buffers are taken for each other",
+        TallyCut: "counts are cut to 8 bits",
+        TallyAdded: "counts are added to what the buffers hold",
+        ZerosNotWritten: "a count of 0 is not written",
+        PastZeroed: "numbers past the tallies are set to 0",
+        ExactRefused: "a buffer of exactly the needed length is 19",
+        ShortTypesFree: "19 is tested for the buffer by declaration alone",
+        ShortDeclarationsFree: "19 is tested for the buffer by type alone",
+        ShortBeforeTyping: "19 is tested before 6 to 16",
+        ShortBeforeAll: "19 is tested before everything else",
+        ShortHasSteps: "19 comes with the count of steps",
+        LongEnoughWritten: "under 19 the buffer that is long enough is written",
+        ClearedFirst: "under 19 both buffers are set to 0",
+        RefusedCleared: "under the check's refusals both buffers are set to 0",
+        PairsAsPlace: "an accepted file's place is its sum of pairs",
+        TallyIgnoresLimits: "the tallies ignore the limits",
+        TallyRefusesEmpty: "zero bytes are 1 to the tallies alone",
     }
 }

@@ -2,7 +2,7 @@
 //! ends with byte 10.
 
 use crate::mutants::{Exact, Mutant, Rules};
-use crate::{Limits, check_under, node_count, read_under, subtype_under, subtypes};
+use crate::{Limits, check_under, node_count, read_under, subtype_under, subtypes, tally_lengths, tally_under};
 use std::fmt::Write;
 
 /// A file and the limits that it is asked under.
@@ -19,8 +19,19 @@ impl<'a> Limited<'a> {
     }
 }
 
+/// A file under its limits, and the lengths of two more buffers, those of the
+/// tallies by type and by declaration. Other questions take no such buffers.
+#[derive(Clone, Copy)]
+pub struct Lent<'a> {
+    pub asked: Limited<'a>,
+    pub lengths: [usize; 2],
+}
+
 /// Buffers of this length are long enough for any file.
 const LONGEST: usize = 8192;
+
+/// What the buffers of the tallies hold before they are lent.
+const PAINTS: [u16; 2] = [7777, 8888];
 
 /// The answer, then, if accepted, each node's number and row.
 pub fn check(file: &[u8]) -> String {
@@ -102,6 +113,38 @@ pub fn limits_with<R: Rules>(case: Limited, rules: R) -> String {
     format!("read {}sub {answers}\n{checked}", read_with(case, rules))
 }
 
+/// The answer of the tallies, then all numbers of both buffers after the call.
+pub fn tallies_with<R: Rules>(case: Lent, rules: R) -> String {
+    tallies_in(case, LONGEST, rules).concat()
+}
+
+/// The answer of the tallies and, if accepted, both tallies and nothing more.
+pub fn tally(asked: Limited) -> String {
+    let case = Lent { asked, lengths: tally_lengths(asked.file) };
+    let shown = tallies_in(case, 2 * node_count(asked.file), Exact);
+    if shown[0].starts_with("0 ") { shown.concat() } else { shown[0].clone() }
+}
+
+/// The three lines of the tallies, with rows and work of a length.
+fn tallies_in<R: Rules>(Lent { asked, lengths }: Lent, length: usize, rules: R) -> [String; 3] {
+    let [mut rows, mut work] = [vec![0; length], vec![0; length]];
+    let [mut by_type, mut by_declaration] = [0, 1].map(|i| vec![PAINTS[i]; lengths[i]]);
+    let told =
+        tally_under(asked.file, asked.limits, [&mut rows, &mut work], [&mut by_type, &mut by_declaration], rules);
+    let mut answer = String::new();
+    put(&mut answer, [told.number, told.step, told.place]);
+    [answer, numbers("types", &by_type), numbers("declarations", &by_declaration)]
+}
+
+/// A line of numbers behind a word.
+fn numbers(word: &str, numbers: &[u16]) -> String {
+    let mut line = word.to_string();
+    for number in numbers {
+        write!(line, " {number}").expect("a string takes every number");
+    }
+    line + "\n"
+}
+
 /// Splits packed files: 4 length bytes, low first, then the file.
 pub fn unpack(mut many: &[u8]) -> Vec<&[u8]> {
     let mut files = Vec::new();
@@ -127,12 +170,30 @@ pub fn pack<F: AsRef<[u8]>>(files: impl IntoIterator<Item = F>) -> Vec<u8> {
 
 /// Splits packed cases of limits: 4 length bytes of the file, 4 bytes each for
 /// parts and depth, all low first, then the file.
-pub fn unpack_limited(mut many: &[u8]) -> Vec<Limited<'_>> {
+pub fn unpack_limited(many: &[u8]) -> Vec<Limited<'_>> {
+    let cases = split(many).into_iter();
+    cases.map(|([parts, depth], file)| Limited { file, limits: Limits { parts, depth } }).collect()
+}
+
+/// Splits packed cases of tallies: the same with 4 bytes each for the lengths of
+/// the two buffers, by type and by declaration, behind the depth.
+pub fn unpack_tallies(many: &[u8]) -> Vec<Lent<'_>> {
+    let cases = split(many).into_iter();
+    let lent = |[parts, depth, types, declarations]: [usize; 4], file| Lent {
+        asked: Limited { file, limits: Limits { parts, depth } },
+        lengths: [types, declarations],
+    };
+    cases.map(|(numbers, file)| lent(numbers, file)).collect()
+}
+
+/// Splits files that have some numbers behind their length, each of 4 bytes, low first.
+fn split<const N: usize>(mut many: &[u8]) -> Vec<([usize; N], &[u8])> {
     let mut cases = Vec::new();
-    while let Some((head, rest)) = many.split_first_chunk::<12>() {
-        let number = |k: usize| u32::from_le_bytes([head[k], head[k + 1], head[k + 2], head[k + 3]]) as usize;
+    while let Some((head, rest)) = many.split_at_checked(4 + 4 * N) {
+        let head = head.as_chunks().0;
+        let number = |k: usize| u32::from_le_bytes(head[k]) as usize;
         let (file, rest) = rest.split_at(number(0).min(rest.len()));
-        cases.push(Limited { file, limits: Limits { parts: number(4), depth: number(8) } });
+        cases.push((std::array::from_fn(|k| number(k + 1)), file));
         many = rest;
     }
     cases
@@ -140,10 +201,23 @@ pub fn unpack_limited(mut many: &[u8]) -> Vec<Limited<'_>> {
 
 /// Packs cases as `unpack_limited` reads them.
 pub fn pack_limited<F: AsRef<[u8]>>(cases: impl IntoIterator<Item = (F, Limits)>) -> Vec<u8> {
+    join(cases.into_iter().map(|(file, Limits { parts, depth })| ([parts, depth], file)))
+}
+
+/// Packs cases as `unpack_tallies` reads them.
+pub fn pack_tallies<F: AsRef<[u8]>>(cases: impl IntoIterator<Item = (F, Limits, [usize; 2])>) -> Vec<u8> {
+    let numbers = |(file, limits, [types, declarations]): (F, Limits, [usize; 2])| {
+        ([limits.parts, limits.depth, types, declarations], file)
+    };
+    join(cases.into_iter().map(numbers))
+}
+
+/// Packs cases as `split` reads them.
+fn join<const N: usize, F: AsRef<[u8]>>(cases: impl IntoIterator<Item = ([usize; N], F)>) -> Vec<u8> {
     let mut many = Vec::new();
-    for (file, limits) in cases {
+    for (numbers, file) in cases {
         let file = file.as_ref();
-        for number in [file.len(), limits.parts, limits.depth] {
+        for number in std::iter::once(file.len()).chain(numbers) {
             many.extend((number as u32).to_le_bytes());
         }
         many.extend(file);

@@ -1,19 +1,27 @@
 //! The stored vectors: which files they hold, and what catches a mutant.
 
 use crate::mutants::{ALL, Exact, Mutant, Part};
-use crate::print::{self, Limited, pack, pack_limited, unpack, unpack_limited};
-use crate::{Limits, cases, generator, measures};
+use crate::print::{self, Lent, Limited, pack, pack_limited, pack_tallies, unpack, unpack_limited, unpack_tallies};
+use crate::{Limits, cases, generator, measures, read, tally_lengths};
 
-/// The four questions that vectors are stored for.
+/// The five questions that vectors are stored for.
 #[derive(Clone, Copy, PartialEq, Eq, Debug)]
 pub enum Question {
     Check,
     Read,
     Sub,
     Limits,
+    Tallies,
 }
 
-pub const QUESTIONS: [Question; 4] = [Question::Check, Question::Read, Question::Sub, Question::Limits];
+pub const QUESTIONS: [Question; 5] =
+    [Question::Check, Question::Read, Question::Sub, Question::Limits, Question::Tallies];
+
+/// Packed cases of each question.
+pub type Packed = [Vec<u8>; QUESTIONS.len()];
+
+/// How many cases of each question catch a mutant.
+pub type Counts = [usize; QUESTIONS.len()];
 
 impl Question {
     /// The name of the stored files.
@@ -23,42 +31,51 @@ impl Question {
             Question::Read => "read",
             Question::Sub => "sub",
             Question::Limits => "limits",
+            Question::Tallies => "tallies",
         }
     }
 
-    /// The cases of stored bytes; only those of `Limits` have limits of their own.
-    pub fn unpack(self, packed: &[u8]) -> Vec<Limited<'_>> {
-        match self {
+    /// The cases of stored bytes; only those of `Limits` and `Tallies` have limits
+    /// of their own, and only the latter lengths of buffers.
+    pub fn unpack(self, packed: &[u8]) -> Vec<Lent<'_>> {
+        let limited = match self {
+            Question::Tallies => return unpack_tallies(packed),
             Question::Limits => unpack_limited(packed),
             _ => unpack(packed).into_iter().map(Limited::widest).collect(),
-        }
+        };
+        limited.into_iter().map(|asked| Lent { asked, lengths: [0; 2] }).collect()
     }
 
     /// What is printed for one case.
-    pub fn show(self, case: Limited) -> String {
+    pub fn show(self, case: Lent) -> String {
         match self {
-            Question::Check => print::pairs_with(case, Exact) + "--\n",
-            Question::Read => print::read_with(case, Exact),
-            Question::Sub => print::subs_with(case, Exact) + "--\n",
-            Question::Limits => print::limits_with(case, Exact) + "--\n",
+            Question::Check => print::pairs_with(case.asked, Exact) + "--\n",
+            Question::Read => print::read_with(case.asked, Exact),
+            Question::Sub => print::subs_with(case.asked, Exact) + "--\n",
+            Question::Limits => print::limits_with(case.asked, Exact) + "--\n",
+            Question::Tallies => print::tallies_with(case, Exact) + "--\n",
         }
     }
 
     /// What a mutant prints. A mutant of reading is asked to read only, since
     /// what it lets pass is no tree that can be typed. The other questions ask
-    /// under 200 and 100 alone, so mutants of limits have their own. Those of
-    /// the empty file and of counting are asked everything that shows them.
-    fn show_mutant(self, case: Limited, mutant: Mutant, part: Part) -> Option<String> {
+    /// under 200 and 100 alone, so mutants of limits have their own, and so have
+    /// those of tallies. Those of the empty file and of counting are asked
+    /// everything that shows them.
+    fn show_mutant(self, case: Lent, mutant: Mutant, part: Part) -> Option<String> {
+        let asked = case.asked;
         match (self, part) {
+            (Question::Tallies, Part::Tallies | Part::Empty) => Some(print::tallies_with(case, mutant) + "--\n"),
+            (Question::Tallies, _) | (_, Part::Tallies) => None,
             (Question::Limits, Part::Limits | Part::Empty | Part::Pairs) => {
-                Some(print::limits_with(case, mutant) + "--\n")
+                Some(print::limits_with(asked, mutant) + "--\n")
             }
             (Question::Limits, _) | (_, Part::Limits) => None,
-            (Question::Read, Part::Reading | Part::Empty) => Some(print::read_with(case, mutant)),
+            (Question::Read, Part::Reading | Part::Empty) => Some(print::read_with(asked, mutant)),
             (Question::Check, Part::Reading) => None,
-            (Question::Check, _) => Some(print::pairs_with(case, mutant) + "--\n"),
+            (Question::Check, _) => Some(print::pairs_with(asked, mutant) + "--\n"),
             (Question::Sub, Part::Subtyping | Part::Empty | Part::Pairs) => {
-                Some(print::subs_with(case, mutant) + "--\n")
+                Some(print::subs_with(asked, mutant) + "--\n")
             }
             _ => None,
         }
@@ -66,9 +83,9 @@ impl Question {
 }
 
 /// How many of the cases show that the mutant is wrong, given what is right.
-pub fn caught(question: Question, cases: &[Limited], right: &[String], (mutant, part): (Mutant, Part)) -> usize {
+pub fn caught(question: Question, cases: &[Lent], right: &[String], (mutant, part): (Mutant, Part)) -> usize {
     let differs =
-        |(&case, right): (&Limited, &String)| question.show_mutant(case, mutant, part).is_some_and(|s| s != *right);
+        |(&case, right): (&Lent, &String)| question.show_mutant(case, mutant, part).is_some_and(|s| s != *right);
     cases.iter().zip(right).filter(|&pair| differs(pair)).count()
 }
 
@@ -79,20 +96,22 @@ pub fn files(question: Question) -> Vec<u8> {
         Question::Read => pack(read_files()),
         Question::Sub => pack(sub_files()),
         Question::Limits => pack_limited(limit_cases()),
+        Question::Tallies => pack_tallies(tally_cases()),
     }
 }
 
 /// The cases written by hand alone, for each question.
-pub fn hand_written() -> [Vec<u8>; 4] {
+pub fn hand_written() -> Packed {
     let reading = pack(cases::reading().into_iter().map(|c| c.1));
     let checked =
         [typing_cases(), name_cases(), endless_cases(), level_cases(), cases_with_sums()].into_iter().flatten();
     let tables = subtyping_cases().into_iter().chain(counted_tables());
-    [pack(checked), reading, pack(tables), pack_limited(limit_cases_by_hand())]
+    let limited = pack_limited(limit_cases_by_hand());
+    [pack(checked), reading, pack(tables), limited, pack_tallies(tally_cases_by_hand())]
 }
 
 /// Generated files alone, for each question.
-pub fn generated() -> [Vec<u8>; 4] {
+pub fn generated() -> Packed {
     let programs = generator::programs(6, 12_000);
     let special = [
         generator::field_names(13, 1000),
@@ -102,7 +121,8 @@ pub fn generated() -> [Vec<u8>; 4] {
     ]
     .concat();
     let checked = [programs.clone(), special].concat();
-    [checked, programs, generator::type_tables(7, 400), generator::limited(8, 1000)]
+    let [tables, limited] = [generator::type_tables(7, 400), generator::limited(8, 1000)];
+    [checked, programs, tables, limited, generator::tallies(31, 1000)]
 }
 
 fn typing_cases() -> Vec<Vec<u8>> {
@@ -198,6 +218,27 @@ fn limit_cases() -> Vec<(Vec<u8>, Limits)> {
     cases
 }
 
+/// Each case under each of its lengths.
+fn tally_cases_by_hand() -> Vec<(Vec<u8>, Limits, [usize; 2])> {
+    let mut all = Vec::new();
+    for case in cases::tallies() {
+        all.extend(case.lengths().into_iter().map(|lengths| (case.file.clone(), case.limits, lengths)));
+    }
+    all
+}
+
+/// The cases written by hand, then every file of the check, each with longer
+/// buffers than it needs.
+fn tally_cases() -> Vec<(Vec<u8>, Limits, [usize; 2])> {
+    let mut cases = tally_cases_by_hand();
+    for file in check_files() {
+        let [types, declarations] = tally_lengths(&file);
+        let longer = if read(&file, Limits::WIDEST) == 0 { [types + 2, declarations + 1] } else { [3, 2] };
+        cases.push((file, Limits::WIDEST, longer));
+    }
+    cases
+}
+
 /// The packed files of less than a size.
 fn small(many: &[u8], size: usize) -> Vec<Vec<u8>> {
     unpack(many).into_iter().filter(|f| f.len() < size).map(<[u8]>::to_vec).collect()
@@ -220,15 +261,15 @@ fn catching() -> [Vec<u8>; CATCHING.len()] {
 }
 
 /// For each mutant: how many cases of each question catch it.
-pub fn table(packed: &[Vec<u8>; 4]) -> Vec<(Mutant, Part, [usize; 4])> {
-    let cases: Vec<Vec<Limited>> = QUESTIONS.iter().zip(packed).map(|(q, p)| q.unpack(p)).collect();
+pub fn table(packed: &Packed) -> Vec<(Mutant, Part, Counts)> {
+    let cases: Vec<Vec<Lent>> = QUESTIONS.iter().zip(packed).map(|(q, p)| q.unpack(p)).collect();
     let right: Vec<Vec<String>> =
         QUESTIONS.iter().zip(&cases).map(|(q, cases)| cases.iter().map(|&c| q.show(c)).collect()).collect();
     let count = |m: Mutant, part: Part| std::array::from_fn(|i| caught(QUESTIONS[i], &cases[i], &right[i], (m, part)));
     ALL.iter().map(|&(m, part, _)| (m, part, count(m, part))).collect()
 }
 
-const PARTS: [Part; 11] = [
+const PARTS: [Part; 12] = [
     Part::Reading,
     Part::Subtyping,
     Part::Expressions,
@@ -240,24 +281,26 @@ const PARTS: [Part; 11] = [
     Part::Endless,
     Part::Levels,
     Part::Pairs,
+    Part::Tallies,
 ];
 
 /// What `mutants` prints: a line for each part, as docs/TESTING.md has it, and a line for each mutant.
-pub fn mutant_tables(stored: &[Vec<u8>; 4]) -> String {
+pub fn mutant_tables(stored: &Packed) -> String {
     let tables = [table(stored), table(&hand_written()), table(&generated())];
     let line = |cells: &[String]| format!("| {} |\n", cells.join(" | "));
-    let mut out = String::from("| part | mutants | check | read | sub | limits | stored | by hand | generated |\n");
-    out += "|---|---|---|---|---|---|---|---|---|\n";
+    let questions = QUESTIONS.map(Question::name).join(" | ");
+    let mut out = format!("| part | mutants | {questions} | stored | by hand | generated |\n");
+    out += &format!("|{}\n", "---|".repeat(QUESTIONS.len() + 5));
     for part in PARTS {
-        let count = |t: usize, test: &dyn Fn(&[usize; 4]) -> bool| {
+        let count = |t: usize, test: &dyn Fn(&Counts) -> bool| {
             tables[t].iter().filter(|m| m.1 == part && test(&m.2)).count().to_string()
         };
         let mut cells = vec![format!("{part:?}"), count(0, &|_| true)];
-        cells.extend((0..4).map(|q| count(0, &|c| c[q] > 0)));
+        cells.extend((0..QUESTIONS.len()).map(|q| count(0, &|c| c[q] > 0)));
         cells.extend((0..3).map(|t| count(t, &|c| c.iter().sum::<usize>() > 0)));
         out += &line(&cells);
     }
-    out += "\n| mutant | what it breaks | check | read | sub | limits |\n|---|---|---|---|---|---|\n";
+    out += &format!("\n| mutant | what it breaks | {questions} |\n|{}\n", "---|".repeat(QUESTIONS.len() + 2));
     for ((mutant, _, counts), (_, _, text)) in tables[0].iter().zip(ALL) {
         let text = text.replace("[|]", "[\\|]").replace("& and | take", "& and \\| take");
         let counts = counts.map(|c| c.to_string());

@@ -86,7 +86,7 @@ fn at(file: &[u8], place: usize) -> [u16; 2] {
 fn generated_files() {
     let many = generator::endless(17, 2000);
     assert_eq!(many, generator::endless(17, 2000));
-    let counts = generator::tally(&many);
+    let counts = generator::numbers(&many);
     assert!(counts[0] >= 600 && counts[14] >= 800 && counts[0] + counts[14] == 2000, "{counts:?}");
     let mut places = [0; 4];
     for file in print::unpack(&many) {

@@ -236,7 +236,7 @@ fn first_clashes() {
 fn generated_files() {
     let many = generator::levels(20, 2000);
     assert_eq!(many, generator::levels(20, 2000));
-    let counts = generator::tally(&many);
+    let counts = generator::numbers(&many);
     assert!(counts[0] >= 700 && counts[7] >= 400 && counts[..=6] == [counts[0], 0, 0, 0, 0, 0, 0], "{counts:?}");
     assert!([8, 10, 11, 15].iter().all(|&n: &usize| counts[n] >= 40), "{counts:?}");
     let mut depths = [0; 5];

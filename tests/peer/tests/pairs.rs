@@ -165,7 +165,7 @@ fn sums_of_accepted_files() {
 fn generated_files() {
     let many = generator::pairs(30, 2000);
     assert_eq!(many, generator::pairs(30, 2000));
-    let counts = generator::tally(&many);
+    let counts = generator::numbers(&many);
     assert!(counts[0] >= 700 && counts[11] >= 500 && counts[..=6] == [counts[0], 0, 0, 0, 0, 0, 0], "{counts:?}");
     assert!([8, 9, 10].iter().all(|&n: &usize| counts[n] >= 20), "{counts:?}");
     let sums: Vec<u32> = unpack(&many).into_iter().map(|file| run(file, Limits::WIDEST).0.pairs).collect();

@@ -1,6 +1,7 @@
 //! The stored vectors hold what the peer prints, and catch every mutant.
 
 use oat_peer::mutants::{ALL, Part};
+use oat_peer::print::Lent;
 use oat_peer::vectors::{QUESTIONS, Question, files, table};
 use oat_peer::{Limits, generator, print};
 use std::fs;
@@ -40,6 +41,7 @@ fn crates_have_the_stored_files() {
         ("subtype_vectors", Question::Sub),
         ("read_vectors", Question::Read),
         ("limit_vectors", Question::Limits),
+        ("tally_vectors", Question::Tallies),
     ];
     for (program, question) in programs {
         for (name, end) in [("stdin", "bin"), ("stdout", "txt")] {
@@ -55,12 +57,16 @@ fn crates_have_the_stored_files() {
 #[test]
 fn sizes() {
     let size = |q, end| fs::metadata(path(q, end)).expect("a stored file").len();
-    let others = QUESTIONS.iter().filter(|&&q| q != Question::Limits);
+    let others = QUESTIONS.iter().filter(|&&q| !matches!(q, Question::Limits | Question::Tallies));
     let all: u64 = others.map(|&q| size(q, "bin") + size(q, "txt")).sum();
     assert!(all <= 4_400_000, "{all} bytes");
     assert!(size(Question::Limits, "bin") < 600_000);
     let limited = stored(Question::Limits);
-    assert!(Question::Limits.unpack(&limited).iter().all(|c| c.file.len() < 45_200));
+    assert!(Question::Limits.unpack(&limited).iter().all(|c| c.asked.file.len() < 45_200));
+    assert!(size(Question::Tallies, "bin") + size(Question::Tallies, "txt") < 3_400_000);
+    let tallies = stored(Question::Tallies);
+    let within = |c: &Lent| c.asked.file.len() <= 45_068 && c.lengths[0] <= 520 && c.lengths[1] <= 4100;
+    assert!(Question::Tallies.unpack(&tallies).iter().all(within));
     assert!(print::unpack(&stored(Question::Sub)).len() >= 300);
 }
 
@@ -84,6 +90,9 @@ fn every_mutant_is_caught() {
     let of_pairs = || table.iter().filter(|m| m.1 == Part::Pairs);
     let few = of_pairs().filter(|m| m.2.iter().sum::<usize>() < 4).collect::<Vec<_>>();
     assert!(of_pairs().count() >= 70 && few.is_empty(), "{few:?}");
+    let of_tallies = || table.iter().filter(|m| m.1 == Part::Tallies);
+    let few = of_tallies().filter(|m| m.2[4] < 5).collect::<Vec<_>>();
+    assert!(of_tallies().count() >= 40 && few.is_empty(), "{few:?}");
 }
 
 /// Each number but 6 has at least 2 % of the generator's files.
@@ -91,7 +100,7 @@ fn every_mutant_is_caught() {
 fn generated_numbers() {
     let many = generator::programs(11, 3000);
     assert_eq!(many, generator::programs(11, 3000));
-    let counts = generator::tally(&many);
+    let counts = generator::numbers(&many);
     for number in (0..=5).chain(7..=16) {
         assert!(counts[number] * 50 >= 3000, "{number}: {counts:?}");
     }
@@ -100,7 +109,7 @@ fn generated_numbers() {
 /// Files about field names are accepted or refused under 12, a few under 7 or 11.
 #[test]
 fn generated_names() {
-    let counts = generator::tally(&generator::field_names(14, 2000));
+    let counts = generator::numbers(&generator::field_names(14, 2000));
     assert!(counts[0] >= 400 && counts[12] >= 800 && counts[7] >= 40 && counts[11] >= 20, "{counts:?}");
     assert_eq!([0, 7, 11, 12].iter().map(|&n: &usize| counts[n]).sum::<usize>(), 2000, "{counts:?}");
 }

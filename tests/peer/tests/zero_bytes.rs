@@ -1,7 +1,7 @@
 //! Document 02, request (v): zero bytes mean types 0 to 3 and nothing else.
 
 use oat_peer::mutants::Exact;
-use oat_peer::print::{Limited, pack, pack_limited};
+use oat_peer::print::{Lent, Limited, pack, pack_limited, pack_tallies};
 use oat_peer::program::Program;
 use oat_peer::vectors::{QUESTIONS, Question};
 use oat_peer::*;
@@ -150,14 +150,19 @@ fn bytes_of_value_zero() {
 fn printed() {
     let table = "1000\n1 1 1 1\n0100\n1 1 1 1\n0010\n1 1 1 1\n0001\n1 1 1 1\n--\n";
     let limited = "read 0\nsub yes 1 17 0 17 0 17 0\n0 0 0\npairs 0\n--\n";
-    let lines = ["0 0 0\npairs 0\n--\n", "0\n", table, limited];
+    let tallies = "0 0 0\ntypes 0 0 0 0 7777\ndeclarations 8888\n--\n";
+    let lines = ["0 0 0\npairs 0\n--\n", "0\n", table, limited, tallies];
+    let four = four();
+    let lent = |file, limits| Lent { asked: Limited { file, limits }, lengths: [5, 1] };
     for (question, line) in QUESTIONS.into_iter().zip(lines) {
-        assert_eq!(question.show(Limited::widest(EMPTY)), line, "{question:?}");
-        assert_eq!(question.show(Limited::widest(&four())), line, "{question:?}");
+        assert_eq!(question.show(lent(EMPTY, Limits::WIDEST)), line, "{question:?}");
+        assert_eq!(question.show(lent(&four, Limits::WIDEST)), line, "{question:?}");
     }
     for limits in settings() {
-        let [empty, held] = [EMPTY, &four()].map(|file| Question::Limits.show(Limited { file, limits }));
-        assert_eq!(empty, held, "{limits:?}");
+        for question in [Question::Limits, Question::Tallies] {
+            let [empty, held] = [EMPTY, &four].map(|file| question.show(lent(file, limits)));
+            assert_eq!(empty, held, "{question:?}, {limits:?}");
+        }
     }
 }
 
@@ -187,6 +192,9 @@ fn commands() {
         ("sub 0 3", ["no 1\n", "1 0\n"]),
         ("sub 4 0", ["17 0\n", "1 0\n"]),
         ("sub 4 0 1 101", ["25 0\n", "25 0\n"]),
+        ("tally", ["0 0 0\ntypes 0 0 0 0\ndeclarations\n", "1 0 0\n"]),
+        ("tally 1 1", ["0 0 0\ntypes 0 0 0 0\ndeclarations\n", "1 0 0\n"]),
+        ("tally 201 1", ["25 0 0\n", "25 0 0\n"]),
     ] {
         assert_eq!([EMPTY, &[4]].map(|file| command(words, file)), printed, "{words}");
     }
@@ -199,6 +207,9 @@ fn commands() {
     };
     let accepted = "read 0\nsub yes 1 17 0 17 0 17 0\n0 0 0\npairs 0\n--\n";
     assert_eq!(command("limitbatch", &cases), [accepted, &refused(1), &refused(25)].concat());
-    assert!(command("tally", &many).starts_with("0 1 50.0 %\n1 1 50.0 %\n2 0 "));
+    let cases = pack_tallies([(EMPTY, limits, [4, 1]), (EMPTY, limits, [3, 1]), (&[4], limits, [0, 1])]);
+    let lines = ["0 0 0\ntypes 0 0 0 0", "19 0 0\ntypes 7777 7777 7777", "1 0 0\ntypes"];
+    assert_eq!(command("tallybatch", &cases), lines.map(|l| format!("{l}\ndeclarations 8888\n--\n")).concat());
+    assert!(command("numbers", &many).starts_with("0 1 50.0 %\n1 1 50.0 %\n2 0 "));
     assert!(command("bench 1", &many).starts_with("files 2 nodes 0 "));
 }

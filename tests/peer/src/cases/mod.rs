@@ -10,6 +10,7 @@ mod pairs;
 mod reading;
 pub mod rows;
 mod subtyping;
+mod tallies;
 mod typing;
 
 pub use endless::{Marked, endless};
@@ -19,6 +20,7 @@ pub use names::names;
 pub use pairs::{Counted, Summed, counted, summed};
 pub use reading::reading;
 pub use subtyping::{Question, subtyping};
+pub use tallies::{TallyCase, tallies};
 pub use typing::typing;
 
 pub use crate::program::{BOOL, INT, STRING, VOID};

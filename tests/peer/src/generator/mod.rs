@@ -1,6 +1,6 @@
 //! The generator: well-typed programs, near misses, damaged files, files of the
 //! largest sizes, files about field names, about endless loops, about names in
-//! inner blocks and about compared pairs of types, from a seed.
+//! inner blocks, about compared pairs of types and for tallies, from a seed.
 
 mod bodies;
 mod damage;
@@ -13,9 +13,10 @@ mod names;
 mod pairs;
 mod rng;
 mod tables;
+mod tallies;
 
 use crate::mutants::{Document01, Exact, Rules};
-use crate::print::{pack, pack_limited, unpack};
+use crate::print::{pack, pack_limited, pack_tallies, unpack};
 use crate::{Limits, check_under, node_count};
 pub use limits::settings_around;
 use rng::Rng;
@@ -70,13 +71,35 @@ pub fn limited(seed: u64, count: usize) -> Vec<u8> {
     pack_limited(cases)
 }
 
+/// Packed cases of tallies: most files are accepted and have equal types under
+/// several numbers; lengths are exact, longer and too short in turn.
+pub fn tallies(seed: u64, count: usize) -> Vec<u8> {
+    let mut rng = Rng::new(seed ^ 0x7461_6C6C);
+    pack_tallies((0..count).map(|k| {
+        let file = match rng.below(8) {
+            0 => program(&mut rng, WANTED[k % WANTED.len()]),
+            1 => pairs::file(&mut rng),
+            _ => tallies::pair(&mut rng)[1].bytes(),
+        };
+        let limits = tallies::limits(&mut rng, &file);
+        let lengths = tallies::lengths(&mut rng, k, &file);
+        (file, limits, lengths)
+    }))
+}
+
+/// Well-typed files, each as it was made and with its types under more numbers.
+pub fn doubled(seed: u64, count: usize) -> Vec<[Vec<u8>; 2]> {
+    let mut rng = Rng::new(seed ^ 0x646F_7562);
+    (0..count).map(|_| tallies::pair(&mut rng).map(|p| p.bytes())).collect()
+}
+
 /// One accepted file of each large sort.
 pub fn large_files() -> [Vec<u8>; 4] {
     large::each()
 }
 
 /// How many packed files have each answer number from 0 to 16.
-pub fn tally(many: &[u8]) -> [usize; 17] {
+pub fn numbers(many: &[u8]) -> [usize; 17] {
     let mut counts = [0; 17];
     for file in unpack(many) {
         counts[number(file, Exact) as usize] += 1;
