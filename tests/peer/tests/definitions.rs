@@ -3,11 +3,12 @@
 //! against document 02's words: pairs that wait, one taken after the other.
 
 use oat_peer::mutants::Exact;
-use oat_peer::program::Program;
 use oat_peer::vectors::{Question, files};
 use oat_peer::{Below, Limits, print, subtypes};
 
-/// A readable file's sections as numbers.
+mod sections;
+
+/// A readable file's types and structs as numbers.
 struct Sections {
     types: Vec<[u16; 4]>,
     list: Vec<u16>,
@@ -16,22 +17,12 @@ struct Sections {
 }
 
 fn sections(file: &[u8]) -> Sections {
-    if file.is_empty() {
-        return sections(&Program::new().bytes());
-    }
-    let numbers: Vec<u16> = file.as_chunks::<2>().0.iter().map(|b| u16::from_le_bytes(*b)).collect();
-    let mut at = 0;
-    let mut section = |width: usize| {
-        let count = numbers[at] as usize;
-        let records = numbers[at + 1..at + 1 + count * width].to_vec();
-        at += 1 + count * width;
-        records
-    };
+    let [types, list, fields, structs, ..] = sections::sections(file);
     Sections {
-        types: section(4).as_chunks().0.to_vec(),
-        list: section(1),
-        fields: section(2).as_chunks().0.to_vec(),
-        structs: section(3).as_chunks().0.to_vec(),
+        types: types.as_chunks().0.to_vec(),
+        list,
+        fields: fields.as_chunks().0.to_vec(),
+        structs: structs.as_chunks().0.to_vec(),
     }
 }
 
@@ -41,28 +32,9 @@ impl Sections {
         &self.list[first as usize..][..count as usize]
     }
 
-    /// The kind, a struct's name or a function's number of parameters, then
-    /// what it refers to.
-    fn written(&self, t: u16, out: &mut Vec<u16>) {
-        let [kind, a, _, count] = self.types[t as usize];
-        out.push(kind);
-        match kind {
-            4 => out.push(a),
-            5 | 7 => self.written(a, out),
-            6 => {
-                out.push(count);
-                self.written(a, out);
-                self.parameters(t).iter().for_each(|&p| self.written(p, out));
-            }
-            _ => {}
-        }
-    }
-
     fn equal(&self, a: u16, b: u16) -> bool {
-        let [mut x, mut y] = [vec![], vec![]];
-        self.written(a, &mut x);
-        self.written(b, &mut y);
-        x == y
+        let written = |t| sections::written(&self.types, &self.list, t);
+        written(a) == written(b)
     }
 
     fn fields_of(&self, name: u16) -> Option<&[[u16; 2]]> {

@@ -3,10 +3,11 @@
 use oat_peer::cases::{Case, TallyCase, checked, reading, tallies};
 use oat_peer::mutants::{ALL, Part};
 use oat_peer::print::unpack;
-use oat_peer::program::Program;
 use oat_peer::vectors::{Question, caught, files, hand_written};
 use oat_peer::*;
 use std::collections::BTreeSet;
+
+mod sections;
 
 const MARK: u16 = 43_690;
 const LONGEST: usize = 8192;
@@ -103,44 +104,13 @@ struct Sections {
 
 impl Sections {
     fn of(file: &[u8]) -> Sections {
-        if file.is_empty() {
-            return Sections::of(&Program::new().bytes());
-        }
-        let numbers: Vec<u16> = file.as_chunks::<2>().0.iter().map(|b| u16::from_le_bytes(*b)).collect();
-        let mut at = 0;
-        let [types, list, _, _, _, nodes] = [4, 1, 2, 3, 2, 4].map(|width| {
-            let (from, size) = (at + 1, numbers[at] as usize * width);
-            at = from + size;
-            numbers[from..at].to_vec()
-        });
+        let [types, list, _, _, _, nodes] = sections::sections(file);
         Sections { types: types.as_chunks().0.to_vec(), list, nodes: nodes.as_chunks().0.to_vec() }
-    }
-
-    /// Document 01: the kind, a struct's name or a function's number of
-    /// parameters, then what it refers to.
-    fn written(&self, t: u16, out: &mut Vec<u16>) {
-        let [kind, a, first, count] = self.types[t as usize];
-        out.push(kind);
-        match kind {
-            4 => out.push(a),
-            5 | 7 => self.written(a, out),
-            6 => {
-                out.push(count);
-                self.written(a, out);
-                self.list[first as usize..][..count as usize].iter().for_each(|&p| self.written(p, out));
-            }
-            _ => {}
-        }
     }
 
     /// Each type written out.
     fn all_written(&self) -> Vec<Vec<u16>> {
-        let written = |t| {
-            let mut out = Vec::new();
-            self.written(t, &mut out);
-            out
-        };
-        (0..self.types.len() as u16).map(written).collect()
+        (0..self.types.len() as u16).map(|t| sections::written(&self.types, &self.list, t)).collect()
     }
 
     /// The first node behind a tree.
