@@ -2,8 +2,10 @@
 use mathlib.Core.Path.{_≡_, refl, ap, subst, _∙_}
 use mathlib.Core.List.{List, [], _∷_, _++_}
 use Prim.Native.Nat.{ℕ, zero, suc, _+_, _≤_, _<_}
+use native.Mathlib.Nat.{zero-add}
 use native.Mathlib.Omega.{arith}
-use lib.ListN.{length, getD}
+use lib.ListN.{length, getD, take, drop, length-append, length-drop, List·getD-append}
+use lib.Seq.{length-take-le, getD-append-add, getD-take, getD-drop, ext-getD}
 use Rattle.file_sections.specs.Frames.{Same, Kept, ListAt}
 
 -- a list that is kept below a number
@@ -54,6 +56,27 @@ list-append R i [] m h g = list-from R (i + 0) i m (omega arith) g
 list-append R i (a ∷ l) m h g =
     list-more R i a (l ++ m) (list-first R i a l h)
     (list-append R (i + 1) l m (list-rest R i a l h) (list-from R (i + suc (length l)) (i + 1 + length l) m (omega arith) g))
+
+-- the first of two runs, and the second
+pub list-left : (R : List ℕ) (i : ℕ) (l m : List ℕ) → ListAt R i (l ++ m) → ListAt R i l
+list-left R i l m h = record { at = λ j g. h .at j (omega (arith, g, length-append l m)) ∙ List·getD-append l m 0 j g }
+
+pub list-right : (R : List ℕ) (i : ℕ) (l m : List ℕ) → ListAt R i (l ++ m) → ListAt R (i + length l) m
+list-right R i l m h = record {
+  at = λ j g.
+      let z : i + length l + j ≡ i + (length l + j) = omega arith in
+      ap (λ k. getD R k 0) z ∙ h .at (length l + j) (omega (arith, g, length-append l m)) ∙ getD-append-add l m j 0;
+}
+
+-- a run at the front of a list, and a run taken out of one
+pub list-front : (l m : List ℕ) → ListAt (l ++ m) 0 l
+list-front l m = record { at = λ j g. ap (λ k. getD (l ++ m) k 0) (zero-add j) ∙ List·getD-append l m 0 j g }
+
+pub list-taken : (R : List ℕ) (i : ℕ) (l : List ℕ) → i + length l ≤ length R → ListAt R i l → take (length l) (drop i R) ≡ l
+list-taken R i l r h =
+    let long : length (take (length l) (drop i R)) ≡ length l = length-take-le (length l) (drop i R) (omega (arith, r, length-drop i R)) in
+    ext-getD 0 (take (length l) (drop i R)) l long
+    (λ j g. getD-take (length l) (drop i R) j 0 (omega (arith, g, long)) ∙ getD-drop i R j 0 ∙ h .at j (omega (arith, g, long)))
 
 -- numbers that have not changed
 pub list-kept : (R R′ : List ℕ) (i : ℕ) (l : List ℕ) → ((j : ℕ) → i ≤ j → j < i + length l → getD R′ j 0 ≡ getD R j 0) → ListAt R i l → ListAt R′ i l

@@ -2,6 +2,7 @@ pub mod LawsBasics
 pub mod LawsBlank
 pub mod LawsCompare
 pub mod LawsFormed
+pub mod LawsKinds
 pub mod LawsLimits
 pub mod LawsNodes
 pub mod LawsOrder

@@ -2,7 +2,7 @@
 use mathlib.Core.Path.{_≡_, refl, ap, _∙_}
 use mathlib.Core.Bool.{Bool, true, false, cond}
 use mathlib.Core.List.{List, [], _∷_, _++_}
-use Prim.Native.Nat.{ℕ, zero, suc, _+_, _*_, _/_, _%_, _≤_, _<_}
+use Prim.Native.Nat.{ℕ, zero, suc, _+_, _*_, _/_, _%_, _^_, _≤_, _<_}
 use native.Mathlib.Nat.{not-suc-le-zero}
 use native.Mathlib.Omega.{arith}
 use lib.ListN.{length, length-append}
@@ -67,9 +67,13 @@ most-more m k f n h = go (ltb n 10) refl
     go true e = omega (arith, length-low n (ltb-true n 10 e))
     go false e = omega (arith, length-high n (ltb-false n 10 e), f (n / 10) (omega arith))
 
+-- a number below 10 to the power of w, which is not 0, has at most w digits
+pub length-within : (w n : ℕ) → n < 10 ^ suc w → length (decimal n) ≤ suc w
+length-within zero n h = omega (arith, length-low n (omega arith))
+length-within (suc w) n h = omega (arith, most-more (10 ^ suc w) (suc w) (length-within w) n (omega arith))
+
 pub length-most : (n : ℕ) → n < 65536 → length (decimal n) ≤ 5
-length-most n h =
-    most-more 10000 4 (most-more 1000 3 (most-more 100 2 (most-more 10 1 (λ i l. omega (arith, length-low i l))))) n (omega arith)
+length-most n h = length-within 4 n (omega arith)
 
 -- digits counted from the last: `count` and those of `rest` are one more than those of n
 module _ (n rest count : ℕ) (k : count + length (decimal rest) ≡ length (decimal n) + 1) where

@@ -6,7 +6,7 @@ use native.Mathlib.Omega.{arith}
 use lib.ListN.{length, length-append}
 use Rattle.printing.specs.Text.{decimal, word, line}
 use Rattle.printing.specs.Placed.{placed}
-use Rattle.printing.proofs.LawsPlaced.{placed-more, placed-length}
+use Rattle.printing.proofs.LawsPlaced.{placed-then, placed-length}
 use Rattle.printing.proofs.LawsWritten.{word-length}
 
 module _ (a b c : ℕ) where
@@ -40,17 +40,10 @@ module _ (a b c : ℕ) where
         line-end last next k = omega (arith, line-words, word-length c 10, word-length c last)
 
         two-words : out₂ ≡ placed out₀ at (word a 32 ++ word b 32)
-        two-words =
-            h
-            ∙ ap (λ l. placed l second (word b 32)) f
-            ∙ ap (λ i. placed (placed out₀ at (word a 32)) i (word b 32)) e
-            ∙ placed-more out₀ at (word a 32) (word b 32) (omega (arith, line-words))
+        two-words = placed-then out₀ at (word a 32) f e (word b 32) (omega (arith, line-words)) h
 
         pub line-done : (out₃ : List ℕ) → out₃ ≡ placed out₂ third (word c 10) → out₃ ≡ placed out₀ at (line a b c)
         unfolding line
         line-done out₃ k =
-            let i : third ≡ at + length (word a 32 ++ word b 32) = omega (arith, length-append (word a 32) (word b 32)) in
-            k
-            ∙ ap (λ l. placed l third (word c 10)) two-words
-            ∙ ap (λ j. placed (placed out₀ at (word a 32 ++ word b 32)) j (word c 10)) i
-            ∙ placed-more out₀ at (word a 32 ++ word b 32) (word c 10) (omega (arith, length-append (word a 32) (word b 32), length-append (word a 32 ++ word b 32) (word c 10)))
+            let both = length-append (word a 32) (word b 32) in
+            placed-then out₀ at (word a 32 ++ word b 32) two-words (omega (arith, both)) (word c 10) (omega (arith, both, length-append (word a 32 ++ word b 32) (word c 10))) k

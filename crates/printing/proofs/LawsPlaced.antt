@@ -1,5 +1,5 @@
 -- Laws of a text that is put into a buffer: byte by byte from either end, one text after another, and at the front. Assumes nothing.
-use mathlib.Core.Path.{_≡_, ap, sym, _∙_}
+use mathlib.Core.Path.{_≡_, ap, ap₂, sym, _∙_}
 use mathlib.Core.List.{List, [], _∷_, _++_, append-assoc, append-nil}
 use Prim.Native.Nat.{ℕ, suc, _+_, _≤_, _<_}
 use native.Mathlib.Nat.{zero-add, add-zero}
@@ -67,6 +67,16 @@ module _ (out : List ℕ) (at : ℕ) where
           ap (λ j. drop k (set out j v)) (sym (add-zero k))
           ∙ drop-set-add k out 0 v
           ∙ ap (λ r. set r 0 v) (drop-cons out k 0 l)
+
+-- a text written after another, and a byte after a text
+module _ (out : List ℕ) (at : ℕ) {out₁ : List ℕ} {next : ℕ} (s : List ℕ) (e : out₁ ≡ placed out at s) (n : next ≡ at + length s) where
+  pub placed-then : {out₂ : List ℕ} (t : List ℕ) → at + length s + length t ≤ length out → out₂ ≡ placed out₁ next t → out₂ ≡ placed out at (s ++ t)
+  placed-then t h f = f ∙ ap₂ (λ l i. placed l i t) e n ∙ placed-more out at s t h
+
+  pub placed-snoc : (v : ℕ) → at + length s < length out → set out₁ next v ≡ placed out at (s ++ (v ∷ []))
+  placed-snoc v h =
+      let long = placed-length out at s (omega arith) in
+      placed-then (v ∷ []) (omega arith) (placed-one out₁ next v (omega (arith, ap length e, long)))
 
 pub placed-front : (out text : List ℕ) → placed out 0 text ≡ text ++ drop (length text) out
 unfolding placed

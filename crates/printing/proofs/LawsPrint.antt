@@ -11,7 +11,7 @@ use Rattle.printing.specs.declared.Printed.the-variants.{Written, Short,
 use Rattle.printing.specs.Text.{line, rowsText, listed, textOf}
 use Rattle.printing.specs.Outcome.{leaves, put, hasRows, printOf}
 use Rattle.printing.specs.Placed.{placed}
-use Rattle.printing.proofs.LawsPlaced.{placed-more, placed-front}
+use Rattle.printing.proofs.LawsPlaced.{placed-then, placed-front}
 
 -- the nodes that have a line
 module _ (number nodes : ℕ) where
@@ -89,8 +89,4 @@ module _ (number step place nodes : ℕ) (rows out : List ℕ) (count : ℕ) (e 
           ∙ is-put
         where
           whole : out₂ ≡ placed out 0 (line number step place ++ rowsText rows count)
-          whole =
-              w
-              ∙ ap (λ s. placed s next (rowsText rows count)) o
-              ∙ ap (λ i. placed (placed out 0 (line number step place)) i (rowsText rows count)) n
-              ∙ placed-more out 0 (line number step place) (rowsText rows count) (omega arith)
+          whole = placed-then out 0 (line number step place) o n (rowsText rows count) (omega arith) w

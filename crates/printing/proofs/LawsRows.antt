@@ -9,7 +9,7 @@ use native.Mathlib.Omega.{arith}
 use lib.ListN.{length, getD, length-append}
 use Rattle.printing.specs.Text.{line, rowsText}
 use Rattle.printing.specs.Placed.{placed}
-use Rattle.printing.proofs.LawsPlaced.{placed-none, placed-more}
+use Rattle.printing.proofs.LawsPlaced.{placed-none, placed-then}
 
 module _ (rows : List ℕ) where
   rows-none : rowsText rows 0 ≡ []
@@ -58,10 +58,7 @@ module _ (rows : List ℕ) where
 
     pub rows-more : (out out₁ : List ℕ) → out ≡ placed out₀ at (rowsText rows i) → out₁ ≡ placed out next (line i x y) → out₁ ≡ placed out₀ at (rowsText rows (i + 1))
     rows-more out out₁ f g =
-        g
-        ∙ ap (λ l. placed l next (line i x y)) f
-        ∙ ap (λ j. placed (placed out₀ at (rowsText rows i)) j (line i x y)) e
-        ∙ placed-more out₀ at (rowsText rows i) (line i x y) (omega (arith, next-long i x y ex ey, up-to nodes i h))
+        placed-then out₀ at (rowsText rows i) f e (line i x y) (omega (arith, next-long i x y ex ey, up-to nodes i h)) g
         ∙ ap (placed out₀ at) (sym (rows-next i x y ex ey))
 
   -- after the last line

@@ -7,7 +7,7 @@ use lib.ListN.{length, set, length-append}
 use Rattle.printing.specs.Text.{decimal, word}
 use Rattle.printing.specs.Placed.{placed}
 use Rattle.printing.proofs.LawsDecimal.{decimal-low, decimal-high, length-low, length-high, length-some}
-use Rattle.printing.proofs.LawsPlaced.{placed-one, placed-more, placed-last, placed-length}
+use Rattle.printing.proofs.LawsPlaced.{placed-one, placed-last, placed-snoc}
 
 -- where the first digits written stand, before any is
 pub end-some : (at n count : ℕ) → count ≡ length (decimal n) → 1 ≤ at + count
@@ -65,10 +65,4 @@ module _ (n last : ℕ) where
 
   pub word-done : (out₀ out : List ℕ) (at next : ℕ) → at + length (word n last) ≤ length out₀ → next ≡ at + length (decimal n) → out ≡ placed out₀ at (decimal n) → set out next last ≡ placed out₀ at (word n last)
   unfolding word
-  word-done out₀ out at next h e f =
-      let room : at + length (decimal n) < length out₀ = omega (arith, length-append (decimal n) (last ∷ [])) in
-      let long = placed-length out₀ at (decimal n) (omega arith) in
-      ap (λ l. set l next last) f
-      ∙ ap (λ i. set (placed out₀ at (decimal n)) i last) e
-      ∙ placed-one (placed out₀ at (decimal n)) (at + length (decimal n)) last (omega arith)
-      ∙ placed-more out₀ at (decimal n) (last ∷ []) (omega arith)
+  word-done out₀ out at next h e f = placed-snoc out₀ at (decimal n) f e last (omega (arith, length-append (decimal n) (last ∷ [])))

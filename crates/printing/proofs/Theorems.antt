@@ -9,16 +9,8 @@ use native.Mathlib.Omega.{arith}
 use lib.ListN.{length, getD, length-append, List·getD-append}
 use lib.Seq.{getD-at}
 use Rattle.printing.specs.Text.{digit, digits, decimal, word, line, rowsText, listed, textOf}
+use Rattle.printing.specs.Digits.{Digit, valueFrom, value}
 use Rattle.printing.proofs.LawsDecimal.{by-digits}
-
--- the number that digits give where v is read already
-unfoldable pub valueFrom : ℕ → List ℕ → ℕ
-valueFrom v [] = v
-valueFrom v (c ∷ s) = valueFrom (10 * v + (c - 48)) s
-
--- the number that digits give
-abbrev pub value : List ℕ → ℕ
-value s = valueFrom 0 s
 
 value-last : (v : ℕ) (s : List ℕ) (c : ℕ) → valueFrom v (s ++ (c ∷ [])) ≡ 10 * valueFrom v s + (c - 48)
 unfolding valueFrom
@@ -38,11 +30,6 @@ zero-in-front n =
     (λ m s h r. (simp length-append (omega arith), λ e. absurd (omega (arith, r .1 (sym (List·getD-append s (digit (m % 10) ∷ []) 0 0 (r .0)) ∙ e)))))
     n
     .1
-
--- a byte from `0` to `9`
-pub record Digit (c : ℕ) : Type 0 where
-  pub low : 48 ≤ c
-  pub high : c ≤ 57
 
 pub digit-each : (n i : ℕ) → i < length (decimal n) → Digit (getD (decimal n) i 0)
 digit-each =

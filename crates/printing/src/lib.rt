@@ -1,6 +1,6 @@
 // An answer and the rows of the nodes, written to a buffer as text.
-mod lines;
-mod numbers;
+pub mod lines;
+pub mod numbers;
 
 use crate::lines::line_length;
 use crate::lines::rows_length;

@@ -26,7 +26,7 @@ pub(crate) fn write_line(out: &mut [u8], at: usize, a: u16, b: u16, c: u16) -> u
 }
 
 // The result in the row of the node i.
-fn result_at(rows: &[u16], i: usize) -> u16
+pub fn result_at(rows: &[u16], i: usize) -> u16
     requires { ⌜ 2 * i + 1 < length (now rows) ⌝ }
     ensures { λ r. ⌜ r ≡ getD (now (rows .entry)) (2 * i) 0 ⌝ }
 {
@@ -34,7 +34,7 @@ fn result_at(rows: &[u16], i: usize) -> u16
 }
 
 // The binder in the row of the node i.
-fn binder_at(rows: &[u16], i: usize) -> u16
+pub fn binder_at(rows: &[u16], i: usize) -> u16
     requires { ⌜ 2 * i + 1 < length (now rows) ⌝ }
     ensures { λ r. ⌜ r ≡ getD (now (rows .entry)) (2 * i + 1) 0 ⌝ }
 {

@@ -6,7 +6,7 @@ ghost use Rattle.printing.specs.Text.{decimal, word};
 ghost use Rattle.printing.specs.Placed.{placed};
 
 // How many digits the number has.
-pub(crate) fn decimal_length(n: u16) -> usize
+pub fn decimal_length(n: u16) -> usize
     ensures { λ r. ⌜ (r ≡ length (decimal n)) × (r ≤ 5) ⌝ }
 {
     let mut rest = n;
@@ -19,7 +19,7 @@ pub(crate) fn decimal_length(n: u16) -> usize
 }
 
 // Writes the number's digits from `at` on, the last one first.
-fn write_decimal(out: &mut [u8], at: usize, n: u16) -> usize
+pub fn write_decimal(out: &mut [u8], at: usize, n: u16) -> usize
     requires { ⌜ at + length (decimal n) ≤ length (now out) ⌝ }
     ensures { λ r. ⌜ r ≡ at + length (decimal n) ⌝ }
     ensures { λ _. ⌜ now (out .exit) ≡ placed (now (out .entry)) at (decimal n) ⌝ }
@@ -37,7 +37,7 @@ fn write_decimal(out: &mut [u8], at: usize, n: u16) -> usize
 }
 
 // Writes the number and the byte `last` after it.
-pub(crate) fn write_word(out: &mut [u8], at: usize, n: u16, last: u8) -> usize
+pub fn write_word(out: &mut [u8], at: usize, n: u16, last: u8) -> usize
     requires { ⌜ at + length (word n last) ≤ length (now out) ⌝ }
     ensures { λ r. ⌜ r ≡ at + length (word n last) ⌝ }
     ensures { λ _. ⌜ now (out .exit) ≡ placed (now (out .entry)) at (word n last) ⌝ }

@@ -1,18 +1,17 @@
 -- Where expressions stand: every node of an expression's kind within a tree is the top of an expression in it. So in a derivation of a file
 -- every such node has a type, and its row is a number of that type. Assumes nothing.
 use mathlib.Core.Path.{_≡_, refl, subst}
-use mathlib.Core.Bool.{Bool, true, false}
+use mathlib.Core.Bool.{true, false}
 use mathlib.Core.List.{List, [], _∷_}
-use Prim.Native.Nat.{ℕ, _+_, _*_, _≤_, _<_}
+use Prim.Native.Nat.{ℕ, _+_, _*_, _<_}
 use native.Mathlib.Omega.{arith}
 use lib.ListN.{length, getD}
-use lib.Dec.{ltb}
-use borrow.Author.Tests.{ltb-true, ltb-false}
-use Rattle.oat.specs.Tables.{Tables, nodeAt}
+use Rattle.oat.specs.Tables.{Tables}
 use Rattle.oat.specs.Types.{Ty}
 use Rattle.oat.specs.Syntax.{Expr, null, literal, name, arrayLiteral, defaultArray, arrayWith, index, lengthOf, structLiteral, field, call, unary, binary, Exprs, none, also, Inits, noInit, init, targetExpr, Vars, noVar, nextVar, Condition, noCondition, condition, Stmt, assign, var, returnValue, returnVoid, callStmt, ifElse, ifNull, for, while, Step, noStep, step, Block, block, Stmts, empty, then, Decl, global, function, size, sizes, sizeInits, sizeTarget, sizeVars, sizeCondition, sizeStmt, sizeStep, sizeBlock, sizeStmts, sizeDecl, sizeDecls}
 use Rattle.oat.specs.Nodes.{Node, Stands, StandAll, InitsStand, VarsStand, ConditionStands, StmtStands, StepStands, BlockStands, StmtsStand, ParametersStand, DeclsStand, isExpressionKind, isExpression}
 use Rattle.oat.specs.ProgramFile.{Program}
+use Rattle.oat.proofs.LawsKinds.{Each as EachNode, no-node, until, join, top as top-node}
 use Rattle.typing_rules.specs.Contexts.{Context}
 use Rattle.typing_rules.specs.Labels.{gives, Labels}
 use Rattle.typing_rules.specs.Rules.{ExprRule, typ-null, typ-literal, typ-local, typ-global, typ-carr, typ-newarray, typ-newarrayinit, typ-index, typ-length, typ-structex, typ-field, typ-call, typ-bop, typ-eq, typ-uop}
@@ -26,37 +25,19 @@ use Rattle.typing_rules.proofs.LawsRowsAt.{HasRow, of-global, of-block,
 use Rattle.typing_rules.proofs.RowsTheorem.{global-in, body-in}
 
 -- of every node of an expression's kind, from n on and before m, P holds
-pub record Each (T : Tables) (P : ℕ → Type 0) (n m : ℕ) : Type 0 where
-  pub at : (i : ℕ) → n ≤ i → i < m → isExpression T i ≡ true → P i
+abbrev pub Each : Tables → (ℕ → Type 0) → ℕ → ℕ → Type 0
+Each T P n m = EachNode (λ i. isExpression T i ≡ true → P i) n m
 
--- no node, an end written otherwise, and nodes before those that come next
-module _ {T : Tables} {P : ℕ → Type 0} where
-  no-node : {n : ℕ} → Each T P n n
-  no-node = record { at = λ i l h e. absurd (omega arith) }
-
-  until : {n k m : ℕ} → k ≡ m → Each T P n k → Each T P n m
-  until e p = record { at = λ i l h. p .at i l (omega arith) }
-
-  join : {n k m : ℕ} → Each T P n k → Each T P k m → Each T P n m
-  join {n} {k} {m} p q = record { at = λ i l h e. go i l h e (ltb i k) refl }
-    where
-      go : (i : ℕ) → n ≤ i → i < m → isExpression T i ≡ true → (b : Bool) → ltb i k ≡ b → P i
-      go i l h e true f = p .at i l (ltb-true i k f) e
-      go i l h e false f = q .at i (ltb-false i k f) h e
-
+module _ (T : Tables) (P : ℕ → Type 0) where
   -- an expression's node before others, and one of another kind
   top : {n k m : ℕ} → P n → k ≡ m → Each T P (n + 1) k → Each T P n m
-  top p e q = join (record { at = λ i l h k. subst P (omega arith) p }) (until e q)
+  top p e q = top-node (λ k. p) e q
 
   other : {n k m d x t c : ℕ} → Node T n d x t c → isExpressionKind d ≡ false → k ≡ m → Each T P (n + 1) k → Each T P n m
   unfolding isExpression
-  other {n} v f e q = join (record { at = λ i l h k. absurd (never i (omega arith) k) }) (until e q)
-    where
-      never : (i : ℕ) → n ≡ i → isExpressionKind (nodeAt T i .kind) ≡ true → ⊥
-      never i s k = let z : _≡_ {A = ℕ} 0 1 = cc (s, v .kind-is) in omega arith
+  other v f e q = top-node (λ k. absurd (let z : _≡_ {A = ℕ} 0 1 = cc (v .kind-is) in omega arith)) e q
 
--- an expression's nodes are its top, field initializers' and those of the expressions in it
-module _ (T : Tables) (P : ℕ → Type 0) where
+  -- an expression's nodes are its top, field initializers' and those of the expressions in it
   mutual
     unfolding isExpressionKind
 
@@ -196,13 +177,13 @@ module _ {T : Tables} {D : Labels Ty} where
   each-decl P (global x a ∷ ds) n h g b f =
       until (omega arith)
       (join
-      (other (h .0 .0) refl (omega arith)
+      (other T P (h .0 .0) refl (omega arith)
       (each-expr T P a (n + 1) (h .0 .2) (λ m u w. let (k, l) = expr-holds a w in f m (of-global (omega (arith, k)) l) (value-type (g _ first-step .1) w))))
       (each-decl P ds (n + sizeDecl (global x a)) (h .1) (λ s i. g s (in-later i)) b (λ m r t. f m (of-others r) t)))
   each-decl P (function x t ps c ∷ ds) n h g b f =
       until (omega arith)
       (join
-      (other (h .0 .0) refl (omega arith)
+      (other T P (h .0 .0) refl (omega arith)
       (join (no-parameter T P ps (n + 1) (h .0 .3))
       (each-block T P c (n + 1 + length ps) (h .0 .4) (λ m u w. let (k, l) = block-holds c w in f m (of-block k l) (block-type (b _ first-step .1) w)))))
       (each-decl P ds (n + sizeDecl (function x t ps c)) (h .1) g (λ s i. b s (in-later i)) (λ m r t. f m (of-others r) t)))
