@@ -16,7 +16,10 @@ With --names the files are about the names of struct literals, with --endless ab
 blocks, with --pairs about subtype questions on large types. The sum of compared pairs is a line of every answer.
 
 With --tallies the expressions of each file are tallied, in buffers that are long enough or too short, and the program is tally_vectors. Most files are
-accepted and have equal types under several numbers."""
+accepted and have equal types under several numbers.
+
+With --pages the rows of each file are printed, into a buffer that is long enough or too short, and the program is page_vectors. Every byte of the
+buffer is compared. Most files are accepted, and many have full pages or one row more or fewer."""
 import argparse
 import collections
 import itertools
@@ -30,8 +33,8 @@ Question = collections.namedtuple("Question", "make batch program unpack line")
 
 
 def answers(command, packed):
-    """What a program prints for each packed file."""
-    out = subprocess.run(command, input=packed, stdout=subprocess.PIPE, check=True).stdout.decode()
+    """What a program prints for each packed file, a character for each byte."""
+    out = subprocess.run(command, input=packed, stdout=subprocess.PIPE, check=True).stdout.decode("latin-1")
     return out.split("--\n")[:-1]
 
 
@@ -66,6 +69,15 @@ def unpack_tallies(packed):
         at += 20 + length
 
 
+def unpack_pages(packed):
+    """Each file with its setting, parts, depth and the length of the page's buffer."""
+    at = 0
+    while at < len(packed):
+        length = number(packed, at)
+        yield packed[at + 16:at + 16 + length], tuple(number(packed, at + 4 * k) for k in range(1, 4))
+        at += 16 + length
+
+
 CHECK = Question("gen", "batch", "check_vectors", unpack, 0)
 NAMES = CHECK._replace(make="gennames")
 ENDLESS = CHECK._replace(make="genendless")
@@ -73,6 +85,7 @@ LEVELS = CHECK._replace(make="genlevels")
 PAIRS = CHECK._replace(make="genpairs")
 LIMITS = Question("genlimits", "limitbatch", "limit_vectors", unpack_limited, 2)
 TALLIES = Question("gentallies", "tallybatch", "tally_vectors", unpack_tallies, 0)
+PAGES = Question("genpages", "pagebatch", "page_vectors", unpack_pages, 0)
 
 
 def refusal(said, question):
@@ -122,8 +135,9 @@ def test_claim(cases, found, counts):
 def under(setting):
     if not setting:
         return ""
-    lengths = f", tallies of {setting[2]} and {setting[3]} numbers" if len(setting) > 2 else ""
-    return f" under parts {setting[0]} and depth {setting[1]}{lengths}"
+    parts, depth, *lengths = setting
+    lent = ("", ", a page of {} bytes", ", tallies of {} and {} numbers")[len(lengths)].format(*lengths)
+    return f" under parts {parts} and depth {depth}{lent}"
 
 
 def compare(given, question, seed, many, counts):
@@ -160,12 +174,13 @@ def main():
     sorts.add_argument("--levels", action="store_true", help="files about names in inner blocks")
     sorts.add_argument("--pairs", action="store_true", help="files about subtype questions on large types")
     sorts.add_argument("--tallies", action="store_true", help="tallies of the expressions of each file")
-    words.add_argument("--program", help="target/bin/check_vectors, with --limits target/bin/limit_vectors, with --tallies target/bin/tally_vectors")
+    sorts.add_argument("--pages", action="store_true", help="a printed page of the rows of each file")
+    words.add_argument("--program", help="target/bin/check_vectors, with --limits limit_vectors, with --tallies tally_vectors, with --pages page_vectors")
     words.add_argument("--peer", default=os.path.join(ROOT, "tests", "peer", "target", "release", "oat_peer"), help="the peer's program")
     words.add_argument("--keep", default="different.oat", help="where a file that differs is kept (different.oat)")
     given = words.parse_args()
     asked = ((given.limits, LIMITS), (given.names, NAMES), (given.endless, ENDLESS), (given.levels, LEVELS), (given.pairs, PAIRS),
-             (given.tallies, TALLIES), (True, CHECK))
+             (given.tallies, TALLIES), (given.pages, PAGES), (True, CHECK))
     question = next(question for chosen, question in asked if chosen)
     given.program = given.program or os.path.join(ROOT, "target", "bin", question.program)
     counts, done = collections.Counter(), 0
@@ -177,7 +192,7 @@ def main():
             return 1
         done += many
     settings = f", each under {SETTINGS} settings" if given.limits else ""
-    rows = "" if given.tallies else f", with {counts['rows']} rows"
+    rows = "" if given.tallies or given.pages else f", with {counts['rows']} rows"
     print(f"{done} files from seed {given.seed}{settings}: every line the same; {counts[0]} accepted{rows}")
     print("refused: " + ", ".join(f"{counts[n]} under {n}" for n in range(1, 26) if counts[n]))
     if given.limits:

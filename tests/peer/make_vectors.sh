@@ -12,5 +12,7 @@ cp tests/vectors/limits.bin crates/limit_vectors/stdin
 cp tests/vectors/limits.txt crates/limit_vectors/stdout
 cp tests/vectors/tallies.bin crates/tally_vectors/stdin
 cp tests/vectors/tallies.txt crates/tally_vectors/stdout
+cp tests/vectors/pages.bin crates/page_vectors/stdin
+cp tests/vectors/pages.txt crates/page_vectors/stdout
 tests/reading/pack.sh
 tests/buffers/pack.py

@@ -1,8 +1,8 @@
 //! An independent checker for Oat v.2 program files, after document 01 ("The
 //! Oat v.2 checker for pan programs"), document 001 (the specification) and
-//! document 02's requests (i), loops that never end, (iv), tallies of expressions,
-//! (v), zero bytes, (vi), the same name in an inner block, (viii), counts of
-//! compared pairs, and (xi), limits as parameters.
+//! document 02's requests (i), loops that never end, (iii), a printed page of the
+//! rows, (iv), tallies of expressions, (v), zero bytes, (vi), the same name in an
+//! inner block, (viii), counts of compared pairs, and (xi), limits as parameters.
 
 pub mod cases;
 mod empty;
@@ -13,6 +13,7 @@ pub mod generator;
 mod levels;
 mod limits;
 pub mod mutants;
+mod pages;
 mod pairs;
 pub mod print;
 pub mod program;
@@ -24,6 +25,7 @@ mod typing;
 pub mod vectors;
 
 pub use limits::{Limits, measures};
+pub use pages::{Paged, page, page_length, page_under};
 pub use tallies::{Tallied, tally, tally_lengths, tally_under};
 
 use empty::with_types;

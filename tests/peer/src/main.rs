@@ -9,23 +9,28 @@ use std::io::{Read, Write, stdin, stdout};
 use std::time::Instant;
 
 const USAGE: &str = "oat_peer check [PARTS DEPTH] | sub A B [PARTS DEPTH] | read [PARTS DEPTH] | tally [PARTS DEPTH] < FILE
+oat_peer page [PARTS DEPTH] < FILE
 oat_peer batch | readbatch | subbatch | bench N | numbers < MANY
 oat_peer limitbatch < CASES
 oat_peer tallybatch < TALLIES
+oat_peer pagebatch < PAGES
 oat_peer gen | gentypes | gennames | genendless | genlevels | genpairs SEED COUNT > MANY
 oat_peer genlimits SEED COUNT > CASES
 oat_peer gentallies SEED COUNT > TALLIES
+oat_peer genpages SEED COUNT > PAGES
 oat_peer vectors DIRECTORY | mutants DIRECTORY
 PARTS and DEPTH are 200 and 100 where they are left out.
 MANY: for each file 4 bytes length, low first, then the file; asked under 200 parts and depth 100.
 CASES: for each case 4 bytes length of its file, 4 bytes parts, 4 bytes depth, all low first, then the file.
 TALLIES: the same with 4 bytes length of the buffer by type and 4 bytes length of that by declaration behind the depth.
+PAGES: as CASES with 4 bytes length of the page's buffer behind the depth.
 sub prints the answer and its count of pairs, batch the line `pairs N` behind each answer's rows, subbatch the counts
 of a line's pairs in a line behind it. limitbatch prints `read N`, `sub` with answer and count for each of the pairs 0 0,
 4 4, 4 5 and 600 0, and what batch prints. tallybatch prints the answer, `types` with all numbers of the buffer by type
 after the call, 7777 each before it, and `declarations` with those of the other, 8888 before; tally, for an accepted
-file, as many as there are types and declarations. Each answer of a batch but readbatch ends with `--`. numbers prints
-how many files have each number.";
+file, as many as there are types and declarations. page prints number, step, place and bytes and, for an accepted
+file, the page; pagebatch the same line, all bytes of the page's buffer after the call, # each before it, and a line
+end. Each answer of a batch but readbatch ends with `--`. numbers prints how many files have each number.";
 
 fn main() {
     let arguments: Vec<String> = std::env::args().skip(1).collect();
@@ -47,11 +52,13 @@ fn run(words: &[&str]) -> Option<Vec<u8>> {
         }
         ["read", limits @ ..] => print::read_with(Limited { limits: set(limits)?, file: &input() }, Exact),
         ["tally", limits @ ..] => print::tally(Limited { limits: set(limits)?, file: &input() }),
+        ["page", limits @ ..] => print::page(Limited { limits: set(limits)?, file: &input() }),
         ["batch"] => each(Question::Check),
         ["readbatch"] => each(Question::Read),
         ["subbatch"] => each(Question::Sub),
         ["limitbatch"] => each(Question::Limits),
         ["tallybatch"] => each(Question::Tallies),
+        ["pagebatch"] => each(Question::Pages),
         ["bench", n] => bench(n.parse().ok()?),
         ["numbers"] => numbers(),
         ["vectors", directory] => store(directory),
@@ -59,6 +66,7 @@ fn run(words: &[&str]) -> Option<Vec<u8>> {
         ["gen", seed, count] => return Some(generator::programs(seed.parse().ok()?, count.parse().ok()?)),
         ["genlimits", seed, count] => return Some(generator::limited(seed.parse().ok()?, count.parse().ok()?)),
         ["gentallies", seed, count] => return Some(generator::tallies(seed.parse().ok()?, count.parse().ok()?)),
+        ["genpages", seed, count] => return Some(generator::pages(seed.parse().ok()?, count.parse().ok()?)),
         ["gentypes", seed, count] => return Some(generator::type_tables(seed.parse().ok()?, count.parse().ok()?)),
         ["genendless", seed, count] => return Some(generator::endless(seed.parse().ok()?, count.parse().ok()?)),
         ["genlevels", seed, count] => return Some(generator::levels(seed.parse().ok()?, count.parse().ok()?)),
@@ -84,7 +92,7 @@ fn input() -> Vec<u8> {
     bytes
 }
 
-/// Answers packed files, or packed cases of limits or of tallies.
+/// Answers packed files, or packed cases of limits, of tallies or of pages.
 fn each(question: Question) -> String {
     question.unpack(&input()).into_iter().map(|case| question.show(case)).collect()
 }

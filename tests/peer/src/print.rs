@@ -2,7 +2,8 @@
 //! ends with byte 10.
 
 use crate::mutants::{Exact, Mutant, Rules};
-use crate::{Limits, check_under, node_count, read_under, subtype_under, subtypes, tally_lengths, tally_under};
+use crate::{Limits, Paged, check_under, node_count, page_length, page_under, read_under};
+use crate::{subtype_under, subtypes, tally_lengths, tally_under};
 use std::fmt::Write;
 
 /// A file and the limits that it is asked under.
@@ -20,7 +21,8 @@ impl<'a> Limited<'a> {
 }
 
 /// A file under its limits, and the lengths of two more buffers, those of the
-/// tallies by type and by declaration. Other questions take no such buffers.
+/// tallies by type and by declaration. The page has one buffer, the first; other
+/// questions have none.
 #[derive(Clone, Copy)]
 pub struct Lent<'a> {
     pub asked: Limited<'a>,
@@ -32,6 +34,9 @@ const LONGEST: usize = 8192;
 
 /// What the buffers of the tallies hold before they are lent.
 const PAINTS: [u16; 2] = [7777, 8888];
+
+/// What the buffer of the page holds before it is lent.
+const PAGE_PAINT: u8 = b'#';
 
 /// The answer, then, if accepted, each node's number and row.
 pub fn check(file: &[u8]) -> String {
@@ -136,6 +141,32 @@ fn tallies_in<R: Rules>(Lent { asked, lengths }: Lent, length: usize, rules: R) 
     [answer, numbers("types", &by_type), numbers("declarations", &by_declaration)]
 }
 
+/// The answer of the page, then all bytes of its buffer after the call and a line end.
+pub fn pages_with<R: Rules>(case: Lent, rules: R) -> String {
+    let (told, held) = page_in(case.asked, case.lengths[0], LONGEST, rules);
+    format!("{}{held}\n", paged(told))
+}
+
+/// The answer of the page and, if accepted, the page.
+pub fn page(asked: Limited) -> String {
+    let (told, held) = page_in(asked, page_length(asked.file), 2 * node_count(asked.file), Exact);
+    if told.number == 0 { paged(told) + &held } else { paged(told) }
+}
+
+/// The answer's line: number, step, place and bytes.
+fn paged(told: Paged) -> String {
+    format!("{} {} {} {}\n", told.number, told.step, told.place, told.bytes)
+}
+
+/// The answer of the page and what its buffer of a length then holds, with rows and
+/// work of a length.
+fn page_in<R: Rules>(asked: Limited, length: usize, numbers: usize, rules: R) -> (Paged, String) {
+    let [mut rows, mut work] = [vec![0; numbers], vec![0; numbers]];
+    let mut out = vec![PAGE_PAINT; length];
+    let told = page_under(asked.file, asked.limits, [&mut rows, &mut work], &mut out, rules);
+    (told, String::from_utf8(out).expect("the page is a text"))
+}
+
 /// A line of numbers behind a word.
 fn numbers(word: &str, numbers: &[u16]) -> String {
     let mut line = word.to_string();
@@ -186,6 +217,17 @@ pub fn unpack_tallies(many: &[u8]) -> Vec<Lent<'_>> {
     cases.map(|(numbers, file)| lent(numbers, file)).collect()
 }
 
+/// Splits packed cases of pages: as those of limits with 4 bytes for the length of
+/// the page's buffer behind the depth.
+pub fn unpack_pages(many: &[u8]) -> Vec<Lent<'_>> {
+    let cases = split(many).into_iter();
+    let lent = |[parts, depth, length]: [usize; 3], file| Lent {
+        asked: Limited { file, limits: Limits { parts, depth } },
+        lengths: [length, 0],
+    };
+    cases.map(|(numbers, file)| lent(numbers, file)).collect()
+}
+
 /// Splits files that have some numbers behind their length, each of 4 bytes, low first.
 fn split<const N: usize>(mut many: &[u8]) -> Vec<([usize; N], &[u8])> {
     let mut cases = Vec::new();
@@ -209,6 +251,12 @@ pub fn pack_tallies<F: AsRef<[u8]>>(cases: impl IntoIterator<Item = (F, Limits, 
     let numbers = |(file, limits, [types, declarations]): (F, Limits, [usize; 2])| {
         ([limits.parts, limits.depth, types, declarations], file)
     };
+    join(cases.into_iter().map(numbers))
+}
+
+/// Packs cases as `unpack_pages` reads them.
+pub fn pack_pages<F: AsRef<[u8]>>(cases: impl IntoIterator<Item = (F, Limits, usize)>) -> Vec<u8> {
+    let numbers = |(file, limits, length): (F, Limits, usize)| ([limits.parts, limits.depth, length], file);
     join(cases.into_iter().map(numbers))
 }
 

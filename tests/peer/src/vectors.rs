@@ -1,10 +1,11 @@
 //! The stored vectors: which files they hold, and what catches a mutant.
 
 use crate::mutants::{ALL, Exact, Mutant, Part};
-use crate::print::{self, Lent, Limited, pack, pack_limited, pack_tallies, unpack, unpack_limited, unpack_tallies};
-use crate::{Limits, cases, generator, measures, read, tally_lengths};
+use crate::print::{self, Lent, Limited, pack, pack_limited, pack_pages, pack_tallies};
+use crate::print::{unpack, unpack_limited, unpack_pages, unpack_tallies};
+use crate::{Limits, cases, check, generator, measures, node_count, page_length, read, tally_lengths};
 
-/// The five questions that vectors are stored for.
+/// The six questions that vectors are stored for.
 #[derive(Clone, Copy, PartialEq, Eq, Debug)]
 pub enum Question {
     Check,
@@ -12,10 +13,11 @@ pub enum Question {
     Sub,
     Limits,
     Tallies,
+    Pages,
 }
 
-pub const QUESTIONS: [Question; 5] =
-    [Question::Check, Question::Read, Question::Sub, Question::Limits, Question::Tallies];
+pub const QUESTIONS: [Question; 6] =
+    [Question::Check, Question::Read, Question::Sub, Question::Limits, Question::Tallies, Question::Pages];
 
 /// Packed cases of each question.
 pub type Packed = [Vec<u8>; QUESTIONS.len()];
@@ -32,14 +34,16 @@ impl Question {
             Question::Sub => "sub",
             Question::Limits => "limits",
             Question::Tallies => "tallies",
+            Question::Pages => "pages",
         }
     }
 
-    /// The cases of stored bytes; only those of `Limits` and `Tallies` have limits
-    /// of their own, and only the latter lengths of buffers.
+    /// The cases of stored bytes; only those of `Limits`, `Tallies` and `Pages` have
+    /// limits of their own, and only the last two lengths of buffers.
     pub fn unpack(self, packed: &[u8]) -> Vec<Lent<'_>> {
         let limited = match self {
             Question::Tallies => return unpack_tallies(packed),
+            Question::Pages => return unpack_pages(packed),
             Question::Limits => unpack_limited(packed),
             _ => unpack(packed).into_iter().map(Limited::widest).collect(),
         };
@@ -54,19 +58,21 @@ impl Question {
             Question::Sub => print::subs_with(case.asked, Exact) + "--\n",
             Question::Limits => print::limits_with(case.asked, Exact) + "--\n",
             Question::Tallies => print::tallies_with(case, Exact) + "--\n",
+            Question::Pages => print::pages_with(case, Exact) + "--\n",
         }
     }
 
     /// What a mutant prints. A mutant of reading is asked to read only, since
     /// what it lets pass is no tree that can be typed. The other questions ask
     /// under 200 and 100 alone, so mutants of limits have their own, and so have
-    /// those of tallies. Those of the empty file and of counting are asked
+    /// those of tallies and of pages. Those of the empty file and of counting are asked
     /// everything that shows them.
     fn show_mutant(self, case: Lent, mutant: Mutant, part: Part) -> Option<String> {
         let asked = case.asked;
         match (self, part) {
             (Question::Tallies, Part::Tallies | Part::Empty) => Some(print::tallies_with(case, mutant) + "--\n"),
-            (Question::Tallies, _) | (_, Part::Tallies) => None,
+            (Question::Pages, Part::Pages | Part::Empty) => Some(print::pages_with(case, mutant) + "--\n"),
+            (Question::Tallies | Question::Pages, _) | (_, Part::Tallies | Part::Pages) => None,
             (Question::Limits, Part::Limits | Part::Empty | Part::Pairs) => {
                 Some(print::limits_with(asked, mutant) + "--\n")
             }
@@ -97,6 +103,7 @@ pub fn files(question: Question) -> Vec<u8> {
         Question::Sub => pack(sub_files()),
         Question::Limits => pack_limited(limit_cases()),
         Question::Tallies => pack_tallies(tally_cases()),
+        Question::Pages => pack_pages(page_cases()),
     }
 }
 
@@ -107,7 +114,8 @@ pub fn hand_written() -> Packed {
         [typing_cases(), name_cases(), endless_cases(), level_cases(), cases_with_sums()].into_iter().flatten();
     let tables = subtyping_cases().into_iter().chain(counted_tables());
     let limited = pack_limited(limit_cases_by_hand());
-    [pack(checked), reading, pack(tables), limited, pack_tallies(tally_cases_by_hand())]
+    let [tallies, pages] = [pack_tallies(tally_cases_by_hand()), pack_pages(page_cases_by_hand())];
+    [pack(checked), reading, pack(tables), limited, tallies, pages]
 }
 
 /// Generated files alone, for each question.
@@ -122,7 +130,7 @@ pub fn generated() -> Packed {
     .concat();
     let checked = [programs.clone(), special].concat();
     let [tables, limited] = [generator::type_tables(7, 400), generator::limited(8, 1000)];
-    [checked, programs, tables, limited, generator::tallies(31, 1000)]
+    [checked, programs, tables, limited, generator::tallies(31, 1000), generator::pages(41, 1000)]
 }
 
 fn typing_cases() -> Vec<Vec<u8>> {
@@ -239,6 +247,38 @@ fn tally_cases() -> Vec<(Vec<u8>, Limits, [usize; 2])> {
     cases
 }
 
+/// Each case under each of its lengths.
+fn page_cases_by_hand() -> Vec<(Vec<u8>, Limits, usize)> {
+    let mut all = Vec::new();
+    for case in cases::pages() {
+        all.extend(case.lengths.iter().map(|&length| (case.file.clone(), case.limits, length)));
+    }
+    all
+}
+
+/// Files with more nodes are printed in some of the cases written by hand alone.
+const PRINTED: usize = 400;
+
+/// The cases written by hand, then every second accepted file of the check that is
+/// not too large, in a longer buffer than it needs, then some of the generator.
+fn page_cases() -> Vec<(Vec<u8>, Limits, usize)> {
+    let mut cases = page_cases_by_hand();
+    let printed = |file: &Vec<u8>| node_count(file) <= PRINTED && is_accepted(file);
+    for file in check_files().into_iter().filter(printed).step_by(2) {
+        let longer = page_length(&file) + 3;
+        cases.push((file, Limits::WIDEST, longer));
+    }
+    let made = generator::pages(42, 100);
+    let small = unpack_pages(&made).into_iter().filter(|case| node_count(case.asked.file) <= PRINTED / 2);
+    cases.extend(small.take(40).map(|case| (case.asked.file.to_vec(), case.asked.limits, case.lengths[0])));
+    cases
+}
+
+fn is_accepted(file: &[u8]) -> bool {
+    let size = 2 * node_count(file);
+    check(file, Limits::WIDEST, &mut vec![0; size], &mut vec![0; size]).number == 0
+}
+
 /// The packed files of less than a size.
 fn small(many: &[u8], size: usize) -> Vec<Vec<u8>> {
     unpack(many).into_iter().filter(|f| f.len() < size).map(<[u8]>::to_vec).collect()
@@ -269,7 +309,7 @@ pub fn table(packed: &Packed) -> Vec<(Mutant, Part, Counts)> {
     ALL.iter().map(|&(m, part, _)| (m, part, count(m, part))).collect()
 }
 
-const PARTS: [Part; 12] = [
+const PARTS: [Part; 13] = [
     Part::Reading,
     Part::Subtyping,
     Part::Expressions,
@@ -282,6 +322,7 @@ const PARTS: [Part; 12] = [
     Part::Levels,
     Part::Pairs,
     Part::Tallies,
+    Part::Pages,
 ];
 
 /// What `mutants` prints: a line for each part, as docs/TESTING.md has it, and a line for each mutant.

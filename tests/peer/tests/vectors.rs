@@ -42,6 +42,7 @@ fn crates_have_the_stored_files() {
         ("read_vectors", Question::Read),
         ("limit_vectors", Question::Limits),
         ("tally_vectors", Question::Tallies),
+        ("page_vectors", Question::Pages),
     ];
     for (program, question) in programs {
         for (name, end) in [("stdin", "bin"), ("stdout", "txt")] {
@@ -57,7 +58,7 @@ fn crates_have_the_stored_files() {
 #[test]
 fn sizes() {
     let size = |q, end| fs::metadata(path(q, end)).expect("a stored file").len();
-    let others = QUESTIONS.iter().filter(|&&q| !matches!(q, Question::Limits | Question::Tallies));
+    let others = QUESTIONS.iter().filter(|&&q| !matches!(q, Question::Limits | Question::Tallies | Question::Pages));
     let all: u64 = others.map(|&q| size(q, "bin") + size(q, "txt")).sum();
     assert!(all <= 4_400_000, "{all} bytes");
     assert!(size(Question::Limits, "bin") < 600_000);
@@ -67,6 +68,9 @@ fn sizes() {
     let tallies = stored(Question::Tallies);
     let within = |c: &Lent| c.asked.file.len() <= 45_068 && c.lengths[0] <= 520 && c.lengths[1] <= 4100;
     assert!(Question::Tallies.unpack(&tallies).iter().all(within));
+    assert!(size(Question::Pages, "bin") + size(Question::Pages, "txt") < 1_600_000);
+    let pages = stored(Question::Pages);
+    assert!(Question::Pages.unpack(&pages).iter().all(|c| c.asked.file.len() <= 45_068 && c.lengths[0] <= 82_000));
     assert!(print::unpack(&stored(Question::Sub)).len() >= 300);
 }
 
@@ -93,6 +97,9 @@ fn every_mutant_is_caught() {
     let of_tallies = || table.iter().filter(|m| m.1 == Part::Tallies);
     let few = of_tallies().filter(|m| m.2[4] < 5).collect::<Vec<_>>();
     assert!(of_tallies().count() >= 40 && few.is_empty(), "{few:?}");
+    let of_pages = || table.iter().filter(|m| m.1 == Part::Pages);
+    let few = of_pages().filter(|m| m.2[5] < 5).collect::<Vec<_>>();
+    assert!(of_pages().count() >= 60 && few.is_empty(), "{few:?}");
 }
 
 /// Each number but 6 has at least 2 % of the generator's files.

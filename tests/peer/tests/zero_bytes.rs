@@ -1,7 +1,7 @@
 //! Document 02, request (v): zero bytes mean types 0 to 3 and nothing else.
 
 use oat_peer::mutants::Exact;
-use oat_peer::print::{Lent, Limited, pack, pack_limited, pack_tallies};
+use oat_peer::print::{Lent, Limited, pack, pack_limited, pack_pages, pack_tallies};
 use oat_peer::program::Program;
 use oat_peer::vectors::{QUESTIONS, Question};
 use oat_peer::*;
@@ -36,6 +36,22 @@ fn run(file: &[u8], limits: Limits, [rows, work]: [usize; 2]) -> ([u16; 3], bool
     ([number, step, place], rows.iter().chain(&work).all(|&n| n == MARK))
 }
 
+/// The page in painted buffers: its answer, and what its own buffer then holds.
+/// Rows and work are as before.
+fn printed_page(file: &[u8], limits: Limits, [rows, work]: [usize; 2], length: usize) -> ([u16; 3], usize, Vec<u8>) {
+    let (mut rows, mut work, mut out) = (vec![MARK; rows], vec![MARK; work], vec![b'#'; length]);
+    let Paged { number, step, place, bytes } = page(file, limits, &mut rows, &mut work, &mut out);
+    assert!(rows.iter().chain(&work).all(|&n| n == MARK));
+    ([number, step, place], bytes, out)
+}
+
+/// What the page of zero bytes is to be in a buffer of a length, under limits in range.
+fn fifteen(length: usize) -> ([u16; 3], usize, Vec<u8>) {
+    let mut out = b"pages 0 rows 0\n".to_vec();
+    out.resize(length, b'#');
+    if length < 15 { ([18, 0, 0], 0, vec![b'#'; length]) } else { ([0; 3], 15, out) }
+}
+
 #[test]
 fn the_44_bytes() {
     assert_eq!(four().len(), 44);
@@ -54,6 +70,8 @@ fn same_answers() {
         for file in [EMPTY, &four()] {
             assert_eq!(read(file, limits), number, "{limits:?}");
             assert_eq!(run(file, limits, [LONGEST; 2]), ([number, 0, 0], true), "{limits:?}");
+            let page = if number == 0 { fifteen(20) } else { ([25, 0, 0], 0, vec![b'#'; 20]) };
+            assert_eq!(printed_page(file, limits, [LONGEST; 2], 20), page, "{limits:?}");
             assert_eq!(subtypes(file, limits, Exact).err().unwrap_or(0), number, "{limits:?}");
             assert_eq!(subtype(file, limits, 3, 4), Err(if number == 0 { 17 } else { 25 }), "{limits:?}");
         }
@@ -72,6 +90,21 @@ fn buffers_of_every_length() {
                 let limits = Limits { parts, depth };
                 assert_eq!(run(file, limits, lengths), ([number, 0, 0], true), "{lengths:?}, {limits:?}");
             }
+        }
+    }
+}
+
+/// The page in buffers of every length: 15 bytes, or 18 and nothing changed.
+#[test]
+fn pages_of_every_length() {
+    for length in (0..40).chain([LONGEST, 90_000]) {
+        for (file, size) in [(EMPTY, 0), (EMPTY, 7), (&four(), 0), (&four(), 7)] {
+            for (parts, depth) in [(200, 100), (1, 1)] {
+                let found = printed_page(file, Limits { parts, depth }, [size; 2], length);
+                assert_eq!(found, fifteen(length), "{length}");
+            }
+            let found = printed_page(file, Limits { parts: 0, depth: 1 }, [size; 2], length);
+            assert_eq!(found, ([25, 0, 0], 0, vec![b'#'; length]), "{length}");
         }
     }
 }
@@ -111,6 +144,8 @@ fn one_byte() {
             assert_eq!(read(&[byte], limits), number, "{byte}");
             for lengths in [[0, 0], [0, 7], [7, 0], [LONGEST; 2]] {
                 assert_eq!(run(&[byte], limits, lengths), ([number, 0, 0], true), "{byte}");
+                let page = printed_page(&[byte], limits, lengths, lengths[0]);
+                assert_eq!(page, ([number, 0, 0], 0, vec![b'#'; lengths[0]]), "{byte}");
             }
             assert_eq!(subtypes(&[byte], limits, Exact), Err(number), "{byte}");
             for (a, b) in [(0, 0), (0, 1), (3, 3), (4, 4), (usize::MAX, 0)] {
@@ -151,16 +186,20 @@ fn printed() {
     let table = "1000\n1 1 1 1\n0100\n1 1 1 1\n0010\n1 1 1 1\n0001\n1 1 1 1\n--\n";
     let limited = "read 0\nsub yes 1 17 0 17 0 17 0\n0 0 0\npairs 0\n--\n";
     let tallies = "0 0 0\ntypes 0 0 0 0 7777\ndeclarations 8888\n--\n";
-    let lines = ["0 0 0\npairs 0\n--\n", "0\n", table, limited, tallies];
+    let page = "0 0 0 15\npages 0 rows 0\n##\n--\n";
+    let lines = ["0 0 0\npairs 0\n--\n", "0\n", table, limited, tallies, page];
     let four = four();
-    let lent = |file, limits| Lent { asked: Limited { file, limits }, lengths: [5, 1] };
+    let lent = |file, limits, question| {
+        let lengths = if question == Question::Pages { [17, 0] } else { [5, 1] };
+        Lent { asked: Limited { file, limits }, lengths }
+    };
     for (question, line) in QUESTIONS.into_iter().zip(lines) {
-        assert_eq!(question.show(lent(EMPTY, Limits::WIDEST)), line, "{question:?}");
-        assert_eq!(question.show(lent(&four, Limits::WIDEST)), line, "{question:?}");
+        assert_eq!(question.show(lent(EMPTY, Limits::WIDEST, question)), line, "{question:?}");
+        assert_eq!(question.show(lent(&four, Limits::WIDEST, question)), line, "{question:?}");
     }
     for limits in settings() {
-        for question in [Question::Limits, Question::Tallies] {
-            let [empty, held] = [EMPTY, &four].map(|file| question.show(lent(file, limits)));
+        for question in [Question::Limits, Question::Tallies, Question::Pages] {
+            let [empty, held] = [EMPTY, &four].map(|file| question.show(lent(file, limits, question)));
             assert_eq!(empty, held, "{question:?}, {limits:?}");
         }
     }
@@ -195,6 +234,9 @@ fn commands() {
         ("tally", ["0 0 0\ntypes 0 0 0 0\ndeclarations\n", "1 0 0\n"]),
         ("tally 1 1", ["0 0 0\ntypes 0 0 0 0\ndeclarations\n", "1 0 0\n"]),
         ("tally 201 1", ["25 0 0\n", "25 0 0\n"]),
+        ("page", ["0 0 0 15\npages 0 rows 0\n", "1 0 0 0\n"]),
+        ("page 1 1", ["0 0 0 15\npages 0 rows 0\n", "1 0 0 0\n"]),
+        ("page 201 1", ["25 0 0 0\n", "25 0 0 0\n"]),
     ] {
         assert_eq!([EMPTY, &[4]].map(|file| command(words, file)), printed, "{words}");
     }
@@ -210,6 +252,9 @@ fn commands() {
     let cases = pack_tallies([(EMPTY, limits, [4, 1]), (EMPTY, limits, [3, 1]), (&[4], limits, [0, 1])]);
     let lines = ["0 0 0\ntypes 0 0 0 0", "19 0 0\ntypes 7777 7777 7777", "1 0 0\ntypes"];
     assert_eq!(command("tallybatch", &cases), lines.map(|l| format!("{l}\ndeclarations 8888\n--\n")).concat());
+    let cases = pack_pages([(EMPTY, limits, 15), (EMPTY, limits, 14), (EMPTY, limits, 0), (&[4], limits, 3)]);
+    let answers = ["0 0 0 15\npages 0 rows 0\n", "18 0 0 0\n##############", "18 0 0 0\n", "1 0 0 0\n###"];
+    assert_eq!(command("pagebatch", &cases), answers.map(|a| format!("{a}\n--\n")).concat());
     assert!(command("numbers", &many).starts_with("0 1 50.0 %\n1 1 50.0 %\n2 0 "));
     assert!(command("bench 1", &many).starts_with("files 2 nodes 0 "));
 }

@@ -1,6 +1,7 @@
 //! The generator: well-typed programs, near misses, damaged files, files of the
 //! largest sizes, files about field names, about endless loops, about names in
-//! inner blocks, about compared pairs of types and for tallies, from a seed.
+//! inner blocks, about compared pairs of types, for tallies and for pages, from a
+//! seed.
 
 mod bodies;
 mod damage;
@@ -10,13 +11,14 @@ mod levels;
 mod limits;
 mod misses;
 mod names;
+mod pages;
 mod pairs;
 mod rng;
 mod tables;
 mod tallies;
 
 use crate::mutants::{Document01, Exact, Rules};
-use crate::print::{pack, pack_limited, pack_tallies, unpack};
+use crate::print::{pack, pack_limited, pack_pages, pack_tallies, unpack};
 use crate::{Limits, check_under, node_count};
 pub use limits::settings_around;
 use rng::Rng;
@@ -84,6 +86,25 @@ pub fn tallies(seed: u64, count: usize) -> Vec<u8> {
         let limits = tallies::limits(&mut rng, &file);
         let lengths = tallies::lengths(&mut rng, k, &file);
         (file, limits, lengths)
+    }))
+}
+
+/// Packed cases of pages: most files are accepted, many with as many nodes as some
+/// full pages have or one more or fewer; lengths are exact, longer and too short in turn.
+pub fn pages(seed: u64, count: usize) -> Vec<u8> {
+    let mut rng = Rng::new(seed ^ 0x7061_6765);
+    pack_pages((0..count).map(|k| {
+        let file = match rng.below(250) {
+            0 => pages::large(&mut rng).bytes(),
+            1..25 => program(&mut rng, WANTED[k % WANTED.len()]),
+            25..35 => levels::file(&mut rng),
+            35..75 => pages::small(&mut rng).bytes(),
+            75..120 => tallies::pair(&mut rng)[1].bytes(),
+            _ => pages::rounded(&mut rng).bytes(),
+        };
+        let limits = tallies::limits(&mut rng, &file);
+        let length = pages::length(&mut rng, k, &file);
+        (file, limits, length)
     }))
 }
 

@@ -1,0 +1,4 @@
+pub mod LawsCells
+pub mod LawsLines
+pub mod LawsBoard
+pub mod LawsPage

@@ -1,0 +1,4 @@
+pub mod Page
+pub mod Columns
+pub mod Paging
+pub mod Writing
