@@ -1,7 +1,7 @@
 #!/usr/bin/env python3
 """Writes tests/console/expected.txt, the files of tests/console that are no examples, and what crates/oat_console is run on. What the console is to
 print of a file comes from its bytes, read here by document 01's table, and from the answer and the rows of the peer (tests/peer, `cargo build --release
---offline`), never from the console. The tallies are counted here, and must be those that the peer counts.
+--offline`), never from the console. The tallies are counted and the pages printed here, and must be those of the peer.
 
     tests/console/expect.py            write the files
     tests/console/expect.py --check    say which stored files differ from what would be written
@@ -22,7 +22,7 @@ MEANING = {
     1: "length wrong", 2: "count over its most", 3: "types or type list broken", 4: "fields, structs or built-ins broken",
     5: "node tree broken", 7: "name bound twice", 8: "name or field unknown", 9: "undeclared struct in a type", 10: "wrong sort of type",
     11: "not a subtype", 12: "arguments or fields don't match", 13: "void against value", 14: "return mark wrong",
-    15: "function assigned", 16: "element without default",
+    15: "function assigned", 16: "element without default", 17: "type not in file", 25: "a limit out of its range",
 }
 
 # files that are no examples, by their six sections
@@ -36,21 +36,54 @@ FILES = {
     "kind_99": (BASE, [], [], [], [], [(99, 0, 0, 0)]),
 }
 
-USAGE = "error: usage: oat tally FILE"
-# commands that are not `oat tally` and one of the files, with what they print
+USAGE = [f"error: {line}" for line in (
+    "usage: oat check FILE", "       oat page FILE", "       oat subtype FILE A B", "       oat tally FILE",
+    "and, last, --parts N (1 to 200), --depth N (1 to 100)")]
+
+# subtype questions on examples, with limits: yes and no, pairs, types that are not there, refused files, limits that are out of range
+QUESTIONS = [
+    ("pan_b_below_a", 5, 4), ("pan_a_not_below_b", 4, 5), ("pan_c_not_below_a", 5, 4), ("null_tested", 4, 5), ("null_not_a_pan", 5, 4),
+    ("arrays_invariant", 7, 6), ("parameters_turn_round", 7, 6), ("pairs_compared", 8, 7), ("new_pan", 2, 2), ("new_pan", 0, 1), ("new_pan", 4, 0),
+    ("one_global", 0, 99999), ("var_twice", 0, 0), ("cut_short", 0, 0), ("nested_calls", 4, 4, 5, 6), ("nested_calls", 4, 4, 4, 6), ("nested_calls", 4, 4, 0, 100),
+]
+# checks, pages and tallies under limits: the least that let a file pass, one part and one level fewer, and limits out of their range
+LIMITED = [("nested_calls", 5, 6), ("nested_calls", 4, 6), ("nested_calls", 5, 5), ("nested_calls", 0, 100), ("nested_calls", 200, 101), ("new_pan", 1, 1), ("cut_short", 201, 1)]
+
+
+def wrong(problem):
+    return [f"error: oat: {problem}", *USAGE]
+
+
+# commands whose words are wrong or whose file cannot be read, with what they print
 OTHERS = [
-    ("oat", ["error: oat: no verb", USAGE]),
-    ("oat tell pan_levels.oat", ["error: oat: unknown verb", USAGE]),
-    ("oat tallying pan_levels.oat", ["error: oat: unknown verb", USAGE]),
-    ("oat '' pan_levels.oat", ["error: oat: unknown verb", USAGE]),
-    ("oat tally_of_everything pan_levels.oat", ["error: oat: unknown verb", USAGE]),
-    ("oat tally", ["error: oat: no FILE", USAGE]),
-    ("oat tally pan_levels.oat one_global.oat", ["error: oat: too many words after FILE", USAGE]),
-    ("oat tally missing.oat", ["error: missing.oat: No such file or directory"]),
+    ("oat", wrong("no verb")),
+    ("oat tell pan_levels.oat", wrong("unknown verb: tell")),
+    ("oat tallying pan_levels.oat", wrong("unknown verb: tallying")),
+    ("oat '' pan_levels.oat", wrong("unknown verb: ")),
+    ("oat tally_of_everything pan_levels.oat", wrong("unknown verb: tally_of_everything")),
+    ("oat help", wrong("unknown verb: help")),
+    ("oat check", wrong("no FILE")),
+    ("oat page", wrong("no FILE")),
+    ("oat tally", wrong("no FILE")),
+    ("oat subtype", wrong("subtype takes FILE, A and B")),
+    ("oat subtype pan_levels.oat 4", wrong("subtype takes FILE, A and B")),
+    ("oat subtype pan_levels.oat four 4", wrong("no number: four")),
+    ("oat subtype pan_levels.oat 4 4x", wrong("no number: 4x")),
+    ("oat subtype pan_levels.oat 4 -4", wrong("no number: -4")),
+    ("oat subtype pan_levels.oat 4 ''", wrong("no number: ")),
+    ("oat subtype pan_levels.oat 4 4 4", wrong("unknown word: 4")),
+    ("oat tally pan_levels.oat one_global.oat", wrong("unknown word: one_global.oat")),
+    ("oat page pan_levels.oat --width 80", wrong("unknown word: --width")),
+    ("oat check pan_levels.oat --parts 5 --depth", wrong("no number after --depth")),
+    ("oat check pan_levels.oat --parts five", wrong("no number after --parts")),
+    ("oat page missing.oat", ["error: missing.oat: No such file or directory"]),
     ("oat tally folder", ["error: folder: Is a directory"]),
-    ("oat tally $long", ["error: FILE: File name too long"]),
+    ("oat check $long", ["error: FILE: File name too long"]),
+    ("oat check pan_levels.oat > /dev/full", ["error: standard output: No space left on device"]),
+    ("oat page pan_levels.oat > /dev/full", ["error: standard output: No space left on device"]),
     ("oat tally pan_levels.oat > /dev/full", ["error: standard output: No space left on device"]),
-    ("../not_built/oat tally pan_levels.oat", ["error: oat: not built yet: run 'rt check oat_console' in the repository"]),
+    ("oat subtype pan_levels.oat 0 0 > /dev/full", ["error: standard output: No space left on device"]),
+    ("../not_built/oat page pan_levels.oat", ["error: oat: not built yet: run 'rt check oat_console' in the repository"]),
 ]
 
 
@@ -108,11 +141,12 @@ def tallies(sections, rows):
     return by_type, by_declaration
 
 
-def accepted(sections, rows, peers):
+def tally_lines(sections, rows, peers):
+    """The tallies of an accepted file in words."""
     types, nodes = sections[0], sections[5]
-    by_type, by_declaration = tallies(sections, rows)
+    by_type, by_declaration = tallies(sections, [row[0] for row in rows])
     counted = [["types", *(str(by_type[t]) for t in range(len(types)))], ["declarations", *map(str, by_declaration.values())]]
-    if peers != counted:
+    if [line.split() for line in peers] != counted:
         sys.exit(f"the peer counts {peers}, not {counted}")
     yield f"accepted: {plural(sum(by_declaration.values()), 'expression')}"
     if by_type:
@@ -125,29 +159,69 @@ def accepted(sections, rows, peers):
         yield f"  node {node}, {'global' if nodes[node][0] == 1 else 'function'} {nodes[node][1]}: {count}"
 
 
-def peer(verb, data):
-    """The words of each line that the peer prints of a file."""
-    out = subprocess.run([PEER, verb], input=data, stdout=subprocess.PIPE, check=True).stdout.decode()
-    return [line.split() for line in out.splitlines()]
+def page_lines(sections, rows, peers):
+    """The page of an accepted file, column by column."""
+    nodes = sections[5]
+    numbers = [(i, nodes[i][0], *row) for i, row in enumerate(rows)]
+    lines = [" ".join(str(n).rjust(width) for n, width in zip(line, (4, 2, 5, 5))) for line in numbers]
+    lines.append(f"pages {len(nodes) // 50} rows {len(nodes) % 50}")
+    if peers != lines:
+        sys.exit(f"the peer prints {peers}, not {lines}")
+    return lines
 
 
-def answer(data):
+def peer(data, *words):
+    """The lines that the peer prints of a file."""
+    out = subprocess.run([PEER, *map(str, words)], input=data, stdout=subprocess.PIPE, check=True).stdout.decode()
+    return out.splitlines()
+
+
+def refusal(number, step=0, place=0):
+    where = f" (step {step}, place {place})" if 7 <= number <= 16 else ""
+    return [f"refused: {number}, {MEANING[number]}{where}"]
+
+
+def answer(verb, data, limits=(200, 100)):
     """What the console prints of a file."""
-    (number, step, place), *rows = peer("check", data)
-    if number == "0":
-        return list(accepted(unpacked(data), [int(row[1]) for row in rows], peer("tally", data)[1:]))
-    where = f" (step {step}, place {place})" if 7 <= int(number) <= 16 else ""
-    return [f"refused: {number}, {MEANING[int(number)]}{where}"]
+    head, *rows, pairs, _ = peer(struct.pack("<3I", len(data), *limits) + data, "limitbatch")[2:]
+    number, step, place = map(int, head.split())
+    if number != 0:
+        return refusal(number, step, place)
+    if verb == "check":
+        return [f"accepted: {plural(step, 'step')}, {plural(int(pairs.split()[1]), 'pair')} of types compared"]
+    lines = {"page": page_lines, "tally": tally_lines}[verb]
+    return list(lines(unpacked(data), [tuple(map(int, row.split()[1:])) for row in rows], peer(data, verb, *limits)[1:]))
+
+
+def question(data, a, b, limits=(200, 100)):
+    """What the console prints of a subtype question."""
+    said, pairs = peer(data, "sub", a, b, *limits)[0].split()
+    if said not in ("yes", "no"):
+        return refusal(int(said))
+    return [f"{said}: type {a} is {'not ' if said == 'no' else ''}below type {b}, {plural(int(pairs), 'pair')} of types compared"]
+
+
+def words(limits):
+    return "".join(f" --{name} {n}" for name, n in zip(("parts", "depth"), limits))
 
 
 def cases(files):
     """Each command with what it prints."""
-    for name, data in files.items():
-        yield f"oat tally {name}.oat", answer(data)
-    yield "oat tally too_long.oat", answer(bytes(45069))
-    yield r"printf '\1\2' | oat tally /dev/stdin", answer(b"\1\2")
-    yield "two_parts pan_levels.oat | oat tally /dev/stdin", answer(files["pan_levels"])
-    yield "../linked/oat tally one_global.oat", answer(files["one_global"])
+    for verb in ("check", "page", "tally"):
+        for name, data in files.items():
+            yield f"oat {verb} {name}.oat", answer(verb, data)
+        for name, *limits in LIMITED:
+            yield f"oat {verb} {name}.oat{words(limits)}", answer(verb, files[name], limits)
+        yield f"oat {verb} too_long.oat", answer(verb, bytes(45069))
+        yield rf"printf '\1\2' | oat {verb} /dev/stdin", answer(verb, b"\1\2")
+        yield f"two_parts pan_levels.oat | oat {verb} /dev/stdin", answer(verb, files["pan_levels"])
+    for name, a, b, *limits in QUESTIONS:
+        yield f"oat subtype {name}.oat {a} {b}{words(limits)}", question(files[name], a, b, limits or (200, 100))
+    yield "oat check nested_calls.oat --depth 6", answer("check", files["nested_calls"], (200, 6))
+    yield "oat check nested_calls.oat --depth 5 --parts 5 --depth 06", answer("check", files["nested_calls"], (5, 6))
+    yield "oat check nested_calls.oat --parts 99999999999999999999", answer("check", files["nested_calls"], (65536, 100))
+    yield "oat subtype one_global.oat 99999999999999999999 0", question(files["one_global"], 65536, 0)
+    yield "../linked/oat page one_global.oat", answer("page", files["one_global"])
     yield from OTHERS
 
 
@@ -166,7 +240,7 @@ def stored(found):
         yield f"tests/console/{name}.oat", found[name]
     yield "tests/console/expected.txt", text(line for command, lines in cases(found) for line in [f"$ {command}", *lines])
     yield "crates/oat_console/data/pan_levels.oat", found["pan_levels"]
-    yield "crates/oat_console/stdout", text(answer(found["pan_levels"]))
+    yield "crates/oat_console/stdout", text(answer("page", found["pan_levels"]))
 
 
 def text(lines):

@@ -303,6 +303,24 @@ def _():
     return e
 
 
+@example("page_and_two_rows", """
+    struct A { int p; int dry }
+    global pans = new A[]{
+      new A{ p = 1; dry = 0 }, new A{ p = 2; dry = 0 }, new A{ p = 3; dry = 0 },
+      new A{ p = 4; dry = 1 }, new A{ p = 5; dry = 1 }, new A{ p = 6; dry = 1 },
+      new A{ p = 7; dry = 0 }, new A{ p = 8; dry = 0 }, new A{ p = 9; dry = 1 } };
+    int count() { return length(pans); }
+    """, """
+    Of its 52 nodes 50 fill a page and two are left: `oat page` prints 52 rows of 19 columns, with nothing between the pages, and ends with the line
+    `pages 1 rows 2`.""")
+def _():
+    e = pans("A")
+    array = e.array(A(e))
+    e.glob("pans", e.listed(array, *(e.new("A", ("p", e.integer(p)), ("dry", e.integer(int(p in (4, 5, 6, 9))))) for p in range(1, 10))))
+    e.function("count", INT, [], e.give(e.length(e.id("pans"))))
+    return e
+
+
 @example("nested_calls", """
     int least(int a, int b) {
       if (a < b) { return a; } else { return b; }

@@ -230,6 +230,13 @@ module _ (limits : Limits) (bytes rows work : List ℕ) where
   one-outcome o u (work-short i p f l k) d = program-outcome i p _ f (work-short i p f l k) ∙ sym (program-outcome i p u f d)
   one-outcome o u (checked i p f l k) d = program-outcome i p _ f (checked i p f l k) ∙ sym (program-outcome i p u f d)
 
+  -- what is accepted is a file
+  pub accepted-file : (o : Outcome) → Checks limits bytes rows work o → o .number ≡ 0 → (p : Program) × IsFile limits bytes p
+  accepted-file o (unreadable n e) z = absurd (⊎-elim (λ k. omega (arith, k, z)) (λ k. omega (arith, k .0, z)) (refused-numbers limits bytes n e))
+  accepted-file o (rows-short i p f l) z = (p, f)
+  accepted-file o (work-short i p f l k) z = (p, f)
+  accepted-file o (checked i p f l k) z = (p, f)
+
   -- what is accepted had long enough buffers, under limits in range
   pub accepted-demand3 : (o : Outcome) → Checks limits bytes rows work o → o .number ≡ 0 → (p : Program) → IsFile limits bytes p → Demand3 p rows o
   accepted-demand3 o (unreadable n e) z p f = absurd (⊎-elim (λ k. omega (arith, k, z)) (λ k. omega (arith, k .0, z)) (refused-numbers limits bytes n e))

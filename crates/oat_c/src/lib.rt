@@ -8,6 +8,7 @@ ghost use Rattle.program_file.specs.Reading.{readingOf, numberOf, Reads};
 ghost use Rattle.subtyping.specs.Question.{subtypeOf, refusalNumber, yesAfter, pairsOf, Answers};
 ghost use Rattle.typing.specs.Check.{Checked, Demands};
 ghost use Rattle.tallies.specs.Tally.{Tallied};
+ghost use Rattle.pages.specs.Paging.{Paged};
 
 // 0 where the file is readable, or the number under which it is refused.
 #[no_mangle]
@@ -104,4 +105,28 @@ pub extern "C" fn oat_tally(
     *step = tallied.step;
     *place = tallied.place;
     tallied.number
+}
+
+// Checks a file as `oat_check` does and, where it is accepted, writes a line for each row to the front of `page`, and a last line with the number of
+// full pages and the rows that are left, with their length in `bytes`; 18 where `page` is short, and it is not changed. `bytes` is 0 where
+// nothing is written.
+#[no_mangle]
+pub extern "C" fn oat_page(
+    file: &[u8],
+    parts: usize,
+    depth: usize,
+    rows: &mut [u16],
+    work: &mut [u16],
+    page: &mut [u8],
+    step: &mut u16,
+    place: &mut u16,
+    bytes: &mut usize,
+) -> u16
+    ensures { λ r. ⌜ Paged (limitsOf parts depth) (now (file .entry)) (now (rows .entry)) (now (work .entry)) (now (page .entry)) (now (rows .exit)) (now (work .exit)) (now (page .exit)) (record { number = r; step = now (step .exit); place = now (place .exit); bytes = now (bytes .exit) }) ⌝ }
+{
+    let paged = pages::page(file, Limits { parts, depth }, rows, work, page);
+    *step = paged.step;
+    *place = paged.place;
+    *bytes = paged.bytes;
+    paged.number
 }

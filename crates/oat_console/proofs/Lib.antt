@@ -1,3 +1,4 @@
 pub mod LawsInput
 pub mod LawsSame
 pub mod LawsSum
+pub mod LawsNumbers

@@ -1,4 +1,5 @@
 // A refusal in words.
+use crate::text::end_line;
 use crate::text::print;
 use crate::text::print_number;
 
@@ -21,14 +22,16 @@ fn print_meaning(number: u16) {
         14 => print(b"return mark wrong"),
         15 => print(b"function assigned"),
         16 => print(b"element without default"),
+        17 => print(b"type not in file"),
+        18 => print(b"page buffer too short"),
         19 => print(b"tally buffer too short"),
         25 => print(b"a limit out of its range"),
         _ => print(b"number without a meaning"),
     }
 }
 
-// Prints a refusal: its number and what that means, with the step and the place where a typing rule is broken.
-pub(crate) fn print_refusal(number: u16, step: u16, place: u16) {
+// Prints a refusal: its number and what that means, with the step and the place where a typing rule is broken. Says whether its end was written.
+pub(crate) fn print_refusal(number: u16, step: u16, place: u16) -> bool {
     print_number(b"refused: ", number as usize);
     print(b", ");
     print_meaning(number);
@@ -37,4 +40,5 @@ pub(crate) fn print_refusal(number: u16, step: u16, place: u16) {
         print_number(b", place ", place as usize);
         print(b")");
     }
+    end_line()
 }

@@ -1,4 +1,4 @@
-// The tallies of an accepted file as text. Each line but the first begins with its line feed.
+// The tallies of an accepted file as text. Each line but the first begins with its line feed, and the end of the last is left to the caller.
 use crate::text::print;
 use crate::text::print_count;
 use crate::text::print_number;

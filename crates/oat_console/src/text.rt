@@ -21,3 +21,8 @@ pub(crate) fn print_count(number: usize, what: &[u8]) {
         print(b"s");
     }
 }
+
+// Prints the end of the last line, and says whether it was written.
+pub(crate) fn end_line() -> bool {
+    io::write_all(STDOUT_FILENO, b"\n")
+}

@@ -18,7 +18,7 @@ use Rattle.printing.specs.Digits.{Digit, value}
 use Rattle.printing.proofs.LawsDecimal.{length-some, length-most}
 use Rattle.printing.proofs.Theorems.{value-decimal, zero-in-front, digit-each}
 use Rattle.pages.specs.Page.{blanks, cell, rowLine, lineOf, rowLines, lastLine, fullPages, rowsLeft, pageOf}
-use Rattle.pages.specs.Columns.{InColumns, RowAt, OnBoard}
+use Rattle.pages.specs.Columns.{InColumns, RowAt, PageLong, OnBoard}
 use Rattle.pages.proofs.LawsCells.{blanks-length}
 use Rattle.pages.proofs.LawsLines.{four-digits, two-digits, Fitting, node-long, two-long, three-long, FittingRows, fitting, lines-long}
 
@@ -178,7 +178,7 @@ module _ {T : Tables} {R : List ℕ} (fit : FittingRows T R (length (T .nodes)))
   abbrev last : List ℕ
   last = lastLine (fullPages n) (rowsLeft n)
 
-  pub page-long : length (pageOf T R) ≡ 20 * n + length last
+  pub page-long : PageLong T R
   unfolding pageOf
   page-long = omega (arith, length-append (rowLines T R n) last, lines-long fit n (omega arith))
 

@@ -28,7 +28,7 @@ use Rattle.typing.specs.Check.{outcomeOf, Checked, Demands, ToldSections}
 use Rattle.typing.proofs.LawsCheck.{tables-are, door, check-unread, with-demands, check-told-sections}
 use Rattle.pages.specs.declared.Answer.{Answer}
 use Rattle.pages.specs.Page.{rowLines, lastLine, pageOf}
-use Rattle.pages.specs.Columns.{OnBoard}
+use Rattle.pages.specs.Columns.{PageLong, OnBoard}
 use Rattle.pages.specs.Paging.{answer, sameAnswer, AfterAcceptance, short, printed, Paged}
 use Rattle.pages.specs.Writing.{ReadyRows, Writes, writes, no-room}
 use Rattle.pages.proofs.LawsLines.{FittingRows, rows-fit, lines-long, last-long}
@@ -57,7 +57,7 @@ module _ {F R : List ℕ} {S : Sections} (z : ReadyRows F S R) (h : (i : ℕ) �
   bytes-are = omega (arith, page-long page-fit, nodes-long F S, ap (λ n. length (lastLine (n / 50) (n % 50))) (nodes-long F S))
 
   pub page-no-room : (O : List ℕ) → length O < 20 * S .nodes + x → Writes T R O 0 O
-  page-no-room O l = no-room (omega (arith, l, bytes-are))
+  page-no-room O l = no-room (page-long page-fit) (omega (arith, l, bytes-are))
 
   pub page-done : (O O₁ O₂ : List ℕ) → 20 * S .nodes + x ≤ length O → O₁ ≡ placed O 0 (rowLines T R (S .nodes))
       → O₂ ≡ placed O₁ (20 * S .nodes) (lastLine (S .nodes / 50) (S .nodes % 50)) → Writes T R O (20 * S .nodes + x) O₂
@@ -69,7 +69,7 @@ module _ {F R : List ℕ} {S : Sections} (z : ReadyRows F S R) (h : (i : ℕ) �
       placed-then O 0 (rowLines T R n) f (omega (arith, lines)) end (omega (arith, lines, e, l)) g ∙ ap (placed O 0) is-page ∙ placed-front O (pageOf T R) in
       let rest = drop (length (pageOf T R)) O in
       subst (λ O₂. Writes T R O (20 * n + x) O₂) (sym whole)
-      (subst (λ b. Writes T R O b (pageOf T R ++ rest)) (sym bytes-are) (writes (omega (arith, l, bytes-are)) (on-board page-fit rest)))
+      (subst (λ b. Writes T R O b (pageOf T R ++ rest)) (sym bytes-are) (writes (page-long page-fit) (omega (arith, l, bytes-are)) (on-board page-fit rest)))
 
 -- the file of an accepting check, as what writes a page speaks of it
 pub page-ready-of : {l : Limits} {F R W R′ W′ G : List ℕ} {S : Sections} {c : CheckAnswer} → Bytes F → readingOf l F ≡ Good S → G ≡ meant F → Checked l F R W R′ W′ c → c .number ≡ 0
@@ -88,13 +88,17 @@ page-ready-of {l} {F} {R} {W} {R′} {S = S} {c = c} b e is k z =
 
 -- what was written, or not, as an answer
 short-of : {c : CheckAnswer} {R O O′ : List ℕ} {b : ℕ} {r : Answer} (p : Program) → Writes (p .tables) R O b O′ → b ≡ 0 → r ≡ answer 18 0 0 0 → AfterAcceptance p c R O r O′
-short-of {R = R} p (writes l o) z q = absurd (page-some (p .tables) R z)
-short-of p (no-room l) z q = rw q (short l)
+short-of {R = R} p (writes n l o) z q = absurd (page-some (p .tables) R z)
+short-of p (no-room n l) z q = rw q (short l)
 
 printed-of : {c : CheckAnswer} {R O O′ : List ℕ} {b : ℕ} {r : Answer} (p : Program) → Writes (p .tables) R O b O′ → (b ≡ 0 → ⊥) → r ≡ sameAnswer c b
     → AfterAcceptance p c R O r O′ × OnBoard (p .tables) R O′ (r .bytes)
-printed-of p (writes l o) z q = rw q (printed l, o)
-printed-of p (no-room l) z q = absurd (z refl)
+printed-of p (writes n l o) z q = rw q (printed l, o)
+printed-of p (no-room n l) z q = absurd (z refl)
+
+long-of : {T : Tables} {R O O′ : List ℕ} {b : ℕ} → Writes T R O b O′ → PageLong T R
+long-of (writes n l o) = n
+long-of (no-room n l) = n
 
 -- the answers of `page`: of a file that is not read
 pub page-unread : {l : Limits} {F R W O : List ℕ} {r : Answer} {g : Reading} {n m : ℕ} → g ≡ readingOf l F → g ≡ Unread n → m ≡ numberOf g → r ≡ answer m 0 0 0
@@ -108,6 +112,7 @@ page-unread {l} {F} {R} {W} {r = r} {n = n} {m = m} e h k q =
       demands = d;
       refused = λ z. (q, refl);
       accepted = λ z p f. absurd (not-accepted z same);
+      long = λ z p f. absurd (not-accepted z same);
       on-board = λ z p f. absurd (not-accepted (sym (ap (λ (a : Answer). a .number) q) ∙ z) same);
     }
   where
@@ -126,6 +131,7 @@ module _ (l : Limits) {F R W : List ℕ} {S : Sections} {g : Reading} {R′ W′
     demands = its-check .1;
     refused = λ o. (q, refl);
     accepted = λ o p f. absurd (z o);
+    long = λ o p f. absurd (z o);
     on-board = λ o p f. absurd (z (sym (ap (λ (a : Answer). a .number) q) ∙ o));
   }
 
@@ -147,6 +153,7 @@ module _ (l : Limits) {F R W : List ℕ} {S : Sections} {g : Reading} {R′ W′
         demands = its-check .1;
         refused = λ o. absurd (o z);
         accepted = λ o p f. short-of p (its-page p f) x q;
+        long = λ o p f. long-of (its-page p f);
         on-board = λ o p f. absurd (let i = ap (λ (a : Answer). a .number) q in omega (arith, i, o));
       }
 
@@ -157,5 +164,6 @@ module _ (l : Limits) {F R W : List ℕ} {S : Sections} {g : Reading} {R′ W′
         demands = its-check .1;
         refused = λ o. absurd (o z);
         accepted = λ o p f. printed-of p (its-page p f) x q .0;
+        long = λ o p f. long-of (its-page p f);
         on-board = λ o p f. printed-of {c = c} p (its-page p f) x q .1;
       }

@@ -6,7 +6,7 @@ use Prim.Native.Nat.{ℕ, _+_, _*_, _-_, _≤_, _<_}
 use lib.ListN.{length, getD, take, drop}
 use Rattle.oat.specs.Tables.{Tables, nodeAt}
 use Rattle.printing.specs.Digits.{Digit, value}
-use Rattle.pages.specs.Page.{lastLine}
+use Rattle.pages.specs.Page.{lastLine, fullPages, rowsLeft, pageOf}
 
 -- n stands right aligned in the `width` columns from the byte `at` on: blanks, then digits and one at least, which read back give n, and
 -- of which the first is a zero only where n is 0
@@ -37,6 +37,10 @@ pub record LastAt (n bytes : ℕ) (out : List ℕ) : Type 0 where
   pub last : take (length (lastLine full left)) (drop (20 * n) out) ≡ lastLine full left
   pub all : 50 * full + left ≡ n
   pub remainder : left < 50
+
+-- a page has 20 bytes for each row, and those of its last line
+abbrev pub PageLong : Tables → List ℕ → Type 0
+PageLong T rows = length (pageOf T rows) ≡ 20 * length (T .nodes) + length (lastLine (fullPages (length (T .nodes))) (rowsLeft (length (T .nodes))))
 
 -- the page of a file with these tables and rows, of so many bytes
 pub record OnBoard (T : Tables) (rows out : List ℕ) (bytes : ℕ) : Type 0 where

@@ -7,7 +7,7 @@ use Rattle.oat.specs.Tables.{Tables, nodeAt}
 use Rattle.file_sections.specs.declared.Sections.{Sections}
 use Rattle.file_sections.specs.Layout.{Laid, tablesOf}
 use Rattle.pages.specs.Page.{pageOf}
-use Rattle.pages.specs.Columns.{OnBoard}
+use Rattle.pages.specs.Columns.{PageLong, OnBoard}
 
 -- every node has a row, and a kind of two digits at most
 pub record ReadyRows (F : List ℕ) (S : Sections) (R : List ℕ) : Type 0 where
@@ -17,6 +17,6 @@ pub record ReadyRows (F : List ℕ) (S : Sections) (R : List ℕ) : Type 0 where
 
 -- the page is written, with its length told; or nothing, and 0, where it has no room
 pub data Writes (T : Tables) (R O : List ℕ) : ℕ → (O′ : List ℕ) → Type 0 where
-  writes : length (pageOf T R) ≤ length O → OnBoard T R (pageOf T R ++ drop (length (pageOf T R)) O) (length (pageOf T R))
+  writes : PageLong T R → length (pageOf T R) ≤ length O → OnBoard T R (pageOf T R ++ drop (length (pageOf T R)) O) (length (pageOf T R))
       → Writes T R O (length (pageOf T R)) (pageOf T R ++ drop (length (pageOf T R)) O)
-  no-room : length O < length (pageOf T R) → Writes T R O 0 O
+  no-room : PageLong T R → length O < length (pageOf T R) → Writes T R O 0 O

@@ -1,11 +1,11 @@
--- `same` meets its contract: up to the place i the two texts have the same bytes. Assumes nothing.
+-- `words::same` meets its contract: up to the place i the two texts have the same bytes. Assumes nothing.
 use mathlib.Core.Path.{_≡_, refl}
 use Prim.Native.Nat.{_-_, _≤_}
 use lib.ListN.{length, take}
 use borrow.Author.Needs.{needs}
 use Rattle.oat_console.proofs.LawsSame.{other-length, other-byte, same-so-far, same-all}
-use Rattle.oat_console.proofs.same.Statement.{statement}
-use Rattle.oat_console.proofs.same.Tie as tie
+use Rattle.oat_console.proofs.words.same.Statement.{statement}
+use Rattle.oat_console.proofs.words.same.Tie as tie
 
 abbrev Inv-loop : tie.InvT-loop
 Inv-loop a b i₀ i = (i ≤ length a) × (length a ≡ length b) × (take i a ≡ take i b)
