@@ -1,4 +1,4 @@
-/* The Oat v.2 checker for C and C++: reading a program file, the subtype question, the check, and tallies of expressions.
+/* The Oat v.2 checker for C and C++: reading a program file, the subtype question, the check, tallies of expressions, and a page of the rows.
    `rt staticlib oat_c` writes target/staticlib/liboat_c.a with these functions, for x86-64 Linux.
 
    No function keeps anything between calls, allocates, prints or fails in another way than by its number, so that calls may run at the same
@@ -20,12 +20,13 @@ extern "C" {
 #endif
 
 /* The longest program file, in bytes, and how many nodes, types and declarations a file has at most. Rows and work of two numbers for each node are
-   always enough with OAT_MOST_NUMBERS, and tallies with OAT_MOST_TYPES and OAT_MOST_DECLARATIONS. */
+   always enough with OAT_MOST_NUMBERS, tallies with OAT_MOST_TYPES and OAT_MOST_DECLARATIONS, and a page with OAT_MOST_PAGE bytes. */
 #define OAT_MOST_BYTES 45068
 #define OAT_MOST_NODES 4096
 #define OAT_MOST_NUMBERS (2 * OAT_MOST_NODES)
 #define OAT_MOST_TYPES 512
 #define OAT_MOST_DECLARATIONS (OAT_MOST_NODES / 2)
+#define OAT_MOST_PAGE (20 * OAT_MOST_NODES + 17)
 
 /* A file of length 0 is that of a new pan: for every function it is the program of types 0 to 3 and nothing else, readable and accepted with 0 steps and no
    node, whatever lengths `rows` and `work` have. One byte is OAT_LENGTH. */
@@ -60,6 +61,7 @@ enum oat_number {
     OAT_FUNCTION_ASSIGNED = 15,/* function assigned */
     OAT_NO_DEFAULT = 16,       /* element without default */
     OAT_NO_TYPE = 17,          /* type not in file (oat_subtype alone) */
+    OAT_PAGE_SHORT = 18,       /* the page buffer is too short (oat_page alone) */
     OAT_TALLY_SHORT = 19,      /* a tally buffer is too short (oat_tally alone) */
     OAT_LIMITS = 25            /* a limit out of its range; tested before everything else */
 };
@@ -105,6 +107,22 @@ uint16_t oat_check(const uint8_t *file, size_t length, size_t parts, size_t dept
 uint16_t oat_tally(const uint8_t *file, size_t length, size_t parts, size_t depth, uint16_t *rows, size_t rows_length, uint16_t *work,
                    size_t work_length, uint16_t *by_type, size_t by_type_length, uint16_t *by_declaration, size_t by_declaration_length,
                    uint16_t *step, uint16_t *place);
+
+/* Checks a program file as oat_check does and, where it is accepted, prints its rows to the front of `page`, in ASCII. Answers the check's number, step and
+   place, and puts the number of bytes that it wrote into *bytes. `rows` and `work` are as oat_check leaves them, on every outcome; they and `page` may
+   hold anything before the call. None of `step`, `place` and `bytes` is null.
+
+     number     *step, *place                       *bytes                page
+     0          how many steps there are, 0         the page's length     the page; what lies past it stays
+     25, 1-16   those of oat_check                  0                     as before
+     18         0, 0                                0                     as before
+
+   The page has a line of 20 bytes for each node, from byte 20 * i on for node i: its number in 4 columns, its kind in 2, its result in 5 and its binder in
+   5, right aligned with blanks, one blank between, and a line end (byte 10). The last line is `pages P rows Q` and a line end: P full pages of 50 rows,
+   and Q rows left, so that 50 * P + Q is the number of nodes. Nothing stands between pages. 18 is answered for an accepted file where `page` has fewer
+   bytes than that. Zero bytes have no row and the 15 bytes of the last line, `pages 0 rows 0`. */
+uint16_t oat_page(const uint8_t *file, size_t length, size_t parts, size_t depth, uint16_t *rows, size_t rows_length, uint16_t *work,
+                  size_t work_length, uint8_t *page, size_t page_length, uint16_t *step, uint16_t *place, size_t *bytes);
 
 #ifdef __cplusplus
 }

@@ -3,6 +3,8 @@
 //!     check -each FILE...  a line for each file, the slowest against the peer first
 //!     check -read FILE...  a line for each size of file, of reading alone
 //!     check -tally FILE... a line for each size of file, of the tallies, which check the file first
+//!     check -page FILE...  the same of the page
+use std::cell::RefCell;
 use std::fs;
 use std::hint::black_box;
 use std::time::Instant;
@@ -10,11 +12,13 @@ use std::time::Instant;
 extern "C" {
     fn oat_read(file: *const u8, length: usize, parts: usize, depth: usize) -> u16;
     fn oat_check(file: *const u8, length: usize, parts: usize, depth: usize, rows: *mut u16, rows_length: usize, work: *mut u16, work_length: usize, step: &mut u16, place: &mut u16, pairs: &mut u32) -> u16;
+    fn oat_page(file: *const u8, length: usize, parts: usize, depth: usize, rows: *mut u16, rows_length: usize, work: *mut u16, work_length: usize, page: *mut u8, page_length: usize, step: &mut u16, place: &mut u16, bytes: &mut usize) -> u16;
     fn oat_tally(file: *const u8, length: usize, parts: usize, depth: usize, rows: *mut u16, rows_length: usize, work: *mut u16, work_length: usize, by_type: *mut u16, by_type_length: usize, by_declaration: *mut u16, by_declaration_length: usize, step: &mut u16, place: &mut u16) -> u16;
 }
 
 const NUMBERS: usize = 8192;
 const TALLIES: (usize, usize) = (512, 2048);
+const PAGE: usize = 81_937;
 const WIDEST: oat_peer::Limits = oat_peer::Limits::WIDEST;
 
 fn proved(file: &[u8], rows: &mut [u16], work: &mut [u16]) -> u16 {
@@ -40,12 +44,19 @@ fn peers_tally(file: &[u8], rows: &mut [u16], work: &mut [u16]) -> u16 {
     oat_peer::tally(file, WIDEST, rows, work, &mut by_type, &mut by_declaration).number
 }
 
+fn proved_page(file: &[u8], rows: &mut [u16], work: &mut [u16], page: &mut [u8]) -> u16 {
+    let (mut step, mut place, mut bytes) = (0, 0, 0);
+    // SAFETY: every pointer points to as many elements as its length says, and none overlap
+    unsafe { oat_page(file.as_ptr(), file.len(), WIDEST.parts, WIDEST.depth, rows.as_mut_ptr(), rows.len(), work.as_mut_ptr(), work.len(), page.as_mut_ptr(), page.len(), &mut step, &mut place, &mut bytes) }
+}
+
 /// What is timed.
 #[derive(Clone, Copy, PartialEq)]
 enum Asked {
     Check,
     Read,
     Tally,
+    Page,
 }
 
 /// Nanoseconds of one call: `calls` calls are timed together.
@@ -78,12 +89,14 @@ fn race(file: &[u8], rows: &mut [u16], work: &mut [u16], one: impl Fn(&[u8], &mu
 }
 
 fn measure(name: String, file: &[u8], rows: &mut [u16], work: &mut [u16], asked: Asked) -> Timed {
+    let pages = [RefCell::new(vec![0; PAGE]), RefCell::new(vec![0; PAGE])];
     let number = proved(file, rows, work);
     let nodes = oat_peer::node_count(file);
     let (proved, peer) = match asked {
         Asked::Check => race(file, rows, work, |f, r, w| { black_box(proved(f, r, w)); }, |f, r, w| { black_box(oat_peer::check(f, WIDEST, r, w)); }),
         Asked::Read => race(file, rows, work, |f, _, _| { black_box(proved_read(f)); }, |f, _, _| { black_box(oat_peer::read(f, WIDEST)); }),
         Asked::Tally => race(file, rows, work, |f, r, w| { black_box(proved_tally(f, r, w)); }, |f, r, w| { black_box(peers_tally(f, r, w)); }),
+        Asked::Page => race(file, rows, work, |f, r, w| { black_box(proved_page(f, r, w, &mut pages[0].borrow_mut())); }, |f, r, w| { black_box(oat_peer::page(f, WIDEST, r, w, &mut pages[1].borrow_mut())); }),
     };
     Timed { name, nodes, number, proved, peer }
 }
@@ -112,6 +125,7 @@ fn main() {
     let asked = match paths.first().map(String::as_str) {
         Some("-read") => Asked::Read,
         Some("-tally") => Asked::Tally,
+        Some("-page") => Asked::Page,
         _ => Asked::Check,
     };
     if each || asked != Asked::Check {

@@ -1,6 +1,6 @@
 #!/usr/bin/env bash
-# Times the proved check and the peer's side by side: on the stored corpus by size, reading alone and the tallies too, on the files that are slowest against
-# the peer, and on files that grow; and measures the stack. First it tells how many tables the compiler made of the matches of `node_tree`: 6, or reading is slower.
+# Times the proved check and the peer's side by side: on the stored corpus by size, reading alone, the tallies and the page too, on the files that are slowest
+# against the peer, and on files that grow; and measures the stack. First it tells how many tables the compiler made of the matches of `node_tree`: 6, or reading is slower.
 set -eu
 cd "$(dirname "$0")/../.."
 (cd tests/peer && cargo build --release --offline 2> /dev/null)
@@ -15,6 +15,8 @@ echo "reading alone"
 "$out/check" -read tests/vectors/check.bin
 echo "tallies"
 "$out/check" -tally tests/vectors/check.bin
+echo "page"
+"$out/check" -page tests/vectors/check.bin
 echo "slowest of the corpus against the peer"
 "$out/check" -each tests/vectors/check.bin > "$out/each"
 head -n 12 "$out/each"

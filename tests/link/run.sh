@@ -1,8 +1,9 @@
 #!/usr/bin/env bash
 # Links the programs of examples/c and examples/rust with the static library, runs them on examples, and compares what they print with
-# tests/link/expected.txt and, of tallies, tests/link/tallies.txt. The library is built where it is missing or older than a file of a crate.
+# tests/link/expected.txt and, of tallies and pages, tests/link/tallies.txt and tests/link/pages.txt. The library is built where it is missing or older
+# than a file of a crate.
 #     tests/link/run.sh            compare
-#     tests/link/run.sh --expect   write both files from the peer's answers (after cargo build --release in tests/peer)
+#     tests/link/run.sh --expect   write the three files from the peer's answers (after cargo build --release in tests/peer)
 set -eu
 cd "$(dirname "$0")/../.."
 library=target/staticlib/liboat_c.a
@@ -68,6 +69,27 @@ one_byte
 END
 }
 
+# each example whose page is printed, and limits: a full page, and one with rows behind it, binders of every sort, no row, zero bytes, the least limits
+# that let a file pass, and refusals of each sort
+paged() {
+    cat <<'END'
+one_global
+pan_levels
+same_name_inner
+page_and_two_rows
+new_pan
+new_pan 1 1
+nested_calls 5 6
+nested_calls 4 6
+nested_calls 5 5
+nested_calls 0 100
+var_twice
+pan_c_not_below_a
+cut_short
+one_byte
+END
+}
+
 if [ "${1:-}" = --expect ]; then
     low() { for n; do printf "\\x$(printf %02x $((n % 256)))\\x$(printf %02x $((n / 256)))\\0\\0"; done; }
     cases | while read -r name a b limits; do
@@ -78,6 +100,7 @@ if [ "${1:-}" = --expect ]; then
         echo "type $a below type $b: $said, pairs $pairs"
     done > tests/link/expected.txt
     tallied | while read -r name limits; do "$peer" tally $limits < "examples/$name.oat"; done > tests/link/tallies.txt
+    paged | while read -r name limits; do "$peer" page $limits < "examples/$name.oat"; done > tests/link/pages.txt
     exit
 fi
 
@@ -86,7 +109,7 @@ trap 'rm -r "$out"' EXIT
 if [ ! -e "$library" ] || [ -n "$(find crates crates.txt -newer "$library" -type f -print -quit)" ]; then
     rt staticlib oat_c > "$out/log" 2>&1 || { cat "$out/log"; exit 1; }
 fi
-for name in check tally; do
+for name in check tally page; do
     cc -std=c11 -Wall -Wextra -Werror -O2 -I include "examples/c/$name.c" -L target/staticlib -l:liboat_c.a -o "$out/${name}_c"
     rustc --edition 2021 -D warnings -O "examples/rust/$name.rs" -L target/staticlib -l static=oat_c -o "$out/${name}_rust"
 done
@@ -95,8 +118,14 @@ for program in check_c check_rust; do
     diff tests/link/expected.txt "$out/$program.txt"
     echo "tests/link: $program prints what is expected"
 done
-for program in tally_c tally_rust; do
-    tallied | while read -r name limits; do "$out/$program" "examples/$name.oat" $limits; done > "$out/$program.txt"
-    diff tests/link/tallies.txt "$out/$program.txt"
-    echo "tests/link: $program prints what is expected"
-done
+
+# runs both programs of a name on the examples that a function lists, and compares with a file
+compare() {
+    for program in "$1_c" "$1_rust"; do
+        "$2" | while read -r name limits; do "$out/$program" "examples/$name.oat" $limits; done > "$out/$program.txt"
+        diff "$3" "$out/$program.txt"
+        echo "tests/link: $program prints what is expected"
+    done
+}
+compare tally tallied tests/link/tallies.txt
+compare page paged tests/link/pages.txt

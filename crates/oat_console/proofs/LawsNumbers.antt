@@ -1,16 +1,14 @@
 -- The number that a word says, digit by digit. Assumes nothing.
 use mathlib.Core.Path.{_≡_, refl, ap, sym, _∙_}
-use mathlib.Core.Bool.{Bool, true, false}
+use mathlib.Core.Bool.{true, false}
 use mathlib.Core.List.{List, [], _∷_}
-use Prim.Native.Nat.{ℕ, suc, _+_, _*_, _-_, _≤_, _<_, min}
+use Prim.Native.Nat.{ℕ, suc, _+_, _*_, _-_, _≤_, _<_}
 use native.Mathlib.Numerals.{add-one}
 use native.Mathlib.Omega.{arith}
 use lib.ListN.{length, getD, drop, drop-of-length-le}
 use lib.Seq.{drop-cons}
-use lib.Dec.{leb}
 use borrow.Author.Tests.{le-leb, lt-leb}
 use Rattle.oat.specs.Basics.{pick}
-use Rattle.oat_console.specs.declared.words.Number.{Number}
 use Rattle.oat_console.specs.declared.words.Number.the-variants.{Is, Absent}
 use Rattle.oat_console.specs.Numbers.{isDigit, withDigit, numberAfter, numberIn}
 

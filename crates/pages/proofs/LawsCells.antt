@@ -50,9 +50,7 @@ module _ (out₀ : List ℕ) (at : ℕ) where
 module _ (width n last : ℕ) (fits : length (decimal n) ≤ width) where
   pub cell-length : length (cell width n last) ≡ width + 1
   unfolding cell
-  cell-length =
-      let room = width - length (decimal n) in
-      omega (arith, length-append (blanks room) (word n last), blanks-length room, word-length n last)
+  cell-length = simp (length-append, blanks-length, word-length) (omega arith)
 
   module _ (out₀ : List ℕ) (at room digits : ℕ) (d : digits ≡ length (decimal n)) (b : room ≡ width - digits) (h : at + width < length out₀) where
     pub blanks-room : at + room ≤ length out₀
