@@ -5,10 +5,10 @@
    time as long as no buffer is lent to two of them. A pointer points to as many elements as the length after it says; with the length 0
    it may be any pointer, but not a null pointer. The parts of memory that are lent to one call do not overlap.
 
-   All else that a call uses is on the stack: local arrays of at most 15,404 bytes together, in oat_tally of 25,816, and the frames of nested
-   calls, whose number no file raises past a bound. The most measured is 103,856 bytes on the stored files and 189,472 on a file made to
-   need much, so a thread that calls should have 256 KiB of stack left. No theorem bounds the stack in bytes (docs/BENCHMARKS.md); a call
-   with too little fails as any function of C does. */
+   All else that a call uses is on the stack: local arrays of at most 15,404 bytes together, in oat_page of 15,448 and in oat_tally of 25,816, and the
+   frames of nested calls, whose number no file raises past a bound. The most measured is 103,856 bytes on the stored files and 189,472 on a file made
+   to need much, so a thread that calls should have 256 KiB of stack left. No theorem bounds the stack in bytes (docs/BENCHMARKS.md); a call with too
+   little fails as any function of C does. */
 #ifndef OAT_H
 #define OAT_H
 
