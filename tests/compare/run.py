@@ -51,31 +51,15 @@ def unpack(packed):
         at += 4 + length
 
 
-def unpack_limited(packed):
-    """Each file with its setting, parts and depth."""
-    at = 0
-    while at < len(packed):
-        length = number(packed, at)
-        yield packed[at + 12:at + 12 + length], (number(packed, at + 4), number(packed, at + 8))
-        at += 12 + length
-
-
-def unpack_tallies(packed):
-    """Each file with its setting, parts, depth and the lengths of the two tallies."""
-    at = 0
-    while at < len(packed):
-        length = number(packed, at)
-        yield packed[at + 20:at + 20 + length], tuple(number(packed, at + 4 * k) for k in range(1, 5))
-        at += 20 + length
-
-
-def unpack_pages(packed):
-    """Each file with its setting, parts, depth and the length of the page's buffer."""
-    at = 0
-    while at < len(packed):
-        length = number(packed, at)
-        yield packed[at + 16:at + 16 + length], tuple(number(packed, at + 4 * k) for k in range(1, 4))
-        at += 16 + length
+def unpack_set(many):
+    """Each file with its setting, as many numbers: parts, depth and the lengths of the buffers that are lent for the answer."""
+    def unpacked(packed):
+        at, head = 0, 4 * (1 + many)
+        while at < len(packed):
+            length = number(packed, at)
+            yield packed[at + head:at + head + length], tuple(number(packed, at + 4 * k) for k in range(1, 1 + many))
+            at += head + length
+    return unpacked
 
 
 CHECK = Question("gen", "batch", "check_vectors", unpack, 0)
@@ -83,9 +67,9 @@ NAMES = CHECK._replace(make="gennames")
 ENDLESS = CHECK._replace(make="genendless")
 LEVELS = CHECK._replace(make="genlevels")
 PAIRS = CHECK._replace(make="genpairs")
-LIMITS = Question("genlimits", "limitbatch", "limit_vectors", unpack_limited, 2)
-TALLIES = Question("gentallies", "tallybatch", "tally_vectors", unpack_tallies, 0)
-PAGES = Question("genpages", "pagebatch", "page_vectors", unpack_pages, 0)
+LIMITS = Question("genlimits", "limitbatch", "limit_vectors", unpack_set(2), 2)
+TALLIES = Question("gentallies", "tallybatch", "tally_vectors", unpack_set(4), 0)
+PAGES = Question("genpages", "pagebatch", "page_vectors", unpack_set(3), 0)
 
 
 def refusal(said, question):

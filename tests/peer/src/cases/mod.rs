@@ -155,3 +155,11 @@ pub fn only(t: u16, body: Vec<Tree>) -> Program {
 pub fn pan(t: u16, parameters: &[u16], body: Vec<Tree>) -> Program {
     pans().with([func(F, t, parameters, body)])
 }
+
+/// The one function `f` of type 4, in a file whose type 5 is string[].
+fn function_of(result: u16, body: Vec<Tree>) -> Vec<u8> {
+    let mut p = Program::new();
+    let f = p.function(result, &[]);
+    p.array(STRING);
+    p.with([func(F, f, &[], body)]).bytes()
+}

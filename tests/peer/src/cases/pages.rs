@@ -2,7 +2,7 @@
 //! by hand, and refusals that leave its buffer as it is.
 
 use super::rows::every_kind;
-use super::{F, G, H, I, P, X, Y, Z};
+use super::{F, G, H, I, P, X, Y, Z, function_of};
 use crate::Limits;
 use crate::program::*;
 
@@ -651,14 +651,6 @@ fn refused_unread(cases: &mut Cases) {
     unread("a field of type 3", broken.bytes(), 4);
     unread("kind 99", Program::new().with([node(99, 0, 0, vec![])]).bytes(), 5);
     unread("a true behind two globals", trues(4).with([tru()]).bytes(), 5);
-}
-
-/// The one function `f` of type 4; type 5 is string[].
-fn function_of(result: u16, body: Vec<Tree>) -> Vec<u8> {
-    let mut p = Program::new();
-    let f = p.function(result, &[]);
-    p.array(STRING);
-    p.with([func(F, f, &[], body)]).bytes()
 }
 
 /// 7 to 16 come before 18.

@@ -2,7 +2,7 @@
 //! by declaration, both tallies told by hand, and refusals that change neither.
 
 use super::rows::every_kind;
-use super::{DRY, F, G, H, I, P, X, Y, Z};
+use super::{DRY, F, G, H, I, P, X, Y, Z, function_of};
 use crate::Limits;
 use crate::program::*;
 
@@ -657,14 +657,6 @@ fn refused_unread(cases: &mut Cases) {
     unread("a global without a value", Program::new().with([node(1, G, 0, vec![])]).bytes(), 5);
 }
 
-/// A file refused by typing, without its lengths.
-fn refused_function(result: u16, body: Vec<Tree>) -> Vec<u8> {
-    let mut p = Program::new();
-    let f = p.function(result, &[]);
-    p.array(STRING);
-    p.with([func(F, f, &[], body)]).bytes()
-}
-
 /// 7 to 16 come before 19. `f` has six types and one declaration.
 fn refused_by_typing(cases: &mut Cases) {
     let mut typed = |name, file, answer, exact| refuse(cases, Limits::WIDEST, name, file, answer, exact);
@@ -677,21 +669,21 @@ fn refused_by_typing(cases: &mut Cases) {
     typed("8 a name unknown", Program::new().with([global(G, name(Y))]).bytes(), [8, 0, 1], [4, 1]);
     let unknown = table(&[Struct(9), Nullable(4)]).with([global(G, null(5))]);
     typed("9 Q null", unknown.bytes(), [9, 0, 1], [6, 1]);
-    let condition = refused_function(VOID, vec![when(int(1), vec![], vec![])]);
+    let condition = function_of(VOID, vec![when(int(1), vec![], vec![])]);
     typed("10 if(1)", condition, [10, 1, 2], [6, 1]);
-    typed("11 return true for int", refused_function(INT, vec![ret(tru())]), [11, 1, 2], [6, 1]);
+    typed("11 return true for int", function_of(INT, vec![ret(tru())]), [11, 1, 2], [6, 1]);
     let mut none_named = table(&[Struct(1)]);
     none_named.declare(1, &[[P, INT]]);
     let none_named = none_named.with([global(G, record(4, vec![]))]);
     typed("12 a field not named", none_named.bytes(), [12, 1, 1], [5, 1]);
-    let argument = refused_function(VOID, vec![run(name(F), vec![int(1)])]);
+    let argument = function_of(VOID, vec![run(name(F), vec![int(1)])]);
     typed("12 f(1), f takes none", argument, [12, 1, 2], [6, 1]);
-    typed("13 return 1 in void", refused_function(VOID, vec![ret(int(1))]), [13, 1, 2], [6, 1]);
-    let as_value = refused_function(VOID, vec![var(X, call(name(F), vec![])), done()]);
+    typed("13 return 1 in void", function_of(VOID, vec![ret(int(1))]), [13, 1, 2], [6, 1]);
+    let as_value = function_of(VOID, vec![var(X, call(name(F), vec![])), done()]);
     typed("13 a void call as an expression", as_value, [13, 1, 3], [6, 1]);
-    typed("14 an empty body", refused_function(VOID, vec![]), [14, 1, 0], [6, 1]);
-    typed("15 f = f", refused_function(VOID, vec![set(name(F), name(F))]), [15, 1, 2], [6, 1]);
-    typed("16 new string[3]", refused_function(VOID, vec![var(X, blank(5, int(3)))]), [16, 1, 3], [6, 1]);
+    typed("14 an empty body", function_of(VOID, vec![]), [14, 1, 0], [6, 1]);
+    typed("15 f = f", function_of(VOID, vec![set(name(F), name(F))]), [15, 1, 2], [6, 1]);
+    typed("16 new string[3]", function_of(VOID, vec![var(X, blank(5, int(3)))]), [16, 1, 3], [6, 1]);
     let late = to_void_and_ints().with([counting(F, 3), listing(G, 2), func(H, 4, &[], ints(2))]);
     typed("14 in the last of three declarations", late.bytes(), [14, 4, 12], [6, 3]);
 }
