@@ -1,7 +1,7 @@
 -- The claims of document 02, (iii), of a call of `page`: under any number but 0 it gives 0 bytes and the buffer stays (`page-stays`); under 0 its first
 -- bytes are the page, and what lies past it stays (`page-room`, `page-front`, `page-past`); the width of every row's line (`page-width`) and its columns
--- (`page-columns`); 50 times P plus Q is the node count (`page-count`); and 81,937 bytes are always enough (`page-most`, `page-enough`). Then some
--- lines, byte by byte. Assumes nothing.
+-- (`page-columns`); 50 times P plus Q is the node count (`page-count`); and 81,937 bytes are always enough (`page-most`, `page-enough`). Then a page
+-- and some lines, byte by byte. Assumes nothing.
 use mathlib.Core.Path.{_≡_, refl, ap, sym, _∙_}
 use mathlib.Core.Bool.{Bool, true, false}
 use mathlib.Core.List.{List, [], _∷_, _++_}
@@ -11,13 +11,14 @@ use lib.ListN.{length, getD, take, drop, length-append}
 use lib.Seq.{take-at, drop-at}
 use lib.Dec.{eqb}
 use borrow.Author.Tests.{eqb-true, eqb-false}
-use Rattle.oat.specs.ProgramFile.{Limits, Program, IsFile}
+use Rattle.oat.specs.Tables.{Tables}
+use Rattle.oat.specs.ProgramFile.{Limits, Program, baseTypes, IsFile}
 use Rattle.printing.specs.Text.{digits, decimal, word}
 use Rattle.demand3.proofs.Theorem.{accepted-file}
 use Rattle.typing.specs.declared.check.Answer.{Answer as CheckAnswer}
 use Rattle.typing.specs.Check.{outcomeOf}
 use Rattle.pages.specs.declared.Answer.{Answer}
-use Rattle.pages.specs.Page.{cell, rowLine, lastLine, fullPages, rowsLeft, pageOf}
+use Rattle.pages.specs.Page.{cell, rowLine, rowLines, lastLine, fullPages, rowsLeft, pageOf}
 use Rattle.pages.specs.Columns.{RowAt, LastAt}
 use Rattle.pages.specs.Paging.{AfterAcceptance, short, printed, Paged}
 use Rattle.pages.proofs.LawsLines.{two-digits, last-long}
@@ -104,12 +105,19 @@ module _ {l : Limits} {F R W O R′ W′ O′ : List ℕ} {r : Answer} (t : Page
     pub page-enough : t .check .number ≡ 0 → 81937 ≤ length O → r .number ≡ 0
     page-enough z h = enough-of z (t .accepted z p f) (omega (arith, h, few-bytes z))
 
--- node 0, kind 1, result 1 and no binder: `   0  1     1 65535`; and a line without blanks but one between
-pub first-line : rowLine 0 1 1 65535
-    ≡ 32 ∷ 32 ∷ 32 ∷ 48 ∷ 32 ∷ 32 ∷ 49 ∷ 32 ∷ 32 ∷ 32 ∷ 32 ∷ 32 ∷ 49 ∷ 32 ∷ 54 ∷ 53 ∷ 53 ∷ 51 ∷ 53 ∷ 10 ∷ []
-unfolding rowLine cell word decimal digits
-first-line = refl
+-- the nodes (1,5,0,1) and (11,0,0,0)
+abbrev pub two-nodes : Tables
+two-nodes = record { types = baseTypes; list = []; fields = []; structs = []; builtIns = []; nodes = record { kind = 1; x = 5; t = 0; children = 1 } ∷ record { kind = 11; x = 0; t = 0; children = 0 } ∷ [] }
 
+-- their page, where they have type 1 and no binder: `   0  1     1 65535`, `   1 11     1 65535`, `pages 0 rows 2`
+pub two-rows : pageOf two-nodes (1 ∷ 65535 ∷ 1 ∷ 65535 ∷ [])
+    ≡ 32 ∷ 32 ∷ 32 ∷ 48 ∷ 32 ∷ 32 ∷ 49 ∷ 32 ∷ 32 ∷ 32 ∷ 32 ∷ 32 ∷ 49 ∷ 32 ∷ 54 ∷ 53 ∷ 53 ∷ 51 ∷ 53 ∷ 10
+    ∷ 32 ∷ 32 ∷ 32 ∷ 49 ∷ 32 ∷ 49 ∷ 49 ∷ 32 ∷ 32 ∷ 32 ∷ 32 ∷ 32 ∷ 49 ∷ 32 ∷ 54 ∷ 53 ∷ 53 ∷ 51 ∷ 53 ∷ 10
+    ∷ 112 ∷ 97 ∷ 103 ∷ 101 ∷ 115 ∷ 32 ∷ 48 ∷ 32 ∷ 114 ∷ 111 ∷ 119 ∷ 115 ∷ 32 ∷ 50 ∷ 10 ∷ []
+unfolding pageOf rowLines rowLine cell lastLine word decimal digits
+two-rows = refl
+
+-- a line without blanks but those between
 pub full-line : rowLine 4095 15 10000 40127
     ≡ 52 ∷ 48 ∷ 57 ∷ 53 ∷ 32 ∷ 49 ∷ 53 ∷ 32 ∷ 49 ∷ 48 ∷ 48 ∷ 48 ∷ 48 ∷ 32 ∷ 52 ∷ 48 ∷ 49 ∷ 50 ∷ 55 ∷ 10 ∷ []
 unfolding rowLine cell word decimal digits

@@ -25,6 +25,7 @@ pub struct Answer {
     pub bytes: usize,
 }
 
+// An answer.
 fn told(number: u16, step: u16, place: u16, bytes: usize) -> Answer
     ensures { λ r. ⌜ r ≡ answer number step place bytes ⌝ }
 {

@@ -68,7 +68,7 @@ fn sizes() {
     let tallies = stored(Question::Tallies);
     let within = |c: &Lent| c.asked.file.len() <= 45_068 && c.lengths[0] <= 520 && c.lengths[1] <= 4100;
     assert!(Question::Tallies.unpack(&tallies).iter().all(within));
-    assert!(size(Question::Pages, "bin") + size(Question::Pages, "txt") < 1_600_000);
+    assert!(size(Question::Pages, "bin") + size(Question::Pages, "txt") < 1_700_000);
     let pages = stored(Question::Pages);
     assert!(Question::Pages.unpack(&pages).iter().all(|c| c.asked.file.len() <= 45_068 && c.lengths[0] <= 82_000));
     assert!(print::unpack(&stored(Question::Sub)).len() >= 300);
