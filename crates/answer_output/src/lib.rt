@@ -1,4 +1,6 @@
 // An answer and the rows of a file's nodes, to standard output.
+#![tactic(auto)]
+
 ghost use Rattle.std.specs.Prelude.{◌≡◌};
 ghost use Rattle.program_file.specs.Reading.{setting_of, reading_of};
 ghost use Rattle.printing.specs.Outcome.{leaves, print_of};

@@ -6,7 +6,7 @@ use file_sections::Sections;
 use subtyping::below::Compared;
 
 // A type, a mark (goes on, returns), or the number and the place of a refusal. A list of expressions goes on.
-#[derive(Drop)]
+#[derive(Clone, Copy)]
 pub enum Judgement {
     Typed(usize),
     GoesOn,
@@ -15,7 +15,7 @@ pub enum Judgement {
 }
 
 // What is fixed within a declaration: the file's sections, the height at which its locals begin, and the type that it returns.
-#[derive(Drop)]
+#[derive(Clone, Copy)]
 pub struct Frame {
     pub sections: Sections,
     pub base: usize,
@@ -23,7 +23,7 @@ pub struct Frame {
 }
 
 // Where the walk stands: a node, the height of the scope, and how many pairs of types were compared so far.
-#[derive(Drop)]
+#[derive(Clone, Copy)]
 pub struct At {
     pub node: usize,
     pub scope: usize,
@@ -31,7 +31,7 @@ pub struct At {
 }
 
 // A judgement, and where the walk stands after the part.
-#[derive(Drop)]
+#[derive(Clone, Copy)]
 pub struct Judged {
     pub judgement: Judgement,
     pub at: At,

@@ -19,14 +19,14 @@ use subtyping::below::{Compared, below};
 use type_index::formed::is_formed;
 
 // What a binary operator asks of its operands: both are of one type, and the type that it gives; or each is below the other.
-#[derive(Drop)]
+#[derive(Clone, Copy)]
 pub enum Operator {
     Fixed(usize, usize),
     Equality,
 }
 
 // What the types of a list of expressions are to be below: each the same type, or the run of the type list from an entry on.
-#[derive(Drop)]
+#[derive(Clone, Copy)]
 pub enum Expected {
     Each(usize),
     Run(usize),

@@ -1,3 +1,5 @@
 // Answers of typing: judgements and rows, expressions without children, and tests on types.
+#![tactic(auto)]
+
 pub mod answer;
 pub mod leaves;

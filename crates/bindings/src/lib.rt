@@ -2,6 +2,8 @@
 // and type. A position counts both. A scope is a height, the position after its latest binding; a name binds what its binder's node
 // names. `chains` leads from a name to its latest position: its first 512 numbers are the heads of chains, one for the names of each
 // remainder by 512, and the number 512 + j leads from the position j to the one before it in its chain; all one higher, 0 for none.
+#![tactic(auto)]
+
 ghost use Rattle.std.specs.Prelude.{◌≡◌, ◌+◌, ◌*◌, ◌%◌, ◌≤◌, ◌<◌, length, get_or, set};
 ghost use Rattle.file_sections.specs.Layout.{tables_of};
 ghost use Rattle.bindings.specs.Bindings.{binder_of, type_bound, name_bound, Position, Scoped, Some, SomeFrom, Finds, Freshness, Assignability, Bindable, Bound};
@@ -13,7 +15,7 @@ use file_sections::records::{built_in_name, built_in_type, node_kind, node_x};
 pub type Chains = [u16; 4736];
 
 // The position that binds a name.
-#[derive(Drop)]
+#[derive(Clone, Copy)]
 pub enum Found {
     At(usize),
     Nothing,

@@ -1,6 +1,8 @@
 // Reads packed files from standard input, each as 4 length bytes, low first, and then the file, and checks each one in several buffers.
 // It prints for each file the answer and a line for each fact about the buffers, with NOT before what is not so, and then a line `--`.
 // A fact is found by comparing every number with what stood there before. Files have at most 240 nodes.
+#![tactic(auto)]
+
 ghost use Rattle.std.specs.Prelude.{◌≤◌};
 
 use answer_output::node_count;
@@ -9,7 +11,7 @@ use typing::check::{Answer, check};
 use vector_input::{next_length, read_one};
 
 // A file's answer, and the buffers as its check left them.
-#[derive(Drop)]
+#[derive(Clone, Copy)]
 struct Outcome {
     answer: Answer,
     rows: [u16; 512],

@@ -1,5 +1,7 @@
 // Chains among numbers: from each head through the positions of one bucket, the latest first. A head and a link are one higher than
 // the position that they lead to, 0 for none.
+#![tactic(auto)]
+
 ghost use Rattle.std.specs.Prelude.{◌≡◌, ◌<◌, length, get_or, set};
 
 // Puts a position first in the chain of a head: its link, at `place`, leads to where the head led, and the head to `value`.

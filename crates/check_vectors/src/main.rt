@@ -1,6 +1,8 @@
 // Reads packed files from standard input, each as 4 length bytes, low first, and then the file, and prints for each the answer, for an
 // accepted file a line for each node with its number and row, a line `pairs N` with how many pairs of types were compared, and then a line
 // `--`. The buffers are left as each file leaves them, so that every file but the first is checked over the numbers of another.
+#![tactic(auto)]
+
 use answer_output::{node_count, write_answer};
 use program_file::widest;
 use typing::check::check;

@@ -1,2 +1,4 @@
 // Expressions: each kind's rule, over type numbers. Answers and rows are those of the definition.
+#![tactic(auto)]
+
 pub mod cycle;

@@ -8,7 +8,7 @@ use file_sections::Sections;
 use file_sections::records::{field_name, field_type, struct_count, struct_first};
 
 // The number of a field's type.
-#[derive(Drop)]
+#[derive(Clone, Copy)]
 pub enum FieldType {
     Of(usize),
     Unknown,

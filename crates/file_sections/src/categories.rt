@@ -4,7 +4,7 @@ ghost use Rattle.oat.specs.Nodes.{is_declaration_kind, is_expression_kind, is_st
 ghost use Rattle.file_sections.specs.Categories.{category_of};
 
 // Parameters (3), field initializers (22), blocks (39) and what is absent (40) are of no category, nor is a number that is no kind.
-#[derive(Drop)]
+#[derive(Clone, Copy)]
 pub enum Category {
     Declaration,
     Expression,

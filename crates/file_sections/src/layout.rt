@@ -6,7 +6,7 @@ use crate::numbers::number;
 use crate::{Reading, Sections};
 
 // One section: refused under 1 or 2, or its count and the number that comes after it.
-#[derive(Drop)]
+#[derive(Clone, Copy)]
 pub enum Section {
     Bad(u16),
     Counted(usize, usize),

@@ -1,5 +1,7 @@
 // The six sections of a program file (document 01, 'The program file'): numbers, where the sections stand (refused under
 // 1 and 2), readers of single records, the category of a node, and where a tree of nodes ends.
+#![tactic(auto)]
+
 pub mod categories;
 pub mod layout;
 pub mod numbers;
@@ -7,7 +9,7 @@ pub mod records;
 pub mod trees;
 
 // The count of each section, and the number at which its first record begins; types begin at number 1.
-#[derive(Drop)]
+#[derive(Clone, Copy)]
 pub struct Sections {
     pub types: usize,
     pub list: usize,
@@ -23,7 +25,7 @@ pub struct Sections {
 }
 
 // The answer of reading: refused under its number, or where the sections stand.
-#[derive(Drop)]
+#[derive(Clone, Copy)]
 pub enum Reading {
     Refused(u16),
     Good(Sections),

@@ -2,7 +2,7 @@
 ghost use Rattle.input_output.specs.Within.{Within};
 
 // How many bytes a file has, or that it cannot be read.
-#[derive(Drop)]
+#[derive(Clone, Copy)]
 pub enum Input {
     Bytes(usize),
     Failed,

@@ -4,7 +4,7 @@ ghost use Rattle.std.specs.Prelude.{◌≡◌};
 ghost use Rattle.input_output.specs.Digits.{digit_of};
 
 // How a command ended.
-#[derive(Drop)]
+#[derive(Clone, Copy)]
 pub enum Status {
     // accepted, yes, or printed
     Done,

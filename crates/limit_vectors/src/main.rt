@@ -2,6 +2,8 @@
 // first, and then the file. It prints for each a line with the number of its reading, a line with the answers to four subtype questions, each
 // with its count of pairs, the check's answer, for an accepted file a line for each node with its number and row, a line `pairs N` with how many
 // pairs of types the check compared, and then a line `--`. The buffers are left as each case leaves them.
+#![tactic(auto)]
+
 use answer_output::{node_count, write_answer};
 use program_file::Limits;
 use subtyping::question::Answer;

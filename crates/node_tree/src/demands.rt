@@ -42,7 +42,7 @@ const ABSENT: usize = 66304;
 
 // A demand. Its node's x is at most `limit`; its t is less than `free`, or a type of the kind `typed`; it has `least` to `most` children. It stands in
 // one of `roles`.
-#[derive(Drop)]
+#[derive(Clone, Copy)]
 pub struct Demand {
     pub limit: usize,
     pub free: usize,

@@ -8,7 +8,7 @@ ghost use Rattle.node_tree.specs.Demands.{TypeFits};
 use type_tables::types::reference_kind;
 
 // What stands at a place of the tree.
-#[derive(Drop)]
+#[derive(Clone, Copy)]
 pub enum Role {
     Declaration,
     Parameter,

@@ -69,7 +69,7 @@ module _ (H : List Struct) where
   unfolding compare comparison
   compare_base int t e l = single (eq-eqb (kind_of t) 0 (sym e))
   compare_base bool t e l = single (eq-eqb (kind_of t) 1 (sym e))
-  compare_base string t e l = reached_plain _ t (λ h. omega arith) ∙ single (eq-eqb (kind_of t) 2 (sym e))
+  compare_base string t e l = reached_plain (λ y. pair (plainly (eqb (kind_of y) 2))) t (λ h. omega arith) ∙ single (eq-eqb (kind_of t) 2 (sym e))
   compare_base void t e l = single (eq-eqb (kind_of t) 3 (sym e))
   compare_base (struct x) t e l = absurd (omega arith)
   compare_base (array s) t e l = absurd (omega arith)
@@ -93,11 +93,11 @@ module _ (H : List Struct) where
   unfolding compare comparison is_reference_kind
   ref_compare int t k n = absurd (false≢true k)
   ref_compare bool t k n = absurd (false≢true k)
-  ref_compare string t k n = sym (reached_plain _ t n)
+  ref_compare string t k n = sym (reached_plain (λ y. pair (plainly (eqb (kind_of y) 2))) t n)
   ref_compare void t k n = absurd (false≢true k)
-  ref_compare (struct x) t k n = sym (reached_plain _ t n)
-  ref_compare (array s) t k n = sym (reached_plain _ t n)
-  ref_compare (function ss s) t k n = sym (reached_plain _ t n)
+  ref_compare (struct x) t k n = sym (reached_plain (λ y. pair (plainly (on_struct y λ z. struct_below H x z))) t n)
+  ref_compare (array s) t k n = sym (reached_plain (λ y. pair (if_array y λ u. compare_same s u)) t n)
+  ref_compare (function ss s) t k n = sym (reached_plain (λ y. pair (if_function y λ us u. of_one_number ss us (and_next (compare_all H false ss us) ((comparison H true s).ret u)))) t n)
   ref_compare (nullable s) t k n = absurd (false≢true k)
 
   ref_nullable : (s t : Ty) → is_ref s ≡ true → compare H s (nullable t) ≡ pair ((comparison H true s).ref t)
@@ -125,11 +125,11 @@ module _ (H : List Struct) where
   unfolding compare comparison
   compare_kinds int t d n = other_kind d
   compare_kinds bool t d n = other_kind d
-  compare_kinds string t d n = reached_plain _ t n ∙ other_kind d
+  compare_kinds string t d n = reached_plain (λ y. pair (plainly (eqb (kind_of y) 2))) t n ∙ other_kind d
   compare_kinds void t d n = other_kind d
-  compare_kinds (struct x) t d n = reached_plain _ t n ∙ single (no_struct _ t d)
-  compare_kinds (array s) t d n = reached_plain _ t n ∙ ap pair (no_array _ t d)
-  compare_kinds (function ss s) t d n = reached_plain _ t n ∙ ap pair (no_function _ t d)
+  compare_kinds (struct x) t d n = reached_plain (λ y. pair (plainly (on_struct y λ z. struct_below H x z))) t n ∙ single (no_struct (λ z. struct_below H x z) t d)
+  compare_kinds (array s) t d n = reached_plain (λ y. pair (if_array y λ u. compare_same s u)) t n ∙ ap pair (no_array (λ u. compare_same s u) t d)
+  compare_kinds (function ss s) t d n = reached_plain (λ y. pair (if_function y λ us u. of_one_number ss us (and_next (compare_all H false ss us) ((comparison H true s).ret u)))) t n ∙ ap pair (no_function (λ us u. of_one_number ss us (and_next (compare_all H false ss us) ((comparison H true s).ret u))) t d)
   compare_kinds (nullable s) t d n = ap pair (no_opened _ t d)
 
   pub compare_not_ref : (s t : Ty) → (kind_of s ≡ kind_of t → ⊥) → is_ref s ≡ false → compare H s t ≡ pair (plainly false)

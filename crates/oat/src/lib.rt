@@ -1,1 +1,2 @@
 // No code: the Oat v.2 language as definitions, in specs/.
+#![tactic(auto)]

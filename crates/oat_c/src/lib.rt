@@ -1,5 +1,7 @@
 // The operations for C and Rust, over plain pointers and lengths (`rt staticlib oat_c`). The two limits are plain numbers: `parts` from 1 to
 // 200, `depth` from 1 to 100.
+#![tactic(auto)]
+
 ghost use Rattle.std.specs.Prelude.{◌≡◌};
 ghost use Rattle.oat.specs.ProgramFile.{limits_of};
 ghost use Rattle.program_file.specs.Reading.{reading_of, number_of, Reads};

@@ -1,5 +1,7 @@
 // Reads a program file from standard input, checks it, and prints the answer: its number, step and place. For an accepted file a line
 // for each node follows, with its number and row. A read or a write that fails is told on standard error.
+#![tactic(auto)]
+
 ghost use Rattle.oat_check.specs.Answers.{Answers};
 
 use answer_output::{Output, node_count, write_answer};
@@ -9,7 +11,7 @@ use program_file::widest;
 use typing::check::check;
 
 // The number of an answer, and what became of its text.
-#[derive(Drop)]
+#[derive(Clone, Copy)]
 pub struct Answered {
     pub number: u16,
     pub output: Output,

@@ -1,6 +1,8 @@
 // The console: `oat VERB FILE` answers a program file by its name. `check` says whether it is accepted, `page` prints a page of its rows, `subtype`
 // whether one of its types is below another, `tally` how many expressions it has of each type and in each declaration; or why it is refused, in
 // words. Words that are no command, and a file that cannot be opened or read, are told on standard error, with nothing on standard output.
+#![tactic(auto)]
+
 mod answers;
 mod input;
 mod refusal;
@@ -14,7 +16,7 @@ use crate::words::{Number, Setting, complain, complain_at, limits_from, number_a
 use program_file::Limits;
 
 // What is asked of a file.
-#[derive(Drop)]
+#[derive(Clone, Copy)]
 pub enum Question {
     Check,
     Page,
@@ -102,7 +104,7 @@ fn answer_types(words: usize) {
 }
 
 // What the first word says.
-#[derive(Drop)]
+#[derive(Clone, Copy)]
 pub enum Verb {
     Check,
     Page,

@@ -23,7 +23,7 @@ pub(crate) fn same(a: &[u8], b: &[u8]) -> bool
 }
 
 // The number that a word says, or that it says none.
-#[derive(Drop)]
+#[derive(Clone, Copy)]
 pub enum Number {
     Is(usize),
     Absent,
@@ -78,7 +78,7 @@ pub(crate) fn number_at(place: usize) -> Number {
 }
 
 // Which limit a word names, if any.
-#[derive(Drop)]
+#[derive(Clone, Copy)]
 pub enum Named {
     Parts,
     Depth,
@@ -117,7 +117,7 @@ fn with_limit(limits: Limits, named: Named, number: usize) -> Limits {
 }
 
 // The limits that words set; or the place of a word that names none, or of one that no number stands after.
-#[derive(Drop)]
+#[derive(Clone, Copy)]
 pub enum Setting {
     To(Limits),
     Unknown(usize),

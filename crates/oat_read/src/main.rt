@@ -1,5 +1,7 @@
 // Reads a program file from standard input and prints a line with 0, or the number under which it is refused. A read or a write that
 // fails is told on standard error.
+#![tactic(auto)]
+
 ghost use Rattle.std.specs.Prelude.{◌≡◌};
 ghost use Rattle.oat.specs.ProgramFile.{widest as Widest};
 ghost use Rattle.program_file.specs.Reading.{reading_of, number_of};

@@ -2,6 +2,8 @@
 // and on depth, and the length of the page buffer. It prints for each a line with the answer and its count of bytes, all bytes of the page buffer
 // after the call, a line end, and a line `--`. Before each call the page buffer is painted with `#`; rows and work are left as each case leaves
 // them.
+#![tactic(auto)]
+
 use pages::page;
 use program_file::Limits;
 use vector_input::{next_length, next_number, read_one};
@@ -34,7 +36,7 @@ fn answer(file: &[u8], limits: Limits, rows: &mut [u16], work: &mut [u16], out: 
 }
 
 // A case: the length of its file, its limits, and the length of its page buffer.
-#[derive(Drop)]
+#[derive(Clone, Copy)]
 struct Case {
     length: usize,
     limits: Limits,

@@ -1,4 +1,6 @@
 // A printed page of an accepted file's rows (document 02, (iii)).
+#![tactic(auto)]
+
 mod cells;
 mod lines;
 
@@ -14,7 +16,7 @@ use program_file::{Limits, blank_file, meant};
 use typing::check::check_sections;
 
 // The check's number, step and place, and how many bytes the page has; 18 where it has no room, and 0 bytes where there is none.
-#[derive(Drop)]
+#[derive(Clone, Copy)]
 pub struct Answer {
     pub number: u16,
     pub step: u16,

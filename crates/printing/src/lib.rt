@@ -1,4 +1,6 @@
 // An answer and the rows of the nodes, written to a buffer as text.
+#![tactic(auto)]
+
 pub mod lines;
 pub mod numbers;
 
@@ -10,7 +12,7 @@ use crate::lines::{line_length, rows_length, write_line, write_rows};
 
 // What became of a text: it is at the front of the buffer, with its length; the buffer is shorter, with the text's length; or there
 // is none, for want of two numbers in `rows` for each node, or with more nodes than a u16 counts.
-#[derive(Drop)]
+#[derive(Clone, Copy)]
 pub enum Printed {
     Written(usize),
     Short(usize),

@@ -1,5 +1,7 @@
 // Reads a program file (document 01, 'The program file'): the bytes are refused under 1 to 5, or they are the file of one
 // program. Before them comes 25, a limit out of its range (document 02, (xi)). Zero bytes mean the blank file (document 02, (v)).
+#![tactic(auto)]
+
 ghost use Rattle.std.specs.Prelude.{◌≡◌, ◌≤◌};
 ghost use Rattle.oat.specs.ProgramFile.{from_one_to, in_range, blank_file, or_else};
 ghost use Rattle.program_file.specs.Reading.{setting_of, reading_within, reading_of, number_of, ReadsTables};
@@ -7,7 +9,7 @@ ghost use Rattle.program_file.specs.Reading.{setting_of, reading_within, reading
 use file_sections::Reading;
 
 // The two limits: how many parts a type has at most, from 1 to 200, and how deep nodes are at most, from 1 to 100.
-#[derive(Drop)]
+#[derive(Clone, Copy)]
 pub struct Limits {
     pub parts: usize,
     pub depth: usize,

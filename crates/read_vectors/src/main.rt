@@ -1,5 +1,7 @@
 // Reads packed files from standard input, each as 4 length bytes, low first, and then the file, and prints for each a line
 // with 0, or the number under which it is refused.
+#![tactic(auto)]
+
 use vector_input::{next_length, read_one};
 
 // Prints the line of a file of this length.

@@ -19,7 +19,7 @@ use type_index::formed::is_formed;
 
 // How many structs are declared, how many names of built-ins, functions and globals, how many steps are done, and how many pairs of types
 // were compared.
-#[derive(Drop)]
+#[derive(Clone, Copy)]
 pub struct Context {
     pub structs: usize,
     pub names: usize,
@@ -28,7 +28,7 @@ pub struct Context {
 }
 
 // The context after a step, or the number, the step and the place of a refusal, and how many pairs of types were compared up to it.
-#[derive(Drop)]
+#[derive(Clone, Copy)]
 pub enum Stepped {
     Next(Context),
     Refused(usize, usize, usize, usize),

@@ -2,6 +2,8 @@
 // whether the first is below the second. It prints for each file two lines for each type, one with 1 for yes and 0 for no and one with
 // the counts of the pairs of types compared, and then a line `--`. The types end where the question is refused under 17; of any other
 // refusal the number is a line.
+#![tactic(auto)]
+
 use subtyping::question::Answer;
 use vector_input::{next_length, read_one};
 

@@ -21,7 +21,7 @@ use type_index::parts::parts_of;
 use type_index::same::same;
 
 // How a comparison went: whether it holds, and how many pairs it compared.
-#[derive(Drop)]
+#[derive(Clone, Copy)]
 pub struct Compared {
     pub holds: bool,
     pub pairs: usize,

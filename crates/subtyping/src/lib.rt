@@ -1,4 +1,6 @@
 // Subtyping on type numbers, and the subtype question.
+#![tactic(auto)]
+
 pub mod below;
 pub mod question;
 mod unequal;

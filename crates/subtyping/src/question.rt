@@ -9,7 +9,7 @@ use file_sections::{Reading, Sections};
 use program_file::{Limits, blank_file, meant};
 use type_index::index::index_types;
 
-#[derive(Drop)]
+#[derive(Clone, Copy)]
 pub enum Answer {
     Refused(u16),
     Yes(u16),

@@ -1,4 +1,6 @@
 // Tallies of an accepted file's expressions, by type and by declaration (document 02, (iv)).
+#![tactic(auto)]
+
 mod counts;
 mod walk;
 
@@ -15,7 +17,7 @@ use typing::check::check_sections;
 use writing::copy;
 
 // The check's number, step and place; 19 where a tally has no room.
-#[derive(Drop)]
+#[derive(Clone, Copy)]
 pub struct Answer {
     pub number: u16,
     pub step: u16,

@@ -58,7 +58,7 @@ fn tally_node(
 }
 
 // The node after a tree, and how many expressions the tree has.
-#[derive(Drop)]
+#[derive(Clone, Copy)]
 pub struct Tree {
     pub past: usize,
     pub expressions: usize,

@@ -2,6 +2,8 @@
 // and on depth, and the lengths of the two tally buffers. It prints for each a line with the answer, a line `types` and a line `declarations`
 // with the numbers of the tally buffers after the call, and then a line `--`. Before each call the tallies are painted with 7777 and 8888; rows
 // and work are left as each case leaves them.
+#![tactic(auto)]
+
 use program_file::Limits;
 use tallies::tally;
 use vector_input::{next_length, read_one};
@@ -59,7 +61,7 @@ fn answer(
 }
 
 // The lengths of a case: of its file and of its two tallies, with its limits.
-#[derive(Drop)]
+#[derive(Clone, Copy)]
 struct Case {
     length: usize,
     limits: Limits,

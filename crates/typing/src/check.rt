@@ -12,7 +12,7 @@ use steps::context::Stepped;
 use type_index::index::index_types;
 
 // 0 and how many steps there are; or the number, the step and the place of a refusal. Either way, how many pairs of types were compared.
-#[derive(Drop)]
+#[derive(Clone, Copy)]
 pub struct Answer {
     pub number: u16,
     pub step: u16,

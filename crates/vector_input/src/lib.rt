@@ -1,4 +1,6 @@
 // Packed files from standard input: each is 4 length bytes, low first, and then the file.
+#![tactic(auto)]
+
 ghost use Rattle.std.specs.Prelude.{◌≡◌, ◌≤◌, ◌<◌, length, drop};
 ghost use Rattle.vector_input.specs.Length.{number_of, length_of};
 

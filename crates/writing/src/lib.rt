@@ -1,4 +1,6 @@
 // What is written to a lent buffer: a text, a number of 16 bits, and the first numbers of another buffer.
+#![tactic(auto)]
+
 ghost use Rattle.std.specs.Prelude.{◌≡◌, [], ◌∷◌, ◌++◌, ◌+◌, ◌≤◌, length, take, drop};
 ghost use Rattle.oat.specs.Tables.{bytes_of};
 ghost use Rattle.writing.specs.Placed.{placed};
