@@ -1,5 +1,5 @@
 -- Document 01, 'The program file': the six sections as lists of records, and their bytes. Assumes nothing.
-use Rattle.std.specs.Prelude.{List, [], ◌∷◌, ◌++◌, ℕ, ◌+◌, ◌/◌, ◌%◌, length, get_or}
+use Rattle.std.specs.Prelude.{List, [], ◌∷◌, ◌++◌, ℕ, ◌/◌, ◌%◌, length, get_or}
 
 -- the record of a type: its kind, and what the kind makes of a, b and c
 pub record TypeRecord : Type 0 where

@@ -1,7 +1,7 @@
 -- `trees::past` meets its contract. The loop keeps: the trees left of the tree stand from the node come to. Assumes nothing.
-use Prim.Native.Nat.{◌-◌, ◌<◌}
+use Prim.Native.Nat.{◌-◌}
 use Rattle.file_sections.specs.Layout.{tables_of}
-use Rattle.file_sections.proofs.LawsTrees.{Along, along_start, along_within, along_low, along_few, along_next, along_done}
+use Rattle.file_sections.proofs.LawsTrees.{Along}
 use Rattle.file_sections.proofs.trees.past.Given as goal
 
 abbrev pub invariant-loop-open : goal.invariant-loop-open
