@@ -21,7 +21,7 @@ loop-i-preserved-then-inner-eq0 t c =
       omega arith,
       search rules,
       search rules,
-      child_leaf _ _ _ _ _ _ _ _ _ _ _ _ _ c.loop-i.invariant.3 c.loop-i-test.true _ c.child_right.ensures (rw c.if-not-child_right.false) w c.if-deep-eq0.false _ c.number-inner.ensures.0 c.if-inner-eq0.true _ _ refl refl,
+      child_leaf _ _ _ _ _ _ _ _ _ _ _ _ _ c.loop-i.invariant.3 c.loop-i-test.true _ c.child_right.ensures (rw c.if-not-child_right.false) w c.if-deep-eq0.false _ c.number-inner.ensures.0 (omega arith) _ _ refl refl,
     )
 
 pub loop-i-preserved-then-i-many : goal.loop-i-preserved-then-i-many
