@@ -1,10 +1,5 @@
 -- `below::same_fields` meets its contract. The loop keeps: the fields passed are the same. Assumes nothing.
-use mathlib.Core.Path.{◌≡◌}
-use mathlib.Core.Bool.{true}
-use Prim.Native.Nat.{◌-◌, ◌≤◌}
 use borrow.Author.Rules.{rules}
-use Rattle.file_sections.specs.Layout.{tables_of}
-use Rattle.subtyping.specs.Numbered.{same_fields}
 use Rattle.subtyping.proofs.LawsStructs.{no_fields, fields_fail, fields_more, fields_done}
 use Rattle.subtyping.proofs.below.same_fields.Goals as goal
 

@@ -4,7 +4,6 @@ use mathlib.Core.Bool.{true}
 use Prim.Native.Nat.{◌-◌, ◌≤◌}
 use Rattle.file_sections.specs.Layout.{tables_of}
 use Rattle.subtyping.specs.Numbered.{same_fields}
-use Rattle.subtyping.proofs.LawsStructs.{no_fields, fields_fail, fields_more, fields_done}
 use Rattle.subtyping.proofs.below.same_fields.Given as goal
 
 abbrev pub invariant-loop-j : goal.invariant-loop-j

@@ -1,10 +1,5 @@
 -- `unequal::first_unequal` meets its contract. The loop keeps: the parameters passed are equal. Assumes nothing.
-use mathlib.Core.Path.{◌≡◌}
-use mathlib.Core.Bool.{true}
-use Prim.Native.Nat.{◌-◌, ◌≤◌}
 use borrow.Author.Rules.{rules}
-use Rattle.file_sections.specs.Layout.{tables_of}
-use Rattle.type_index.specs.Index.{same_params}
 use Rattle.type_index.proofs.LawsSameTypes.{in_list, no_params, params_more}
 use Rattle.subtyping.proofs.LawsUnequal.{differ_here, differ_nowhere}
 use Rattle.subtyping.proofs.unequal.first_unequal.Goals as goal

@@ -4,8 +4,6 @@ use mathlib.Core.Bool.{true}
 use Prim.Native.Nat.{◌-◌, ◌≤◌}
 use Rattle.file_sections.specs.Layout.{tables_of}
 use Rattle.type_index.specs.Index.{same_params}
-use Rattle.type_index.proofs.LawsSameTypes.{in_list, no_params, params_more}
-use Rattle.subtyping.proofs.LawsUnequal.{differ_here, differ_nowhere}
 use Rattle.subtyping.proofs.unequal.first_unequal.Given as goal
 
 abbrev pub invariant-loop-j : goal.invariant-loop-j
