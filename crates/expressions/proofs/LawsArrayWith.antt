@@ -31,7 +31,7 @@ use Rattle.answers.specs.declared.answer.Judgement.TheVariants.{Typed}
 use Rattle.answers.specs.declared.answer.At.{At}
 use Rattle.answers.specs.declared.answer.Judged.{Judged}
 use Rattle.answers.specs.Answers.{with_row, with_pairs, Asks, Refuses}
-use Rattle.expressions.specs.Contract.{context_of, Fine, After, Typing, Meets, Few, expr_in, Answers, Ready, Told, fills, ReadyFilling, ToldFilling}
+use Rattle.expressions.specs.Contract.{context_of, Fine, After, Typing, Meets, Few, Answers, Ready, Told, fills, ReadyFilling, ToldFilling}
 use Rattle.expressions.proofs.LawsMeets.{Untyped, accepts_now, pairs_told, stops, passes, fails, holds, then_tested, child_no, child_ok}
 use Rattle.expressions.proofs.LawsAfter.{ready, typing_of, after_append, rule_typed}
 use Rattle.expressions.proofs.LawsScope.{typed_in}

@@ -6,7 +6,7 @@ use Prim.Native.Nat.{ℕ, ◌+◌, ◌-◌, ◌*◌, ◌≤◌, ◌<◌}
 use native.Mathlib.Omega.{arith}
 use lib.ListN.{length}
 use lib.Dec.{eqb}
-use borrow.Author.Tests.{eq-eqb, ne_eqb, lt-ltb, le-ltb, not-true, not-false}
+use borrow.Author.Tests.{eq-eqb, ne_eqb, lt-ltb, le-ltb}
 use Rattle.oat.specs.Basics.{pick}
 use Rattle.oat.specs.Tables.{Tables, type_at, node_at}
 use Rattle.oat.specs.Types.{Field, struct_of, Lookup, found, missing, lookup}
@@ -15,7 +15,7 @@ use Rattle.oat.specs.Nodes.{Stands, StandAll}
 use Rattle.oat.proofs.LawsTables.{has-kind}
 use Rattle.typing_rules.specs.Labels.{Label}
 use Rattle.typing_rules.specs.Rules.{names_fit}
-use Rattle.typing_rules.specs.Judge.{Out, ok, no, Counted, giving, and_counting, on_declared, pairs_declared, plain, is_kind, referred, formed, each_asked, arguments_asked, judging}
+use Rattle.typing_rules.specs.Judge.{Out, ok, Counted, giving, and_counting, on_declared, pairs_declared, plain, is_kind, referred, formed, each_asked, arguments_asked, judging}
 use Rattle.typing_rules.proofs.LawsPairs.{expr_pairs}
 use Rattle.file_sections.specs.declared.Sections.{Sections}
 use Rattle.file_sections.specs.Layout.{Has, tables_of}

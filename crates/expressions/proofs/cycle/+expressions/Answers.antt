@@ -1,16 +1,16 @@
 -- What the members of the cycle need. Assumes nothing.
-use Rattle.std.proofs.Common.{rules, ℕ, ◌-◌, arith, refl, ⊎_elim, ◌≡◌, length}
+use Rattle.std.proofs.Common.{rules, ◌-◌, arith, refl, ◌≡◌}
 use Rattle.answers.proofs.LawsOperators.{takes, compares}
-use Rattle.expressions.proofs.LawsArrayWith.{filling_bindable, filling_node, filling_array, filling_ready, filling_no, filling_left, filling_asked, filling_counted, filling_below, filling_ok, filling_fine, filled_first, filled_filling, filled_within, filled_array, filled_entered, filled_unformed, filled_no, filled_sort, filled_no_2, filled_ok}
-use Rattle.expressions.proofs.LawsChild.{has_node, child_type, has_type, type_entered, child_fine, base_within, child_within}
-use Rattle.expressions.proofs.LawsDispatch.{kind_low, kind_high, kind_gap, past_null, kind-at, literal_from, literal_to, binary_kind}
-use Rattle.expressions.proofs.LawsInits.{inits_level, WalkedInits, inits_start, inits_forward, inits_here, inits_ready, inits_child_no, inits_row, inits_counted, inits_tested, inits_again, inits_unfit, inits_done}
-use Rattle.expressions.proofs.LawsLeaves.{null_asked, null_told, literal_asked, literal_told, name_asked, name_told}
-use Rattle.expressions.proofs.LawsList.{list_level, Walked, list_start, list_forward, list_ready, list_child_no, list_counted, list_tested, list_again, list_unfit, list_done}
-use Rattle.expressions.proofs.LawsListRules.{array_type, array_entered, array_list, array_unformed, array_no, array_row, array_ok, row_fits, call_first, call_no, call_sort, call_type, call_void, call_count, call_list, call_no_2, call_row, call_ok, struct_within, struct_missing, struct-named, struct_names, struct_inits, struct_no, struct_row, struct_ok}
+use Rattle.expressions.proofs.LawsArrayWith.{filling_bindable, filling_array, filling_no, filling_left, filling_asked, filling_counted, filling_below, filling_ok, filled_first, filled_filling, filled_array, filled_entered, filled_unformed, filled_no, filled_sort, filled_no_2, filled_ok}
+use Rattle.expressions.proofs.LawsChild.{has_node, child_type, has_type, type_entered, child_fine, child_within}
+use Rattle.expressions.proofs.LawsDispatch.{kind_low, kind_high, kind_gap, kind-at, literal_from, literal_to}
+use Rattle.expressions.proofs.LawsInits.{inits_level, inits_start, inits_forward, inits_here, inits_ready, inits_child_no, inits_row, inits_counted, inits_tested, inits_again, inits_unfit, inits_done}
+use Rattle.expressions.proofs.LawsLeaves.{null_asked, null_told, literal_told, name_told}
+use Rattle.expressions.proofs.LawsList.{list_level, list_start, list_forward, list_ready, list_child_no, list_counted, list_tested, list_again, list_unfit, list_done}
+use Rattle.expressions.proofs.LawsListRules.{array_type, array_entered, array_list, array_unformed, array_no, array_ok, row_fits, call_first, call_no, call_sort, call_type, call_void, call_count, call_list, call_no_2, call_ok, struct_within, struct_missing, struct-named, struct_names, struct_inits, struct_no, struct_ok}
 use Rattle.expressions.proofs.LawsMeets.{unlisted, untyped}
-use Rattle.expressions.proofs.LawsSorts.{default-array, default_within, default_unformed, default_first, default_no, default_sort, default_none, default_ok, field_first, field_no, field_sort, field_unknown, field_within, field_ok, length_first, length_no, length_sort, length_ok, unary_first, unary_no, unary_given, unary_sort, unary_ok}
-use Rattle.expressions.proofs.LawsTwo.{binary_first, binary_no, binary_second, equality_no_2, equality_counted, equality_counted_2, equality_there, equality_back, equality_ok, element_first, element_no, element_sort, element_second, element_no_2, element_sort_2, element_given, element_ok, operator_given, operator_sort, operator_no_2, operator_sort_2, operator_ok}
+use Rattle.expressions.proofs.LawsSorts.{default-array, default_within, default_unformed, default_first, default_no, default_sort, default_none, default_ok, field_first, field_no, field_sort, field_unknown, field_within, field_ok, length_first, length_no, length_sort, length_ok, unary_first, unary_no, unary_sort, unary_ok}
+use Rattle.expressions.proofs.LawsTwo.{binary_first, binary_no, binary_second, equality_no_2, equality_counted, equality_counted_2, equality_there, equality_back, equality_ok, element_first, element_no, element_sort, element_second, element_no_2, element_sort_2, element_given, element_ok, operator_sort, operator_no_2, operator_sort_2, operator_ok}
 use Rattle.expressions.proofs.cycle.+expressions.Goals as goal
 use Rattle.expressions.proofs.cycle.+expressions.Goals.{expression-in_default-via-then-this-lt10, expression-in_default-via-else-this-lt10+else-this-lt15}
 
