@@ -398,7 +398,10 @@ operator-returns-in_default-second t c =
     operator_no_2 c.requires.ready c.requires.node_value c.expression-one.ensures c.in-Typed.is c.requires.node_value_2 c.type_kind.ensures.0 c.if-type_kind-taken.false c.expression-two.ensures (untyped _ c.in_default-second.not-Typed)
 
 pub operator-type_kind-requires-2 : goal.operator-type_kind-requires-2
-operator-type_kind-requires-2 t c = child_type (binary_second c.requires.ready c.requires.node_value c.expression-one.ensures c.in-Typed.is).1 c.expression-two.ensures c.in-Typed-second.is
+operator-type_kind-requires-2 t c =
+    let first_there = child_type (binary_first c.requires.ready c.requires.node_value) c.expression-one.ensures c.in-Typed.is in
+    let second_there = child_type (binary_second c.requires.ready c.requires.node_value c.expression-one.ensures c.in-Typed.is).1 c.expression-two.ensures c.in-Typed-second.is in
+    search (first_there, second_there)
 
 pub operator-returns-then-type_kind-taken-2 : goal.operator-returns-then-type_kind-taken-2
 operator-returns-then-type_kind-taken-2 t c =
