@@ -31,7 +31,7 @@ use Rattle.answers.specs.declared.answer.Judgement.TheVariants.{Typed}
 use Rattle.answers.specs.declared.answer.At.{At}
 use Rattle.answers.specs.declared.answer.Judged.{Judged}
 use Rattle.answers.specs.Answers.{with_row, with_pairs, Asks, Refuses}
-use Rattle.expressions.specs.Contract.{context_of, Fine, After, Typing, Meets, Few, expr_in, Answers, Ready, Told, fills, ReadyFilling, ToldFilling}
+use Rattle.expressions.specs.Contract.{context_of, Fine, After, Typing, Meets, Few, Answers, Ready, Told, fills, ReadyFilling, ToldFilling}
 use Rattle.expressions.proofs.LawsMeets.{Untyped, accepts_now, pairs_told, stops, passes, fails, holds, then_tested, child_no, child_ok}
 use Rattle.expressions.proofs.LawsAfter.{ready, typing_of, after_append, rule_typed}
 use Rattle.expressions.proofs.LawsScope.{typed_in}
@@ -262,21 +262,21 @@ module _ {F : List ℕ} {S : Sections} {X R W K : List ℕ} {base n s π : ℕ} 
         formed_at : (t : ℕ) → (node_at (tables_of F S) n).t ≡ t → formed (tables_of F S) (context_of (tables_of F S) W base) (referred (tables_of F S) t) ≡ b₁
         formed_at t e = sym (formed_is g.fine filled_element eb ∙ ap (λ i. is_formed (declared (tables_of F S)) (type_of (tables_of F S) i)) (ea ∙ ap (λ i. (type_at (tables_of F S) i).a) (et ∙ e)))
 
-        pub filled_unformed : {r : Judged} → not b₁ ≡ true → Refuses r 9 n π → Told F S X R W base n s π R W K r
+        pub filled_unformed : {r : Judged} → b₁ ≡ false → Refuses r 9 n π → Told F S X R W base n s π R W K r
         unfolding judging
         filled_unformed {r} f e =
             record {
               tells = on_filled (Answers F S X R W base n s π R W K r)
-                  (λ t x a b h. stops _ 9 n _ _ (formed_at t h.0.t_is ∙ not-true _ f) e) kind;
+                  (λ t x a b h. stops _ 9 n _ _ (formed_at t h.0.t_is ∙ f) e) kind;
             }
 
-        module _ (f₁ : not b₁ ≡ false) {R₁ W₁ K₁ : List ℕ} {r₁ : Judged} (m₁ : Told F S X R W base (n + 1) s π R₁ W₁ K₁ r₁) where
+        module _ (f₁ : b₁ ≡ true) {R₁ W₁ K₁ : List ℕ} {r₁ : Judged} (m₁ : Told F S X R W base (n + 1) s π R₁ W₁ K₁ r₁) where
           filled_child : (e : Expr) → Stands (tables_of F S) n e → First F S W base n s (λ u. is_kind (tables_of F S) u 0) e
           unfolding judging
           filled_child =
               on_filled (First F S W base n s _)
               (λ t x a b h.
-              record { child = a; stands = h.2; smaller = omega arith; more = _; judged = requires_true _ 9 n _ (formed_at t h.0.t_is ∙ not-false _ f₁) }) kind
+              record { child = a; stands = h.2; smaller = omega arith; more = _; judged = requires_true _ 9 n _ (formed_at t h.0.t_is ∙ f₁) }) kind
 
           pub filled_no : Untyped r₁ → Told F S X R W base n s π R₁ W₁ K₁ r₁
           filled_no = first_no filled_child m₁
@@ -292,7 +292,7 @@ module _ {F : List ℕ} {S : Sections} {X R W K : List ℕ} {base n s π : ℕ} 
                   record {
                     tells = on_filled (Answers F S X R W base n s π R₂ W₂ K₂ r₂)
                         (λ t x a b h.
-                        passes _ 9 n _ (formed_at t h.0.t_is ∙ not-false _ f₁)
+                        passes _ 9 n _ (formed_at t h.0.t_is ∙ f₁)
                         (child_ok _ _ _ u y₁ (m₁.tells a h.2) λ L q p.
                         passes _ 10 n _ (eq-eqb _ _ (sym e₁ ∙ k))
                         (then_tested (judging (tables_of F S) (context_of (tables_of F S) W base) b (n + 1 + size a) (binds (inner (scope_of (tables_of F S) W base s)) x 0 n))
@@ -307,7 +307,7 @@ module _ {F : List ℕ} {S : Sections} {X R W K : List ℕ} {base n s π : ℕ} 
                   record {
                     tells = on_filled (Answers F S X R W base n s π R' W₂ K₂ r)
                         (λ t x a b h.
-                        passes _ 9 n _ (formed_at t h.0.t_is ∙ not-false _ f₁)
+                        passes _ 9 n _ (formed_at t h.0.t_is ∙ f₁)
                         (child_ok _ _ _ u y₁ (m₁.tells a h.2) λ L q p.
                         passes _ 10 n _ (eq-eqb _ _ (sym e₁ ∙ k))
                         (then_tested (judging (tables_of F S) (context_of (tables_of F S) W base) b (n + 1 + size a) (binds (inner (scope_of (tables_of F S) W base s)) x 0 n))

@@ -165,7 +165,7 @@ module _ {F : List ℕ} {S : Sections} {X R W : List ℕ} {base n s π left owne
       asked_next e ∙ ap (and_next (compared c)) (member_below T W base t (member y fs) ∙ ap (λ k. member_asked T C t (member k fs)) (ex ∙ st.0.x_is)) in
       let (one, one-sum) = inits_also T C x a rs m Γ q in
       let few : (member_asked T (structs_alone T) t (member y fs)).pairs ≤ 399 =
-      subst (λ f. (member_asked T (structs_alone T) t f).pairs ≤ 399) (sym (member-in T owner y low)) (member_few (few_parts T (types-formed 200 T p.after.fine.good_tables.types) _ _ refl) t (field_in T owner y)) in
+      subst (λ f. (member_asked T (structs_alone T) t f).pairs ≤ 399) (sym (member-in T owner y low)) (member_few (few_parts T (types-formed 200 T p.after.fine.good_tables.types) (structs_alone T) (length T.structs) refl) t (field_in T owner y)) in
       record {
         types = p.types ++ (t ∷ []);
         labels = p.labels ++ (unlabelled ∷ M);

@@ -6,7 +6,7 @@ use Prim.Native.Nat.{ℕ, ◌+◌, ◌-◌, ◌*◌, ◌≤◌, ◌<◌}
 use native.Mathlib.Omega.{arith}
 use lib.ListN.{length}
 use lib.Dec.{eqb}
-use borrow.Author.Tests.{eq-eqb, ne_eqb, lt-ltb, le-ltb, not-true, not-false}
+use borrow.Author.Tests.{eq-eqb, ne_eqb, lt-ltb, le-ltb}
 use Rattle.oat.specs.Basics.{pick}
 use Rattle.oat.specs.Tables.{Tables, type_at, node_at}
 use Rattle.oat.specs.Types.{Field, struct_of, Lookup, found, missing, lookup}
@@ -15,7 +15,7 @@ use Rattle.oat.specs.Nodes.{Stands, StandAll}
 use Rattle.oat.proofs.LawsTables.{has-kind}
 use Rattle.typing_rules.specs.Labels.{Label}
 use Rattle.typing_rules.specs.Rules.{names_fit}
-use Rattle.typing_rules.specs.Judge.{Out, ok, no, Counted, giving, and_counting, on_declared, pairs_declared, plain, is_kind, referred, formed, each_asked, arguments_asked, judging}
+use Rattle.typing_rules.specs.Judge.{Out, ok, Counted, giving, and_counting, on_declared, pairs_declared, plain, is_kind, referred, formed, each_asked, arguments_asked, judging}
 use Rattle.typing_rules.proofs.LawsPairs.{expr_pairs}
 use Rattle.file_sections.specs.declared.Sections.{Sections}
 use Rattle.file_sections.specs.Layout.{Has, tables_of}
@@ -105,12 +105,12 @@ module _ {F : List ℕ} {S : Sections} {X R W K : List ℕ} {base n s π : ℕ} 
       array_formed : b ≡ formed (tables_of F S) (context_of (tables_of F S) W base) (referred (tables_of F S) t)
       array_formed = formed_is g.fine array_element eb ∙ ap (formed (tables_of F S) (context_of (tables_of F S) W base)) eu
 
-      pub array_unformed : {r : Judged} → not b ≡ true → Refuses r 9 n π → Told F S X R W base n s π R W K r
+      pub array_unformed : {r : Judged} → b ≡ false → Refuses r 9 n π → Told F S X R W base n s π R W K r
       unfolding judging
       array_unformed {r} f e =
-          record { tells = array_at et (Answers F S X R W base n s π R W K r) (λ es h. stops _ 9 n _ _ (sym array_formed ∙ not-true b f) e) kind }
+          record { tells = array_at et (Answers F S X R W base n s π R W K r) (λ es h. stops _ 9 n _ _ (sym array_formed ∙ f) e) kind }
 
-      module _ (fb : not b ≡ false) {c : ℕ} (ec : c ≡ (node_at (tables_of F S) n).children) {R₁ W₁ K₁ : List ℕ} {r₁ : Judged}
+      module _ (fb : b ≡ true) {c : ℕ} (ec : c ≡ (node_at (tables_of F S) n).children) {R₁ W₁ K₁ : List ℕ} {r₁ : Judged}
           (m₁ : ToldList F S X R W base (n + 1) s π c (Each u) n R₁ W₁ K₁ r₁) where
         array_listed : (es : Exprs) → Stands (tables_of F S) n (array_literal t es)
             → Meets (Listing F S X base (n + 1) (sizes es) s R W R₁ W₁ K₁ r₁) r₁ π
@@ -126,7 +126,7 @@ module _ {F : List ℕ} {S : Sections} {X R W K : List ℕ} {base n s π : ℕ} 
             → Answers F S X R W base n s π R' W' K' r (array_literal t es)
         unfolding judging expected_asked
         array_told es h m =
-            passes _ 9 n _ (sym array_formed ∙ not-false b fb)
+            passes _ 9 n _ (sym array_formed ∙ fb)
             (then_tested (judged_in F S W base s es (n + 1))
             (λ ts. each_asked (tables_of F S) (context_of (tables_of F S) W base) ts (referred (tables_of F S) t)) 11 n (λ ts L. plain t (scope_of (tables_of F S) W base s) L) m)
 
@@ -344,15 +344,15 @@ module _ {F : List ℕ} {S : Sections} {X R W K : List ℕ} {base n s π : ℕ} 
           kind g.tree g.stands g.room g.few
 
       module _ {b : Bool} (fit : OfInitializers F S (n + 1) (node_at (tables_of F S) n).children (λ is. b ≡ names_fit (struct_of (tables_of F S) o).fields is)) where
-        pub struct_names : {r : Judged} → not b ≡ true → Refuses r 12 n π → Told F S X R W base n s π R W K r
+        pub struct_names : {r : Judged} → b ≡ false → Refuses r 12 n π → Told F S X R W base n s π R W K r
         unfolding judging
         struct_names {r} f e =
             record {
               tells = struct_at et (Answers F S X R W base n s π R W K r)
-                  (λ is h. on-found _ n _ _ _ owner_found (stops _ 12 n _ _ (sym (fit.holds is h.2 (sym h.0.children_is)) ∙ not-true b f) e)) kind;
+                  (λ is h. on-found _ n _ _ _ owner_found (stops _ 12 n _ _ (sym (fit.holds is h.2 (sym h.0.children_is)) ∙ f) e)) kind;
             }
 
-        module _ (fb : not b ≡ false) {c : ℕ} (ec : c ≡ (node_at (tables_of F S) n).children) {R₁ W₁ K₁ : List ℕ} {r₁ : Judged}
+        module _ (fb : b ≡ true) {c : ℕ} (ec : c ≡ (node_at (tables_of F S) n).children) {R₁ W₁ K₁ : List ℕ} {r₁ : Judged}
             (m₁ : ToldInits F S X R W base (n + 1) s π c o n R₁ W₁ K₁ r₁) where
           -- the initializers, and then the type
           abbrev struct_then : Inits → Counted ℕ
@@ -369,7 +369,7 @@ module _ {F : List ℕ} {S : Sections} {X R W K : List ℕ} {base n s π : ℕ} 
                 tells = struct_at et (Answers F S X R W base n s π R' W' K' r)
                     (λ is h.
                     on-found _ n _ _ _ owner_found
-                    (passes _ 12 n _ (sym (fit.holds is h.2 (sym h.0.children_is)) ∙ not-false b fb)
+                    (passes _ 12 n _ (sym (fit.holds is h.2 (sym h.0.children_is)) ∙ fb)
                     (then_tested (inits_in F S W base s is (n + 1))
                     (fits_in F S W base o is) 11 n
                     (λ ts L. plain t (scope_of (tables_of F S) W base s) L)

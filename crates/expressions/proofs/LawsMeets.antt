@@ -1,12 +1,9 @@
 -- An answer against an outcome of the definition: premise by premise, and part after part. Assumes nothing.
-use mathlib.Core.Path.{◌≡◌, refl, sym, subst, ◌∙◌}
+use mathlib.Core.Path.{◌≡◌, refl, subst}
 use mathlib.Core.Bool.{Bool, true, false}
-use mathlib.Core.List.{List, [], ◌∷◌}
-use mathlib.Core.Logic.{⊎_elim}
+use mathlib.Core.List.{List}
 use Prim.Native.Nat.{ℕ, ◌+◌}
 use native.Mathlib.Omega.{arith}
-use types.Run.{OneOf}
-use denote.Enum.Declared.{tag_of}
 use Rattle.typing_rules.specs.Labels.{Label}
 use Rattle.oat.specs.Basics.{pick}
 use Rattle.oat.specs.Pairs.{Compared}
@@ -15,7 +12,6 @@ use Rattle.file_sections.specs.declared.Sections.{Sections}
 use Rattle.answers.specs.declared.answer.Judgement.{Judgement}
 use Rattle.answers.specs.declared.answer.Judgement.TheVariants.{Typed, GoesOn, Refused}
 use Rattle.answers.specs.declared.answer.Judged.{Judged}
-use Rattle.answers.specs.contracts.answer.Judgement.{the_type}
 use Rattle.answers.specs.Answers.{Refuses}
 use Rattle.expressions.specs.Contract.{Meets, accepts, refuses, Typing, Listing}
 
@@ -29,17 +25,14 @@ pub record Unlisted (r : Judged) : Type 0 where
 pub record Unrefused (r : Judged) : Type 0 where
   pub never : (p q : ℕ) → r.judgement ≡ Refused p q → ⊥
 
-one_of : (k a b c : ℕ) → OneOf (a ∷ b ∷ c ∷ []) k → ((k ≡ a) → ⊥) → ((k ≡ b) → ⊥) → ((k ≡ c) → ⊥) → ⊥
-one_of k a b c h f g i = ⊎_elim f (⊎_elim g i) h
+pub untyped : (r : Judged) → ((t : ℕ) → r.judgement ≡ Typed t → ⊥) → Untyped r
+untyped r h = record { never = h }
 
-pub untyped : (r : Judged) → OneOf (1 ∷ 2 ∷ 3 ∷ []) (tag_of the_type r.judgement) → Untyped r
-untyped r h = record { never = λ t e. one_of (tag_of the_type (Typed t)) 1 2 3 (rw e at h) (λ z. omega arith) (λ z. omega arith) (λ z. omega arith) }
+pub unlisted : (r : Judged) → (r.judgement ≡ GoesOn → ⊥) → Unlisted r
+unlisted r h = record { never = h }
 
-pub unlisted : (r : Judged) → OneOf (0 ∷ 2 ∷ 3 ∷ []) (tag_of the_type r.judgement) → Unlisted r
-unlisted r h = record { never = λ e. one_of (tag_of the_type GoesOn) 0 2 3 (rw e at h) (λ z. omega arith) (λ z. omega arith) (λ z. omega arith) }
-
-pub unrefused : (r : Judged) → OneOf (0 ∷ 1 ∷ 2 ∷ []) (tag_of the_type r.judgement) → Unrefused r
-unrefused r h = record { never = λ p q e. one_of (tag_of the_type (Refused p q)) 0 1 2 (rw e at h) (λ z. omega arith) (λ z. omega arith) (λ z. omega arith) }
+pub unrefused : (r : Judged) → ((p q : ℕ) → r.judgement ≡ Refused p q → ⊥) → Unrefused r
+unrefused r h = record { never = h }
 
 -- a type is no refusal, nor is an answer that goes on
 typed_unrefused : {r : Judged} {t : ℕ} → r.judgement ≡ Typed t → Unrefused r

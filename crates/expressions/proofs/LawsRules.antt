@@ -9,7 +9,7 @@ use Rattle.oat.specs.Syntax.{Expr, size}
 use Rattle.oat.specs.Nodes.{Stands}
 use Rattle.typing_rules.specs.Contexts.{Scope}
 use Rattle.typing_rules.specs.Labels.{Label}
-use Rattle.typing_rules.specs.Judge.{Out, Counted, and_counting, requires, plain}
+use Rattle.typing_rules.specs.Judge.{Counted, and_counting, requires, plain}
 use Rattle.file_sections.specs.declared.Sections.{Sections}
 use Rattle.file_sections.specs.Layout.{tables_of}
 use Rattle.answers.specs.declared.answer.Judgement.TheVariants.{Typed}

@@ -1,12 +1,12 @@
 -- Rules with one child: length, field, unary operator and default array. Assumes nothing.
 use mathlib.Core.Path.{◌≡◌, refl, ap, sym, subst, ◌∙◌}
-use mathlib.Core.Bool.{Bool, true, false, not}
+use mathlib.Core.Bool.{Bool, true, false}
 use mathlib.Core.List.{List}
 use Prim.Native.Nat.{ℕ, ◌+◌, ◌<◌}
 use native.Mathlib.Omega.{arith}
 use lib.ListN.{length}
 use lib.Dec.{eqb}
-use borrow.Author.Tests.{eq-eqb, ne_eqb, not-true, not-false}
+use borrow.Author.Tests.{eq-eqb, ne_eqb}
 use Rattle.oat.specs.Basics.{pick}
 use Rattle.oat.specs.Tables.{type_at, node_at}
 use Rattle.oat.specs.Syntax.{Expr, default_array}
@@ -113,14 +113,14 @@ module _ {F : List ℕ} {S : Sections} {X R W K : List ℕ} {base n s π : ℕ} 
         subst (λ i. b ≡ formed (tables_of F S) (context_of (tables_of F S) W base) (type_at (tables_of F S) i).a) (et ∙ h.0.t_is)
         (subst (λ i. b ≡ formed (tables_of F S) (context_of (tables_of F S) W base) i) ex (formed_is g.fine default_within.1 eb))
 
-    pub default_unformed : {r : Judged} → not b ≡ true → Refuses r 9 n π → Told F S X R W base n s π R W K r
+    pub default_unformed : {r : Judged} → b ≡ false → Refuses r 9 n π → Told F S X R W base n s π R W K r
     unfolding judging
     default_unformed {r} f e =
         record {
-          tells = on_default (Answers F S X R W base n s π R W K r) (λ u a h. stops _ 9 n _ _ (sym (default_formed u a h) ∙ not-true b f) e) kind;
+          tells = on_default (Answers F S X R W base n s π R W K r) (λ u a h. stops _ 9 n _ _ (sym (default_formed u a h) ∙ f) e) kind;
         }
 
-    module _ (eq : not b ≡ false) where
+    module _ (eq : b ≡ true) where
       default_rule : (e : Expr) → Stands (tables_of F S) n e
           → One F S W base n s (λ u. is_kind (tables_of F S) u 0) (λ u L. requires (has_default (tables_of F S) x) 16 n (giving (plain t (scope_of (tables_of F S) W base s) L))) e
       unfolding judging
@@ -131,7 +131,7 @@ module _ {F : List ℕ} {S : Sections} {X R W K : List ℕ} {base n s π : ℕ} 
             child = a;
             stands = h.2;
             long = refl;
-            judged = rw (ex, et, h.0.t_is, ← default_formed v a h, not-false b eq);
+            judged = rw (ex, et, h.0.t_is, ← default_formed v a h, eq);
           }) kind
 
       pub default_first : Ready F S X R W K base (n + 1) s π
@@ -146,14 +146,14 @@ module _ {F : List ℕ} {S : Sections} {X R W K : List ℕ} {base n s π : ℕ} 
           default_sort f = first_sort (one_child default_rule) m₁ y₁ (ne_eqb _ _ (λ i. f (e₁ ∙ i)))
 
           module _ (k : k₁ ≡ 0) {d : Bool} (ed : d ≡ has_default (tables_of F S) x) where
-            pub default_none : {r : Judged} → not d ≡ true → Refuses r 16 n r₁.at.pairs → Told F S X R W base n s π R₁ W₁ K₁ r
-            default_none f e = one_then default_rule m₁ y₁ (eq-eqb _ _ (sym e₁ ∙ k)) λ j L p. stops _ 16 n _ _ (sym ed ∙ not-true d f) e
+            pub default_none : {r : Judged} → d ≡ false → Refuses r 16 n r₁.at.pairs → Told F S X R W base n s π R₁ W₁ K₁ r
+            default_none f e = one_then default_rule m₁ y₁ (eq-eqb _ _ (sym e₁ ∙ k)) λ j L p. stops _ 16 n _ _ (sym ed ∙ f) e
 
-            pub default_ok : {r : Judged} {R' : List ℕ} → not d ≡ false → r ≡ record { judgement = Typed t; at = r₁.at } → R' ≡ with_row R₁ n t 65535
+            pub default_ok : {r : Judged} {R' : List ℕ} → d ≡ true → r ≡ record { judgement = Typed t; at = r₁.at } → R' ≡ with_row R₁ n t 65535
                 → Told F S X R W base n s π R' W₁ K₁ r
             default_ok f er e_r =
                 one_then default_rule m₁ y₁ (eq-eqb _ _ (sym e₁ ∙ k)) λ j L p.
-                passes _ 16 n _ (sym ed ∙ not-false d f) (gives_type g.within default_within.0 refl p er e_r)
+                passes _ 16 n _ (sym ed ∙ f) (gives_type g.within default_within.0 refl p er e_r)
 
 -- field
 module _ {F : List ℕ} {S : Sections} {X R W K : List ℕ} {base n s π : ℕ} (g : Ready F S X R W K base n s π) (kind : (node_at (tables_of F S) n).kind ≡ 23) where

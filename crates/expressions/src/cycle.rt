@@ -21,7 +21,7 @@ use subtyping::below::{Compared, below};
 use type_index::formed::{is_formed, struct_record};
 
 // The expression at `at`.
-#[cycle(array_literal_array_value_array_with_binary_call_default_array_equality_expression_field_index_expression_inits_length_of_list_operator_struct_literal_unary)]
+#[cycle(expressions)]
 pub fn expression(
     file: &[u8],
     frame: Frame,
@@ -52,7 +52,7 @@ pub fn expression(
 }
 
 // `count` expressions from `at` on, then their subtypes, which break at the parent.
-#[cycle(array_literal_array_value_array_with_binary_call_default_array_equality_expression_field_index_expression_inits_length_of_list_operator_struct_literal_unary)]
+#[cycle(expressions)]
 pub fn list(
     file: &[u8],
     frame: Frame,
@@ -92,7 +92,7 @@ pub fn list(
 }
 
 // `count` field initializers from `at` on, of a literal of the record, then their subtypes, which break at the parent.
-#[cycle(array_literal_array_value_array_with_binary_call_default_array_equality_expression_field_index_expression_inits_length_of_list_operator_struct_literal_unary)]
+#[cycle(expressions)]
 fn inits(
     file: &[u8],
     frame: Frame,
@@ -152,7 +152,7 @@ fn inits(
 }
 
 // Array literal: element type, all elements, all subtypes.
-#[cycle(array_literal_array_value_array_with_binary_call_default_array_equality_expression_field_index_expression_inits_length_of_list_operator_struct_literal_unary)]
+#[cycle(expressions)]
 fn array_literal(
     file: &[u8],
     frame: Frame,
@@ -194,7 +194,7 @@ fn array_literal(
 }
 
 // Default array: element type, length, the element's default.
-#[cycle(array_literal_array_value_array_with_binary_call_default_array_equality_expression_field_index_expression_inits_length_of_list_operator_struct_literal_unary)]
+#[cycle(expressions)]
 fn default_array(
     file: &[u8],
     frame: Frame,
@@ -239,7 +239,7 @@ fn default_array(
 }
 
 // Array with initializer: element type, length, value.
-#[cycle(array_literal_array_value_array_with_binary_call_default_array_equality_expression_field_index_expression_inits_length_of_list_operator_struct_literal_unary)]
+#[cycle(expressions)]
 fn array_with(
     file: &[u8],
     frame: Frame,
@@ -286,7 +286,7 @@ fn array_with(
 }
 
 // The value at `value` of the array with initializer at `at`, with the index name bound, and its subtype.
-#[cycle(array_literal_array_value_array_with_binary_call_default_array_equality_expression_field_index_expression_inits_length_of_list_operator_struct_literal_unary)]
+#[cycle(expressions)]
 fn array_value(
     file: &[u8],
     frame: Frame,
@@ -334,7 +334,7 @@ fn array_value(
 }
 
 // Index: array, its sort, index, its sort.
-#[cycle(array_literal_array_value_array_with_binary_call_default_array_equality_expression_field_index_expression_inits_length_of_list_operator_struct_literal_unary)]
+#[cycle(expressions)]
 fn index_expression(
     file: &[u8],
     frame: Frame,
@@ -379,7 +379,7 @@ fn index_expression(
 }
 
 // Length: array, its sort.
-#[cycle(array_literal_array_value_array_with_binary_call_default_array_equality_expression_field_index_expression_inits_length_of_list_operator_struct_literal_unary)]
+#[cycle(expressions)]
 fn length_of(
     file: &[u8],
     frame: Frame,
@@ -416,7 +416,7 @@ fn length_of(
 }
 
 // Struct literal: declared struct, names, values, subtypes.
-#[cycle(array_literal_array_value_array_with_binary_call_default_array_equality_expression_field_index_expression_inits_length_of_list_operator_struct_literal_unary)]
+#[cycle(expressions)]
 fn struct_literal(
     file: &[u8],
     frame: Frame,
@@ -461,7 +461,7 @@ fn struct_literal(
 }
 
 // Field: record, its sort, a field of that name.
-#[cycle(array_literal_array_value_array_with_binary_call_default_array_equality_expression_field_index_expression_inits_length_of_list_operator_struct_literal_unary)]
+#[cycle(expressions)]
 fn field(
     file: &[u8],
     frame: Frame,
@@ -507,7 +507,7 @@ fn field(
 }
 
 // Call: callee, sort, void, count, arguments, subtypes.
-#[cycle(array_literal_array_value_array_with_binary_call_default_array_equality_expression_field_index_expression_inits_length_of_list_operator_struct_literal_unary)]
+#[cycle(expressions)]
 fn call(
     file: &[u8],
     frame: Frame,
@@ -568,7 +568,7 @@ fn call(
 }
 
 // Unary operator: operand, its sort.
-#[cycle(array_literal_array_value_array_with_binary_call_default_array_equality_expression_field_index_expression_inits_length_of_list_operator_struct_literal_unary)]
+#[cycle(expressions)]
 fn unary(
     file: &[u8],
     frame: Frame,
@@ -606,7 +606,7 @@ fn unary(
 }
 
 // Binary operator: one that takes two of one type, or == and !=.
-#[cycle(array_literal_array_value_array_with_binary_call_default_array_equality_expression_field_index_expression_inits_length_of_list_operator_struct_literal_unary)]
+#[cycle(expressions)]
 fn binary(
     file: &[u8],
     frame: Frame,
@@ -630,7 +630,7 @@ fn binary(
 }
 
 // An operator that takes two of one type: left, its sort, right, its sort.
-#[cycle(array_literal_array_value_array_with_binary_call_default_array_equality_expression_field_index_expression_inits_length_of_list_operator_struct_literal_unary)]
+#[cycle(expressions)]
 fn operator(
     file: &[u8],
     frame: Frame,
@@ -678,7 +678,7 @@ fn operator(
 }
 
 // == and !=: both operands, then both subtype directions.
-#[cycle(array_literal_array_value_array_with_binary_call_default_array_equality_expression_field_index_expression_inits_length_of_list_operator_struct_literal_unary)]
+#[cycle(expressions)]
 fn equality(
     file: &[u8],
     frame: Frame,
