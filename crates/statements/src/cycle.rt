@@ -17,7 +17,7 @@ use simple_statements::simple::{
 use subtyping::below::below;
 
 // The statement at `node`; `last` says whether it is the last of its block, whose bindings stand from the position `start` on.
-#[cycle(arms_block_for_loop_if_else_if_null_statement_statements_step_turn_while_loop)]
+#[cycle(statements)]
 fn statement(
     file: &[u8],
     frame: Frame,
@@ -47,7 +47,7 @@ fn statement(
 
 // `count` statements from `node` on, in the block at `parent` whose bindings stand from the position `start` on: all but the last go
 // on. The mark is the last one's.
-#[cycle(arms_block_for_loop_if_else_if_null_statement_statements_step_turn_while_loop)]
+#[cycle(statements)]
 fn statements(
     file: &[u8],
     frame: Frame,
@@ -86,7 +86,7 @@ fn statements(
 }
 
 // The block at `node`, whose bindings stand from the position `start` on: those that it makes are gone after it.
-#[cycle(arms_block_for_loop_if_else_if_null_statement_statements_step_turn_while_loop)]
+#[cycle(statements)]
 pub fn block(
     file: &[u8],
     frame: Frame,
@@ -132,7 +132,7 @@ pub fn block(
 }
 
 // Two inner blocks, the first at `node` in the scope `top`, which is left after it. The mark is 1 where both return.
-#[cycle(arms_block_for_loop_if_else_if_null_statement_statements_step_turn_while_loop)]
+#[cycle(statements)]
 fn arms(
     file: &[u8],
     frame: Frame,
@@ -185,7 +185,7 @@ fn arms(
 }
 
 // If: condition, its sort, blocks.
-#[cycle(arms_block_for_loop_if_else_if_null_statement_statements_step_turn_while_loop)]
+#[cycle(statements)]
 fn if_else(
     file: &[u8],
     frame: Frame,
@@ -247,7 +247,7 @@ fn if_else(
 }
 
 // If?: value, its sort, subtype, blocks, the name bound in the first.
-#[cycle(arms_block_for_loop_if_else_if_null_statement_statements_step_turn_while_loop)]
+#[cycle(statements)]
 fn if_null(
     file: &[u8],
     frame: Frame,
@@ -317,7 +317,7 @@ fn if_null(
 }
 
 // For: vars, condition, step, block; what it binds is gone after it.
-#[cycle(arms_block_for_loop_if_else_if_null_statement_statements_step_turn_while_loop)]
+#[cycle(statements)]
 fn for_loop(
     file: &[u8],
     frame: Frame,
@@ -397,7 +397,7 @@ fn for_loop(
 }
 
 // The step of a for, in the block of its vars, whose bindings stand from the position `start` on, and its block, an inner one.
-#[cycle(arms_block_for_loop_if_else_if_null_statement_statements_step_turn_while_loop)]
+#[cycle(statements)]
 fn turn(
     file: &[u8],
     frame: Frame,
@@ -432,7 +432,7 @@ fn turn(
 }
 
 // The step of a for, or 40: a returning one breaks at itself, and what it binds is gone. It is not the last of a block.
-#[cycle(arms_block_for_loop_if_else_if_null_statement_statements_step_turn_while_loop)]
+#[cycle(statements)]
 fn step(
     file: &[u8],
     frame: Frame,
@@ -473,7 +473,7 @@ fn step(
 }
 
 // While: condition, its sort, block. The mark is 1 where it never ends and is the last of its block.
-#[cycle(arms_block_for_loop_if_else_if_null_statement_statements_step_turn_while_loop)]
+#[cycle(statements)]
 fn while_loop(
     file: &[u8],
     frame: Frame,
