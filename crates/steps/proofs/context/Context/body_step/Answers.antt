@@ -2,7 +2,7 @@
 use borrow.Author.Rules.{rules}
 use Rattle.std.proofs.lemmas.Bool.{not_from_true, not_from_false}
 use native.Mathlib.Omega.{arith}
-use Rattle.steps.proofs.LawsBody.{body_node, body_type, body_parameters, body_numbers, body_taken, body_block, body_no, body_open, body_scoped, body_fits, body_ok}
+use Rattle.steps.proofs.LawsBody.{unreturned, body_node, body_type, body_parameters, body_numbers, body_taken, body_block, body_no, body_open, body_scoped, body_fits, body_ok}
 use Rattle.steps.proofs.context.Context.body_step.Goals as goal
 
 pub node_t-t-requires : goal.node_t-t-requires
@@ -39,7 +39,7 @@ pub returns-in-Refused : goal.returns-in-Refused
 returns-in-Refused c = body_no c.requires c.node_t-t.ensures.0 c.type_b-first.ensures.0 c.type_c-count.ensures.0 c.parameters.ensures (not_from_true _ c.if-not-parameters.false) c.type_a-result.ensures.0 c.block-body.ensures c.in-Refused.is c.refusal.ensures
 
 pub returns-in_default-judgement : goal.returns-in_default-judgement
-returns-in_default-judgement c = body_open c.requires c.node_t-t.ensures.0 c.type_b-first.ensures.0 c.type_c-count.ensures.0 c.parameters.ensures (not_from_true _ c.if-not-parameters.false) c.type_a-result.ensures.0 c.block-body.ensures (record { never = c.in_default.not-Refused }) (record { never = c.in_default-judgement.not-Returns })
+returns-in_default-judgement c = body_open c.requires c.node_t-t.ensures.0 c.type_b-first.ensures.0 c.type_c-count.ensures.0 c.parameters.ensures (not_from_true _ c.if-not-parameters.false) c.type_a-result.ensures.0 c.block-body.ensures (record { never = c.in_default.not-Refused }) (unreturned _ c.in_default-judgement.not-Returns)
 
 pub leave-requires : goal.leave-requires
 leave-requires c = let s = body_scoped c.requires c.node_t-t.ensures.0 c.type_b-first.ensures.0 c.type_c-count.ensures.0 c.parameters.ensures (not_from_true _ c.if-not-parameters.false) c.type_a-result.ensures.0 c.block-body.ensures (record { never = c.in_default.not-Refused }) in (s.0, omega (arith, s.1))
