@@ -88,11 +88,11 @@ page_ready_of {l} {F} {R} {W} {R'} {S = S} {c = c} b e is k z =
     })
 
 -- what was written, or not, as an answer
-short_of : {c : CheckAnswer} {R O O' : List ℕ} {b : ℕ} {r : Answer} (p : Program) → Writes p.tables R O b O' → b ≡ 0 → r ≡ answer 18 0 0 0 → AfterAcceptance p c R O r O'
-short_of {R = R} p (writes n l o) z q = absurd (page_some p.tables R z)
+short_of : (p : Program) {c : CheckAnswer} {R O O' : List ℕ} {b : ℕ} {r : Answer} → Writes p.tables R O b O' → b ≡ 0 → r ≡ answer 18 0 0 0 → AfterAcceptance p c R O r O'
+short_of p {R = R} (writes n l o) z q = absurd (page_some p.tables R z)
 short_of p (no_room n l) z q = rw q (short l)
 
-printed_of : {c : CheckAnswer} {R O O' : List ℕ} {b : ℕ} {r : Answer} (p : Program) → Writes p.tables R O b O' → (b ≡ 0 → ⊥) → r ≡ same_answer c b
+printed_of : (p : Program) {c : CheckAnswer} {R O O' : List ℕ} {b : ℕ} {r : Answer} → Writes p.tables R O b O' → (b ≡ 0 → ⊥) → r ≡ same_answer c b
     → AfterAcceptance p c R O r O' × OnBoard p.tables R O' r.bytes
 printed_of p (writes n l o) z q = rw q (printed l, o)
 printed_of p (no_room n l) z q = absurd (z refl)
@@ -166,5 +166,5 @@ module _ (l : Limits) {F R W : List ℕ} {S : Sections} {g : Reading} {R' W' : L
         refused = λ o. absurd (o z);
         accepted = λ o p f. (printed_of p (its_page p f) x q).0;
         long = λ o p f. long_of (its_page p f);
-        on_board = λ o p f. (printed_of {c = c} p (its_page p f) x q).1;
+        on_board = λ o p f. (printed_of p {c = c} (its_page p f) x q).1;
       }
