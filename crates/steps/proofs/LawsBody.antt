@@ -3,11 +3,8 @@
 use mathlib.Core.Path.{◌≡◌, refl, ap, sym, subst, ◌∙◌}
 use mathlib.Core.Bool.{Bool, true, false, not}
 use mathlib.Core.List.{List, [], ◌∷◌, ◌++◌}
-use mathlib.Core.Logic.{⊎_elim}
 use Prim.Native.Nat.{ℕ, zero, suc, ◌+◌, ◌*◌, ◌≤◌, ◌<◌}
 use native.Mathlib.Omega.{arith}
-use types.Run.{OneOf}
-use denote.Enum.Declared.{tag_of}
 use lib.ListN.{length, drop, replicate, length-append}
 use lib.Dec.{eqb}
 use borrow.Author.Tests.{eq-eqb, ne_eqb, not-true, not-false}
@@ -33,7 +30,6 @@ use Rattle.bindings.proofs.LawsBindings.{names_same, holds_own}
 use Rattle.answers.specs.declared.answer.Judgement.TheVariants.{Returns}
 use Rattle.answers.specs.declared.answer.Judgement.TheVariants as judgement
 use Rattle.answers.specs.declared.answer.Judged.{Judged}
-use Rattle.answers.specs.contracts.answer.Judgement.{the_type}
 use Rattle.answers.specs.Answers.{with_row}
 use Rattle.expressions.specs.Contract.{Fine, After, Meets}
 use Rattle.expressions.proofs.LawsMeets.{Unrefused, part_of}
@@ -55,11 +51,8 @@ use Rattle.steps.proofs.LawsRows.{rows_count, rows_list, parameters_count}
 pub record Unreturned (r : Judged) : Type 0 where
   pub never : r.judgement ≡ Returns → ⊥
 
-pub unreturned : (r : Judged) → OneOf (0 ∷ 1 ∷ 3 ∷ []) (tag_of the_type r.judgement) → Unreturned r
-unreturned r h = record { never = λ e. one_of (tag_of the_type Returns) (rw e at h) (λ z. omega arith) (λ z. omega arith) (λ z. omega arith) }
-  where
-    one_of : (k : ℕ) → OneOf (0 ∷ 1 ∷ 3 ∷ []) k → ((k ≡ 0) → ⊥) → ((k ≡ 1) → ⊥) → ((k ≡ 3) → ⊥) → ⊥
-    one_of k h f g i = ⊎_elim f (⊎_elim g i) h
+pub unreturned : (r : Judged) → (r.judgement ≡ Returns → ⊥) → Unreturned r
+unreturned r h = record { never = h }
 
 -- the labels of the block are those after the unlabelled nodes
 drop_unlabelled : (k : ℕ) (M : List (Label ℕ)) → drop k (replicate k unlabelled ++ M) ≡ M

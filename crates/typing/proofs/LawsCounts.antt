@@ -94,6 +94,7 @@ pub data Bare : List Step → Type 0 where
   bare_next : {s : Step} {ss : List Step} → node_count s ≡ 0 → Bare ss → Bare (s ∷ ss)
 
 pub bare_untouched : {i : ℕ} {ss : List Step} → Bare ss → Touched i ss → ⊥
+bare_untouched bare_none t = elim t [ ]
 bare_untouched (bare_next e b) (touched_first l h) = omega arith
 bare_untouched (bare_next e b) (touched_later t) = bare_untouched b t
 
@@ -148,7 +149,9 @@ headings_group = record { none = λ n. refl; more = more; few = few; alike = ali
     nodes n (function x t ps b) = omega arith
 
     within : (n : ℕ) (d : Decl) (i : ℕ) → Touched i (headings n (d ∷ [])) → (n * 2 ≤ i) × (i < (n + size_decl d) * 2)
+    within n (global x a) i u = elim u [ ]
     within n (function x t ps b) i (touched_first l h) = absurd (omega arith)
+    within n (function x t ps b) i (touched_later u) = elim u [ ]
 
 pub globals_group : Group globals 1
 unfolding globals rows_begin
@@ -172,6 +175,8 @@ globals_group = record { none = λ n. refl; more = more; few = few; alike = alik
 
     within : (n : ℕ) (d : Decl) (i : ℕ) → Touched i (globals n (d ∷ [])) → (n * 2 ≤ i) × (i < (n + size_decl d) * 2)
     within n (global x a) i (touched_first l h) = (l, h)
+    within n (global x a) i (touched_later u) = elim u [ ]
+    within n (function x t ps b) i u = elim u [ ]
 
 pub bodies_group : Group bodies 0
 unfolding bodies rows_begin
@@ -194,4 +199,6 @@ bodies_group = record { none = λ n. refl; more = more; few = few; alike = alike
     nodes n (function x t ps b) = omega arith
 
     within : (n : ℕ) (d : Decl) (i : ℕ) → Touched i (bodies n (d ∷ [])) → (n * 2 ≤ i) × (i < (n + size_decl d) * 2)
+    within n (global x a) i u = elim u [ ]
     within n (function x t ps b) i (touched_first l h) = (l, h)
+    within n (function x t ps b) i (touched_later u) = elim u [ ]

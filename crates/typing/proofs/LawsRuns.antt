@@ -5,8 +5,6 @@ use mathlib.Core.List.{List, [], ◌∷◌, ◌++◌, append_assoc, append-nil}
 use Prim.Native.Nat.{ℕ, suc, ◌+◌, ◌*◌}
 use native.Mathlib.Nat.{zero-add, add-zero, add_assoc}
 use native.Mathlib.Omega.{arith}
-use types.Run.{OneOf}
-use denote.Enum.Declared.{tag_of}
 use lib.ListN.{get_or}
 use lib.Dec.{ltb}
 use borrow.Author.Tests.{ltb-true, ltb-false}
@@ -23,7 +21,6 @@ use Rattle.file_sections.proofs.LawsFrames.{list_kept}
 use Rattle.steps.specs.declared.context.Context.{Context}
 use Rattle.steps.specs.declared.context.Stepped.{Stepped}
 use Rattle.steps.specs.declared.context.Stepped.TheVariants.{Next, Refused}
-use Rattle.steps.specs.contracts.context.Stepped.{the_type}
 use Rattle.steps.specs.Contract.{context_at, summing, after_step, Held, Stepping, accepts, refuses, Steps}
 use Rattle.typing.specs.Runs.{after_steps, with_segments, Touched, touched_first, touched_later, Written, written_none, written_next, GoOn, CountsOn, Break, CountsTo, Run, Runs, goes, stops}
 
@@ -99,11 +96,8 @@ pub record Apart (ss ts : List Step) : Type 0 where
 pub record Stopped (r : Stepped) : Type 0 where
   pub never : (c : Context) → r ≡ Next c → ⊥
 
-pub stopped : (r : Stepped) → OneOf (1 ∷ []) (tag_of the_type r) → Stopped r
-stopped r h = record { never = λ c e. first (tag_of the_type (Next c)) (rw e at h) (λ z. omega arith) }
-  where
-    first : (k : ℕ) → OneOf (1 ∷ []) k → (k ≡ 1 → ⊥) → ⊥
-    first k h f = f h
+pub stopped : (r : Stepped) → ((c : Context) → r ≡ Next c → ⊥) → Stopped r
+stopped r h = record { never = h }
 
 pub next_is : {r : Stepped} {c d : Context} → r ≡ Next c → r ≡ Next d → c ≡ d
 next_is e f = cc

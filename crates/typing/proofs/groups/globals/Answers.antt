@@ -1,0 +1,37 @@
+-- `globals` meets its contract. The loop keeps: the declarations before `node` have had their steps of this group. Assumes nothing.
+use mathlib.Core.Path.{◌≡◌, refl}
+use Prim.Native.Nat.{◌-◌}
+use native.Mathlib.Omega.{arith}
+use lib.ListN.{length}
+use borrow.Author.Rules.{rules}
+use Rattle.typing_rules.specs.Steps.{globals}
+use Rattle.typing.proofs.LawsRuns.{stopped}
+use Rattle.typing.proofs.LawsCounts.{globals_group}
+use Rattle.typing.proofs.LawsGroups.{Along, along_start, along_ready, along_tree, along_stop, along_next, along_falls, along_done}
+use Rattle.typing.proofs.groups.globals.Goals as goal
+
+pub loop-node-init : goal.loop-node-init
+loop-node-init c = (along_start globals_group c.requires.0.held, refl, refl)
+
+pub global-stepped-requires : goal.global-stepped-requires
+global-stepped-requires c = (along_ready globals_group c.loop-node.invariant.0 c.requires.0 c.loop-node-test.true, search rules)
+
+pub returns-in_default : goal.returns-in_default
+returns-in_default c = along_stop globals_group c.loop-node.invariant.0 c.requires.0 c.loop-node-test.true c.global-stepped.ensures (stopped _ c.in_default.not-Next)
+
+pub past-node-requires : goal.past-node-requires
+past-node-requires c = along_tree globals_group c.loop-node.invariant.0 c.requires.0 c.loop-node-test.true
+
+pub loop-node-smaller : goal.loop-node-smaller
+loop-node-smaller c = omega (arith, along_falls globals_group c.loop-node.invariant.0 c.requires.0 c.loop-node-test.true c.past-node.ensures, c.loop-node-test.true)
+
+pub loop-node-preserved : goal.loop-node-preserved
+loop-node-preserved c = (
+  (
+      along_next globals_group c.loop-node.invariant.0 c.requires.0 c.loop-node-test.true c.past-node.ensures c.global-stepped.ensures c.in-Next.is),
+  search rules,
+  search rules,
+)
+
+pub returns : goal.returns
+returns c = along_done globals_group c.loop-node.invariant.0 c.loop-node-test.false

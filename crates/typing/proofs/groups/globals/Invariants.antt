@@ -1,0 +1,17 @@
+-- `globals` meets its contract. The loop keeps: the declarations before `node` have had their steps of this group. Assumes nothing.
+use mathlib.Core.Path.{◌≡◌, refl}
+use Prim.Native.Nat.{◌-◌}
+use native.Mathlib.Omega.{arith}
+use lib.ListN.{length}
+use Rattle.typing_rules.specs.Steps.{globals}
+use Rattle.typing.proofs.LawsRuns.{stopped}
+use Rattle.typing.proofs.LawsCounts.{globals_group}
+use Rattle.typing.proofs.LawsGroups.{Along, along_start, along_ready, along_tree, along_stop, along_next, along_falls, along_done}
+use Rattle.typing.proofs.groups.globals.Given as goal
+
+abbrev pub invariant-loop-node : goal.invariant-loop-node
+invariant-loop-node l =
+    Along globals l.file l.sections l.index l.initial.c l.initial.rows l.initial.work l.node l.c l.rows l.work l.chains × (length l.rows ≡ length l.initial.rows) × (length l.work ≡ length l.initial.work)
+
+abbrev pub decreases-loop-node : goal.decreases-loop-node
+decreases-loop-node l = l.sections.nodes - l.node
