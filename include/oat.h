@@ -1,5 +1,5 @@
 /* The Oat v.2 checker for C and C++: reading a program file, the subtype question, the check, tallies of expressions, and a page of the rows.
-   `rt staticlib oat_c` writes target/staticlib/liboat_c.a with these functions, for x86-64 Linux.
+   `tools/build.sh oat_c` writes target/staticlib/liboat_c.a with these functions, for x86-64 Linux.
 
    No function keeps anything between calls, allocates, prints or fails in another way than by its number, so that calls may run at the same
    time as long as no buffer is lent to two of them. A pointer points to as many elements as the length after it says; with the length 0

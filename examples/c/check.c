@@ -1,7 +1,7 @@
 /* check FILE A B [PARTS DEPTH]: checks a program file, prints the answer and, where it is accepted, each node's number and row, then how many pairs of
    types were compared, and asks whether the file's type A is below its type B. PARTS and DEPTH are the limits, 200 and 100 where they are left out.
 
-       rt staticlib oat_c
+       tools/build.sh oat_c
        cc -I include examples/c/check.c -L target/staticlib -l:liboat_c.a -o check
        ./check examples/one_global.oat 0 1
        ./check examples/nested_calls.oat 0 1 200 5 */

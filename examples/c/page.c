@@ -1,7 +1,7 @@
 /* page FILE [PARTS DEPTH]: checks a program file, prints the answer with the number of bytes of its page and, where it is accepted, the page. PARTS and
    DEPTH are the limits, 200 and 100 where they are left out.
 
-       rt staticlib oat_c
+       tools/build.sh oat_c
        cc -I include examples/c/page.c -L target/staticlib -l:liboat_c.a -o page
        ./page examples/page_and_two_rows.oat */
 #include "oat.h"

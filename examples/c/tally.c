@@ -1,7 +1,7 @@
 /* tally FILE [PARTS DEPTH]: checks a program file, prints the answer and, where it is accepted, how many expressions it has of each type and in each
    declaration. PARTS and DEPTH are the limits, 200 and 100 where they are left out.
 
-       rt staticlib oat_c
+       tools/build.sh oat_c
        cc -I include examples/c/tally.c -L target/staticlib -l:liboat_c.a -o tally
        ./tally examples/equal_types.oat */
 #include "oat.h"

@@ -2,7 +2,7 @@
 //! pairs of types were compared, and asks whether the file's type A is below its type B. PARTS and DEPTH are the limits, 200 and 100 where they
 //! are left out.
 //!
-//!     rt staticlib oat_c
+//!     tools/build.sh oat_c
 //!     rustc --edition 2021 examples/rust/check.rs -L target/staticlib -l static=oat_c -o check
 //!     ./check examples/one_global.oat 0 1
 //!     ./check examples/nested_calls.oat 0 1 200 5

@@ -1,7 +1,7 @@
 //! tally FILE [PARTS DEPTH]: checks a program file, prints the answer and, where it is accepted, how many expressions it has of each type and in
 //! each declaration. PARTS and DEPTH are the limits, 200 and 100 where they are left out.
 //!
-//!     rt staticlib oat_c
+//!     tools/build.sh oat_c
 //!     rustc --edition 2021 examples/rust/tally.rs -L target/staticlib -l static=oat_c -o tally
 //!     ./tally examples/equal_types.oat
 

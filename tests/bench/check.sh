@@ -4,7 +4,7 @@
 set -eu
 cd "$(dirname "$0")/../.."
 (cd tests/peer && cargo build --release --offline 2> /dev/null)
-rt staticlib oat_c > /dev/null 2>&1
+tools/build.sh oat_c
 out=$(mktemp -d)
 trap 'rm -r "$out"' EXIT
 rustc --edition 2021 -O tests/bench/check.rs --extern oat_peer=tests/peer/target/release/liboat_peer.rlib -L target/staticlib -l static=oat_c -o "$out/check"

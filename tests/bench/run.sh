@@ -2,7 +2,7 @@
 # Times reading the largest file and a small one, and the worst subtype question.
 set -eu
 cd "$(dirname "$0")/../.."
-rt staticlib oat_c > /dev/null 2>&1
+tools/build.sh oat_c
 out=$(mktemp -d)
 cc -O2 tests/bench/bench.c -L target/staticlib -l:liboat_c.a -o "$out/bench"
 pair=$(python3 tests/bench/files.py "$out")

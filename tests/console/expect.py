@@ -83,7 +83,7 @@ OTHERS = [
     ("oat page pan_levels.oat > /dev/full", ["error: standard output: No space left on device"]),
     ("oat tally pan_levels.oat > /dev/full", ["error: standard output: No space left on device"]),
     ("oat subtype pan_levels.oat 0 0 > /dev/full", ["error: standard output: No space left on device"]),
-    ("../not_built/oat page pan_levels.oat", ["error: oat: not built yet: run 'rt check oat_console' in the repository"]),
+    ("../not_built/oat page pan_levels.oat", ["error: oat: not built yet: run 'tools/build.sh oat_console' in the repository"]),
 ]
 
 

@@ -1,5 +1,5 @@
 #!/usr/bin/env bash
-# Runs the console, built by `rt check oat_console`, or the program that the first word names, through the script `oat`, and compares what it
+# Runs the console, built by `tools/build.sh oat_console`, or the program that the first word names, through the script `oat`, and compares what it
 # prints with tests/console/expected.txt: a line `$ COMMAND` for each case, then the lines of standard output, then those of standard error, which
 # begin with `error: `. The commands run in a folder that has the examples and the files of tests/console.
 set -eu

@@ -1,5 +1,5 @@
 #!/usr/bin/env bash
-# Runs the proved programs oat_check and oat_read, built by `rt check oat_check` and `rt check oat_read`, over every example, and compares what
+# Runs the proved programs oat_check and oat_read, built by `tools/build.sh oat_check oat_read`, over every example, and compares what
 # they print with the answer in the text beside it: all of it, and of reading the number, 0 where it is not 1 to 5.
 set -eu
 cd "$(dirname "$0")/../.."

@@ -1,5 +1,5 @@
 #!/usr/bin/env bash
-# Runs the proved programs oat_check and oat_read, built by `rt check oat_check` and `rt check oat_read`, or those of the folder that the first word
+# Runs the proved programs oat_check and oat_read, built by `tools/build.sh oat_check oat_read`, or those of the folder that the first word
 # names, where standard input or standard output fails: it is told on standard error, and a file that cannot be read has no answer. Then the script
 # `oat_check`: it prints what its program prints, and ends with status 0, 1 or 2.
 set -eu
@@ -49,7 +49,7 @@ for place in built linked; do
     says 2 '' 'oat_check: standard output: No space left on device\n' '"$folder"/$place/oat_check < examples/pan_levels.oat > /dev/full'
     says 2 '' 'oat_check: standard output: Bad file descriptor\n' '"$folder"/$place/oat_check < examples/pan_levels.oat >&-'
 done
-says 2 '' "oat_check: not built yet: run 'rt check oat_check' in the repository\n" '"$folder"/not_built/oat_check < /dev/null'
+says 2 '' "oat_check: not built yet: run 'tools/build.sh oat_check' in the repository\n" '"$folder"/not_built/oat_check < /dev/null'
 says 143 '' '' '"$folder"/killed/oat_check < /dev/null 2> /dev/null'
 says 2 '0 0 0\n' 'oat_check: the program did not tell how it ended\n' '"$folder"/silent/oat_check < /dev/null'
 

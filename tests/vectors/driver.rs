@@ -1,4 +1,4 @@
-//! The stored vectors, answered by the static library (`rt staticlib oat_c`).
+//! The stored vectors, answered by the static library (`tools/build.sh oat_c`).
 //!
 //!     driver compare tests/vectors     every set that sets.txt lists, case by case
 //!     driver COMMAND < CASES           what the library answers, as the peer's command of that name prints it

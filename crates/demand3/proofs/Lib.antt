@@ -1,6 +1,7 @@
 pub mod Blank
 pub mod Blocks
 pub mod Example
+pub mod Endless
 pub mod Growth
 pub mod LawsOutcomeRows
 pub mod LawsPlaces

@@ -1,10 +1,8 @@
 -- What the contract of `read_all` cites. Assumes nothing.
-use Rattle.std.specs.Prelude.{List, ℕ}
+use Rattle.std.specs.Prelude.{List, ℕ, Result, Ok, Err}
 use Rattle.io.specs.Counts.{IsPrefixLen}
-use Rattle.input_output.specs.declared.input.Input.{Input}
-use Rattle.input_output.specs.declared.input.Input.TheVariants.{Bytes, Failed}
 
 -- what was read lies at the front of the buffer
-abbrev pub Within : Input → List ℕ → Type 0
-Within (Bytes n) buffer = IsPrefixLen n buffer
-Within Failed buffer = Unit {0}
+abbrev pub Within : {E : Type 0} → Result ℕ E → List ℕ → Type 0
+Within (Ok n) buffer = IsPrefixLen n buffer
+Within (Err e) buffer = Unit {0}

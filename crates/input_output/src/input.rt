@@ -1,29 +1,20 @@
 // The bytes of a file.
 ghost use Rattle.input_output.specs.Within.{Within};
 
-// How many bytes a file has, or that it cannot be read.
-#[derive(Clone, Copy)]
-pub enum Input {
-    Bytes(usize),
-    Failed,
-}
+use std::io::{Read, Result};
 
-// Reads a file to the front of a buffer, to its end or until the buffer is full. A read that fails is no end: `os::errno` then says why. Which bytes
-// are read no contract can say.
-pub fn read_all(fd: i32, file: &mut [u8]) -> Input
+// Reads a file to the front of a buffer, to its end or until the buffer is full, and answers how many bytes it has. A read that fails is no end: its
+// error is the answer. Which bytes are read no contract can say.
+pub fn read_all<R: Read>(reader: &mut R, file: &mut [u8]) -> Result<usize>
     ensures { Within result file.new }
 {
     let mut length = 0;
     while length < file.len() {
-        let got = libc::read(fd, &mut file[length..]);
-        if got < 0 {
-            return Input::Failed;
-        }
-        let more = io::count(got, &file[length..]);
+        let more = reader.read(&mut file[length..])?;
         if more == 0 {
-            return Input::Bytes(length);
+            return Ok(length);
         }
         length += more;
     }
-    Input::Bytes(length)
+    Ok(length)
 }

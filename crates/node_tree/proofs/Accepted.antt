@@ -175,10 +175,10 @@ vars : {T : Tables} {n d i left p : ℕ} {role : ℕ → Role} (vs : Vars) → V
     → Run T d false role (count_vars vs + left) i n p
 unfolding admits x_fits t_fits count_fits child_role
 vars no_var h l r s = rw zero-add (shift s (omega arith) (omega arith))
-vars {i = i} (next_var x a vs) h l r s =
+vars {n = n} {i = i} (next_var x a vs) h l r s =
     rw add_assoc
     (more (r i (omega arith)) (inner h.0 refl refl refl refl refl (omega arith) (next (expr a h.1 (omega arith) free) (done refl)))
-    (vars vs h.2 (omega arith) (λ j k. r j (omega arith)) (shift s (omega arith) (omega arith))))
+    (vars {n = n + 1 + size a} vs h.2 (omega arith) (λ j k. r j (omega arith)) (shift s (omega arith) (omega arith))))
 
 -- the roles of a for's children
 module _ (count i : ℕ) where
@@ -248,11 +248,11 @@ parameters : {T : Tables} {n d i left p : ℕ} {role : ℕ → Role} (xs : List 
     → Run T d false role (length xs + left) i n p
 unfolding admits x_fits t_fits count_fits
 parameters [] h l r s = rw zero-add (shift s (omega arith) (omega arith))
-parameters {i = i} {left} (x ∷ xs) h l r s =
+parameters {n = n} {i = i} {left = left} (x ∷ xs) h l r s =
     let one : suc (length xs) + left ≡ 1 + (length xs + left) = omega arith in
     rw one
     (more (r i (omega arith)) (inner h.0 refl refl refl refl refl l (done refl))
-    (parameters xs h.1 l (λ j k. r j (omega arith)) (shift s (omega arith) (omega arith))))
+    (parameters {n = n + 1} xs h.1 l (λ j k. r j (omega arith)) (shift s (omega arith) (omega arith))))
 
 -- the roles of a function's children
 module _ (count i : ℕ) where

@@ -14,4 +14,4 @@ pub record Answers (F R W T R' T' : List ℕ) (r : Answered) : Type 0 where
   pub place : ℕ
   pub pairs : ℕ
   pub checks : Checks widest F R W (outcome r.number step place pairs R')
-  pub prints : leaves r.output.printed T' ≡ print_of r.number step place R' (nodes_of (reading_of widest F)) T
+  pub prints : leaves r.printed T' ≡ print_of r.number step place R' (nodes_of (reading_of widest F)) T

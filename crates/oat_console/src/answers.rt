@@ -1,4 +1,4 @@
-// The answers to a file, to standard output. Each says whether its last byte was written. A file has at most 4,096 nodes, with two numbers each in
+// The answers to a file, to standard output. A file has at most 4,096 nodes, with two numbers each in
 // `rows` and `work`, and at most 512 types; each declaration has two nodes at least; a page has at most 81,937 bytes.
 ghost use Rattle.file_sections.specs.Layout.{Laid};
 
@@ -6,71 +6,82 @@ use crate::refusal::print_refusal;
 use crate::tally_lines::print_tallies;
 use crate::text::{end_line, print, print_count, print_number};
 use file_sections::{Reading, Sections};
-use libc::STDOUT_FILENO;
 use pages::page;
 use program_file::{Limits, blank_file, meant};
+use std::io::{Result, Write, writer};
 use subtyping::question::{Answer, subtype};
 use tallies::tally;
 use typing::check::check;
 
 // Checks a file, and prints that it is accepted, or its refusal.
-pub(crate) fn answer_check(file: &[u8], limits: Limits) -> bool {
+pub(crate) fn answer_check(rt: &HostRuntime, file: &[u8], limits: Limits) -> Result<()> {
     let mut rows = [0u16; 8192];
     let mut work = [0u16; 8192];
     let answer = check(file, limits, &mut rows, &mut work);
     if answer.number != 0 {
-        return print_refusal(answer.number, answer.step, answer.place);
+        return print_refusal(rt, answer.number, answer.step, answer.place);
     }
-    print(b"accepted: ");
-    print_count(answer.step as usize, b"step");
-    print(b", ");
-    print_count(answer.pairs as usize, b"pair");
-    print(b" of types compared");
-    end_line()
+    print(rt, b"accepted: ")?;
+    print_count(rt, answer.step as usize, b"step")?;
+    print(rt, b", ")?;
+    print_count(rt, answer.pairs as usize, b"pair")?;
+    print(rt, b" of types compared")?;
+    end_line(rt)
 }
 
 // Checks a file, and prints the page of its rows, or its refusal.
-pub(crate) fn answer_page(file: &[u8], limits: Limits) -> bool {
+pub(crate) fn answer_page(rt: &HostRuntime, file: &[u8], limits: Limits) -> Result<()> {
     let mut rows = [0u16; 8192];
     let mut work = [0u16; 8192];
     let mut out = [0u8; 81937];
     let answer = page(file, limits, &mut rows, &mut work, &mut out);
     if answer.number != 0 {
-        return print_refusal(answer.number, answer.step, answer.place);
+        return print_refusal(rt, answer.number, answer.step, answer.place);
     }
     let bytes = answer.bytes;
-    io::write_all(STDOUT_FILENO, &out[..bytes])
+    writer(rt).write_all(&out[..bytes])
 }
 
 // Prints two types and what is said of them, and how many pairs were compared.
-fn print_question(a: usize, says: &[u8], b: usize, pairs: u16) -> bool {
-    print_number(b"type ", a);
-    print(says);
-    print_number(b" type ", b);
-    print(b", ");
-    print_count(pairs as usize, b"pair");
-    print(b" of types compared");
-    end_line()
+fn print_question(rt: &HostRuntime, a: usize, says: &[u8], b: usize, pairs: u16) -> Result<()> {
+    print_number(rt, b"type ", a)?;
+    print(rt, says)?;
+    print_number(rt, b" type ", b)?;
+    print(rt, b", ")?;
+    print_count(rt, pairs as usize, b"pair")?;
+    print(rt, b" of types compared")?;
+    end_line(rt)
 }
 
 // Prints whether one type of a file is below another, or the refusal of the question.
-pub(crate) fn answer_subtype(file: &[u8], limits: Limits, a: usize, b: usize) -> bool {
+pub(crate) fn answer_subtype(
+    rt: &HostRuntime,
+    file: &[u8],
+    limits: Limits,
+    a: usize,
+    b: usize,
+) -> Result<()> {
     let answer = subtype(file, limits, a, b);
     match answer {
-        Answer::Refused(number) => print_refusal(number, 0, 0),
+        Answer::Refused(number) => print_refusal(rt, number, 0, 0),
         Answer::Yes(pairs) => {
-            print(b"yes: ");
-            print_question(a, b" is below", b, pairs)
+            print(rt, b"yes: ")?;
+            print_question(rt, a, b" is below", b, pairs)
         }
         Answer::No(pairs) => {
-            print(b"no: ");
-            print_question(a, b" is not below", b, pairs)
+            print(rt, b"no: ")?;
+            print_question(rt, a, b" is not below", b, pairs)
         }
     }
 }
 
 // Checks a readable file, and prints its tallies or its refusal.
-fn answer_tally_read(file: &[u8], limits: Limits, sections: Sections) -> bool
+fn answer_tally_read(
+    rt: &HostRuntime,
+    file: &[u8],
+    limits: Limits,
+    sections: Sections,
+) -> Result<()>
     requires { Laid file.now sections }
 {
     let mut rows = [0u16; 8192];
@@ -86,18 +97,18 @@ fn answer_tally_read(file: &[u8], limits: Limits, sections: Sections) -> bool
         &mut by_declaration,
     );
     if answer.number != 0 {
-        return print_refusal(answer.number, answer.step, answer.place);
+        return print_refusal(rt, answer.number, answer.step, answer.place);
     }
-    print_tallies(file, sections, &by_type, &by_declaration);
-    end_line()
+    print_tallies(rt, file, sections, &by_type, &by_declaration)?;
+    end_line(rt)
 }
 
 // Checks a file, and prints its tallies or its refusal.
-pub(crate) fn answer_tally(file: &[u8], limits: Limits) -> bool {
+pub(crate) fn answer_tally(rt: &HostRuntime, file: &[u8], limits: Limits) -> Result<()> {
     let read = program_file::read(file, limits);
     let Reading::Good(sections) = read else {
-        return print_refusal(program_file::number(read), 0, 0);
+        return print_refusal(rt, program_file::number(read), 0, 0);
     };
     let blank = blank_file();
-    answer_tally_read(meant(file, &blank), limits, sections)
+    answer_tally_read(rt, meant(file, &blank), limits, sections)
 }

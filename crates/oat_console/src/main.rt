@@ -4,16 +4,22 @@
 #![tactic(auto)]
 
 mod answers;
-mod input;
 mod refusal;
 mod tally_lines;
 mod text;
 mod words;
 
 use crate::answers::{answer_check, answer_page, answer_subtype, answer_tally};
-use crate::input::{Input, read_all};
-use crate::words::{Number, Setting, complain, complain_at, limits_from, number_at, same};
+use crate::words::{
+    Number, Setting, complain, complain_at, limits_from, number_at, same, word_at, word_count,
+};
+use input_output::failure::fail;
+use input_output::input::read_all;
 use program_file::Limits;
+use std::fs;
+use std::fs::File;
+use std::io::Result;
+use std::rt::Env;
 
 // What is asked of a file.
 #[derive(Clone, Copy)]
@@ -24,83 +30,83 @@ pub enum Question {
     Tally,
 }
 
-// Answers a file, and says whether the last byte of the answer was written.
-fn answer(question: Question, file: &[u8], limits: Limits) -> bool {
+// Answers a file.
+fn answer(rt: &HostRuntime, question: Question, file: &[u8], limits: Limits) -> Result<()> {
     match question {
-        Question::Check => answer_check(file, limits),
-        Question::Page => answer_page(file, limits),
-        Question::Subtype(a, b) => answer_subtype(file, limits, a, b),
-        Question::Tally => answer_tally(file, limits),
+        Question::Check => answer_check(rt, file, limits),
+        Question::Page => answer_page(rt, file, limits),
+        Question::Subtype(a, b) => answer_subtype(rt, file, limits, a, b),
+        Question::Tally => answer_tally(rt, file, limits),
     }
 }
 
 // Answers an open file, or says on standard error why it cannot be read or the answer cannot be printed. A file has at most 45,068 bytes, so that
 // with one more it is refused as its bytes say.
-fn answer_open(question: Question, limits: Limits, fd: i32, path: &[u8]) {
+fn answer_open(
+    rt: &HostRuntime,
+    question: Question,
+    limits: Limits,
+    mut from: File,
+    path: &str,
+) -> Result<()> {
     let mut file = [0u8; 45069];
-    let input = read_all(fd, &mut file);
-    let Input::Bytes(length) = input else {
-        os::fail(path);
-        return;
+    let length = match read_all(&mut from, &mut file) {
+        Ok(length) => length,
+        Err(error) => return fail(rt, path, error),
     };
-    if !answer(question, &file[..length], limits) {
-        os::fail(b"standard output");
+    match answer(rt, question, &file[..length], limits) {
+        Ok(()) => Ok(()),
+        Err(error) => fail(rt, "standard output", error),
     }
 }
 
 // Answers the file of a path.
-fn answer_path(question: Question, limits: Limits, path: &[u8]) {
-    let fd = os::open_read(path);
-    if fd < 0 {
-        os::fail(path);
-        return;
+fn answer_path(rt: &HostRuntime, question: Question, limits: Limits, path: &[u8]) -> Result<()> {
+    let Ok(path) = str::from_utf8(path) else {
+        return eprintln!(rt; "FILE: Invalid or incomplete multibyte or wide character");
+    };
+    match fs::open(rt, path) {
+        Ok(from) => answer_open(rt, question, limits, from, path),
+        Err(error) => fail(rt, path, error),
     }
-    answer_open(question, limits, fd, path);
-    libc::close(fd);
 }
 
 // Answers the file that the second word names.
-fn answer_named(question: Question, limits: Limits) {
-    let mut path = io::buffer();
-    let length = os::arg(2, &mut path);
-    if os::errno() != 0 {
-        os::fail(b"FILE");
-        return;
+fn answer_named(rt: &HostRuntime, question: Question, limits: Limits) -> Result<()> {
+    let mut path = [0u8; 4096];
+    match rt.arg(2, &mut path) {
+        Ok(length) => answer_path(rt, question, limits, &path[..length]),
+        Err(_) => eprintln!(rt; "FILE: File name too long"),
     }
-    answer_path(question, limits, &path[..length]);
 }
 
 // Answers the question under the limits that the words from `first` on set, of this many words in all.
-fn answer_under(question: Question, first: usize, words: usize) {
+fn answer_under(rt: &HostRuntime, question: Question, first: usize, words: usize) -> Result<()> {
     if words < 3 {
-        complain(b"no FILE", b"");
-        return;
+        return complain(rt, b"no FILE", b"");
     }
-    let setting = limits_from(first, words);
+    let setting = limits_from(rt, first, words);
     match setting {
-        Setting::To(limits) => answer_named(question, limits),
-        Setting::Unknown(place) => complain_at(b"unknown word: ", place),
-        Setting::NoNumber(place) => complain_at(b"no number after ", place),
+        Setting::To(limits) => answer_named(rt, question, limits),
+        Setting::Unknown(place) => complain_at(rt, b"unknown word: ", place),
+        Setting::NoNumber(place) => complain_at(rt, b"no number after ", place),
     }
 }
 
 // Answers the subtype question on the two types that the words after FILE name.
-fn answer_types(words: usize) {
+fn answer_types(rt: &HostRuntime, words: usize) -> Result<()> {
     if words < 5 {
-        complain(b"subtype takes FILE, A and B", b"");
-        return;
+        return complain(rt, b"subtype takes FILE, A and B", b"");
     }
-    let first = number_at(3);
+    let first = number_at(rt, 3);
     let Number::Is(a) = first else {
-        complain_at(b"no number: ", 3);
-        return;
+        return complain_at(rt, b"no number: ", 3);
     };
-    let second = number_at(4);
+    let second = number_at(rt, 4);
     let Number::Is(b) = second else {
-        complain_at(b"no number: ", 4);
-        return;
+        return complain_at(rt, b"no number: ", 4);
     };
-    answer_under(Question::Subtype(a, b), 5, words);
+    answer_under(rt, Question::Subtype(a, b), 5, words)
 }
 
 // What the first word says.
@@ -130,23 +136,23 @@ fn verb_named(word: &[u8]) -> Verb {
 }
 
 // Does what the verb says, where there are this many words, the program's own name among them.
-fn run(verb: Verb, words: usize) {
+fn run(rt: &HostRuntime, verb: Verb, words: usize) -> Result<()> {
     match verb {
-        Verb::Check => answer_under(Question::Check, 3, words),
-        Verb::Page => answer_under(Question::Page, 3, words),
-        Verb::Subtype => answer_types(words),
-        Verb::Tally => answer_under(Question::Tally, 3, words),
-        Verb::Unknown => complain_at(b"unknown verb: ", 1),
+        Verb::Check => answer_under(rt, Question::Check, 3, words),
+        Verb::Page => answer_under(rt, Question::Page, 3, words),
+        Verb::Subtype => answer_types(rt, words),
+        Verb::Tally => answer_under(rt, Question::Tally, 3, words),
+        Verb::Unknown => complain_at(rt, b"unknown verb: ", 1),
     }
 }
 
 // A verb that is longer than the buffer is taken for an empty one, which is unknown too.
-fn main() {
+fn main(rt: HostRuntime) -> Result<()> {
     let mut word = [0u8; 16];
-    let length = os::arg(1, &mut word);
-    if os::arg_count() < 2 {
-        complain(b"no verb", b"");
-        return;
+    let length = word_at(&rt, 1, &mut word);
+    let words = word_count(&rt);
+    if words < 2 {
+        return complain(&rt, b"no verb", b"");
     }
-    run(verb_named(&word[..length]), os::arg_count());
+    run(&rt, verb_named(&word[..length]), words)
 }

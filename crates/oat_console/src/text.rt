@@ -1,28 +1,29 @@
 // Text to standard output.
-use libc::STDOUT_FILENO;
+use std::io::{Result, Write, writer};
 
 // Prints a text.
-pub(crate) fn print(text: &[u8]) {
-    io::write_all(STDOUT_FILENO, text);
+pub(crate) fn print(rt: &HostRuntime, text: &[u8]) -> Result<()> {
+    writer(rt).write_all(text)
 }
 
 // Prints a text and a number after it.
-pub(crate) fn print_number(before: &[u8], number: usize) {
-    io::write_all(STDOUT_FILENO, before);
-    io::print_decimal(STDOUT_FILENO, number as u64);
+pub(crate) fn print_number(rt: &HostRuntime, before: &[u8], number: usize) -> Result<()> {
+    print(rt, before)?;
+    print!(rt; "{number}")
 }
 
 // Prints a number and what is counted, which takes an s unless there is one.
-pub(crate) fn print_count(number: usize, what: &[u8]) {
-    print_number(b"", number);
-    print(b" ");
-    print(what);
+pub(crate) fn print_count(rt: &HostRuntime, number: usize, what: &[u8]) -> Result<()> {
+    print_number(rt, b"", number)?;
+    print(rt, b" ")?;
+    print(rt, what)?;
     if number != 1 {
-        print(b"s");
+        print(rt, b"s")?;
     }
+    Ok(())
 }
 
-// Prints the end of the last line, and says whether it was written.
-pub(crate) fn end_line() -> bool {
-    io::write_all(STDOUT_FILENO, b"\n")
+// Prints the end of the last line.
+pub(crate) fn end_line(rt: &HostRuntime) -> Result<()> {
+    print(rt, b"\n")
 }

@@ -1,9 +1,11 @@
 // The words of a command.
-ghost use Rattle.std.specs.Prelude.{◌≡◌, true, ◌↔◌, ◌≤◌};
+ghost use Rattle.std.specs.Prelude.{◌≡◌, true, ◌↔◌, ◌≤◌, length};
 ghost use Rattle.oat_console.specs.Numbers.{with_digit, number_in};
 
-use libc::STDERR_FILENO;
 use program_file::{Limits, widest};
+use std::env::FillError;
+use std::io::{Result, Write};
+use std::rt::Env;
 
 // Whether two texts have the same bytes.
 pub(crate) fn same(a: &[u8], b: &[u8]) -> bool
@@ -70,10 +72,31 @@ pub(crate) fn number_in(word: &[u8]) -> Number
     Number::Is(number)
 }
 
+// Puts a word of the command at the front of a buffer, and answers its length: 0 where there is no such word, or where it is longer than the buffer.
+pub(crate) fn word_at(rt: &HostRuntime, place: usize, word: &mut [u8]) -> usize
+    ensures { result ≤ length word.new }
+{
+    match rt.arg(place, word) {
+        Ok(length) => length,
+        Err(_) => 0,
+    }
+}
+
+// How many words the command has, the program's own name among them.
+pub(crate) fn word_count(rt: &HostRuntime) -> usize {
+    let mut word = [0u8; 1];
+    for place in 0..usize::MAX {
+        if let Err(FillError::NotPresent) = rt.arg(place, &mut word) {
+            return place;
+        }
+    }
+    usize::MAX
+}
+
 // The number that the word at `place` says; none where there is no such word.
-pub(crate) fn number_at(place: usize) -> Number {
-    let mut word = io::buffer();
-    let length = os::arg(place, &mut word);
+pub(crate) fn number_at(rt: &HostRuntime, place: usize) -> Number {
+    let mut word = [0u8; 4096];
+    let length = word_at(rt, place, &mut word);
     number_in(&word[..length])
 }
 
@@ -95,9 +118,9 @@ fn limit_named(word: &[u8]) -> Named {
     Named::Neither
 }
 
-fn limit_at(place: usize) -> Named {
-    let mut word = io::buffer();
-    let length = os::arg(place, &mut word);
+fn limit_at(rt: &HostRuntime, place: usize) -> Named {
+    let mut word = [0u8; 4096];
+    let length = word_at(rt, place, &mut word);
     limit_named(&word[..length])
 }
 
@@ -125,18 +148,18 @@ pub enum Setting {
 }
 
 // The limits that the words from `first` on set, of this many words in all; those that no word sets are the widest.
-pub(crate) fn limits_from(first: usize, words: usize) -> Setting {
+pub(crate) fn limits_from(rt: &HostRuntime, first: usize, words: usize) -> Setting {
     let mut limits = widest();
     let mut place = first;
     while place < words {
-        let named = limit_at(place);
+        let named = limit_at(rt, place);
         if let Named::Neither = named {
             return Setting::Unknown(place);
         }
         if words - place < 2 {
             return Setting::NoNumber(place);
         }
-        let value = number_at(place + 1);
+        let value = number_at(rt, place + 1);
         let Number::Is(number) = value else {
             return Setting::NoNumber(place);
         };
@@ -147,19 +170,19 @@ pub(crate) fn limits_from(first: usize, words: usize) -> Setting {
 }
 
 // Says on standard error what is wrong, and how the words go.
-pub(crate) fn complain(problem: &[u8], word: &[u8]) {
-    io::write_all(STDERR_FILENO, b"oat: ");
-    io::write_all(STDERR_FILENO, problem);
-    io::write_all(STDERR_FILENO, word);
-    io::write_all(
-        STDERR_FILENO,
+pub(crate) fn complain(rt: &HostRuntime, problem: &[u8], word: &[u8]) -> Result<()> {
+    let mut to = rt.stderr();
+    to.write_all(b"oat: ")?;
+    to.write_all(problem)?;
+    to.write_all(word)?;
+    to.write_all(
         b"\nusage: oat check FILE\n       oat page FILE\n       oat subtype FILE A B\n       oat tally FILE\nand, last, --parts N (1 to 200), --depth N (1 to 100)\n",
-    );
+    )
 }
 
 // Complains about the word at `place`.
-pub(crate) fn complain_at(problem: &[u8], place: usize) {
-    let mut word = io::buffer();
-    let length = os::arg(place, &mut word);
-    complain(problem, &word[..length]);
+pub(crate) fn complain_at(rt: &HostRuntime, problem: &[u8], place: usize) -> Result<()> {
+    let mut word = [0u8; 4096];
+    let length = word_at(rt, place, &mut word);
+    complain(rt, problem, &word[..length])
 }

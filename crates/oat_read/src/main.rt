@@ -6,9 +6,11 @@ ghost use Rattle.std.specs.Prelude.{◌≡◌};
 ghost use Rattle.oat.specs.ProgramFile.{widest as Widest};
 ghost use Rattle.program_file.specs.Reading.{reading_of, number_of};
 
-use input_output::input::{Input, read_all};
+use input_output::failure::fail;
+use input_output::input::read_all;
 use input_output::status::{Status, tell};
 use program_file::widest;
+use std::io::Result;
 
 // The number of a file, under document 01's limits.
 fn answer(file: &[u8]) -> u16
@@ -17,26 +19,36 @@ fn answer(file: &[u8]) -> u16
     program_file::number(program_file::read(file, widest()))
 }
 
-// Prints a number and how the command ended: a number that standard output did not take is told on standard error.
-fn print(number: u16) -> Status {
-    if !(io::print_decimal(1, number as u64) && io::write_all(1, b"\n")) {
-        os::fail(b"oat_read: standard output");
-        return Status::Failed;
-    }
+// How the command ended whose answer is printed.
+fn status(number: u16) -> Status {
     if number != 0 {
         return Status::Refused;
     }
     Status::Done
 }
 
+// Prints a number, and tells how the command ended: a number that standard output did not take is told on standard error.
+fn print(rt: &HostRuntime, number: u16) -> Result<()> {
+    match println!(rt; "{number}") {
+        Ok(()) => {
+            tell(status(number));
+            Ok(())
+        }
+        Err(error) => {
+            tell(Status::Failed);
+            fail(rt, "oat_read: standard output", error)
+        }
+    }
+}
+
 // A file has at most 45,068 bytes, so that with one more it is refused as its bytes say.
-fn main() {
+fn main(rt: HostRuntime) -> Result<()> {
     let mut file = [0u8; 45069];
-    let input = read_all(0, &mut file);
-    let Input::Bytes(length) = input else {
-        os::fail(b"oat_read: standard input");
-        tell(Status::Failed);
-        return;
-    };
-    tell(print(answer(&file[..length])));
+    match read_all(&mut rt.reader(), &mut file) {
+        Ok(length) => print(&rt, answer(&file[..length])),
+        Err(error) => {
+            tell(Status::Failed);
+            fail(&rt, "oat_read: standard input", error)
+        }
+    }
 }

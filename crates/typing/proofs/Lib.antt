@@ -12,6 +12,7 @@ pub mod LawsAll
 pub mod LawsFill
 pub mod LawsRows
 pub mod LawsCheck
+pub mod Endless
 pub mod Growth
 pub mod Marks
 pub mod Nearest

@@ -5,7 +5,7 @@ use mathlib.Core.Path.{◌≡◌, refl}
 use mathlib.Core.List.{List, [], ◌∷◌}
 use Prim.Native.Nat.{ℕ}
 use Rattle.oat.specs.Tables.{TypeRecord, FieldRecord, StructRecord, BuiltInRecord, NodeRecord, file_of}
-use Rattle.oat.specs.Syntax.{truth, falsity, integer, text, null, literal, name, array_literal, default_array, array_with, index, length_of, struct_literal, field, call, unary, binary, none, also, no_init, init, name_target, index_target, field_target, no_var, next_var, no_condition, condition, assign, var, return_value, return_void, call_stmt, if_else, if_null, for, while, no_step, step, block, empty, then, global, function}
+use Rattle.oat.specs.Syntax.{truth, falsity, integer, text, null, literal, name, array_literal, default_array, array_with, index, length_of, struct_literal, field, call, unary, binary, none, also, no_init, init, name_target, field_target, no_var, next_var, no_condition, condition, assign, var, return_value, return_void, call_stmt, if_else, if_null, for, while, no_step, step, block, empty, then, global, function}
 use Rattle.oat.specs.ProgramFile.{widest, Program, IsFile}
 use Rattle.typing_rules.specs.Check.{check_of}
 use Rattle.typing_rules.proofs.LawsComputed.{computed, is_file, is-file}

@@ -11,7 +11,6 @@ use Rattle.oat.specs.Syntax.{Expr, null, literal, name, array_literal, default_a
 use Rattle.oat.proofs.LawsTypes.{TypesFormed}
 use Rattle.oat.proofs.LawsTables.{TablesFormed}
 use Rattle.typing_rules.specs.Contexts.{Binding, Bindings, unbound, bind, Scope, Entry, Context}
-use Rattle.typing_rules.specs.Contexts as Contexts
 use Rattle.typing_rules.specs.Labels.{Result, gives, marks, nothing, Label, Labels}
 
 -- the tables of a readable file

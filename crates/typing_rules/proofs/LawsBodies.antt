@@ -1,7 +1,7 @@
 -- A node of a function's body, in a derivation of a file: the rule of the function's step, and where the node stands in its block. Assumes
 -- nothing.
 use mathlib.Core.Path.{subst}
-use mathlib.Core.List.{List, ◌∷◌}
+use mathlib.Core.List.{List, [], ◌∷◌}
 use Prim.Native.Nat.{ℕ, ◌+◌}
 use lib.ListN.{length}
 use lib.Seq.{take-length}
@@ -13,12 +13,13 @@ use Rattle.typing_rules.specs.Contexts.{Context}
 use Rattle.typing_rules.specs.Labels.{Labels}
 use Rattle.typing_rules.specs.Derivations.{Node, AtBlock}
 use Rattle.typing_rules.specs.Endless.{InBodies, in_body, in-others}
-use Rattle.typing_rules.specs.Steps.{Step, body, bodies, steps_of, StepRule, empty_context, StepsRule, next_step, DerivesFile}
+use Rattle.typing_rules.specs.Steps.{Step, body, bodies, steps_of, StepRule, empty_context, StepsRule, step_left, next_step, DerivesFile}
 use Rattle.typing_rules.proofs.LawsSegments.{In, in-first, in-later}
 use Rattle.typing_rules.proofs.RowsTheorem.{body_in}
 
 -- the rule of a step among steps that have a derivation
 rule_of : {T : Tables} {D : Labels Ty} {C E : Context Ty} {s : Step} {ss : List Step} → StepsRule T D C ss E → In s ss → (B : Context Ty) × StepRule T B D s
+rule_of step_left i = elim i [ ]
 rule_of (next_step r rs) in-first = (_, r)
 rule_of (next_step r rs) (in-later i) = rule_of rs i
 
@@ -40,6 +41,7 @@ pub record OfBody (T : Tables) (D : Labels Ty) (m : ℕ) (u : Node) : Type 0 whe
 
 of_bodies : {T : Tables} {D : Labels Ty} (ds : List Decl) (n m : ℕ) {u : Node} → StepsRuled T D (bodies n ds) → InBodies n ds m u → OfBody T D m u
 unfolding bodies
+of_bodies [] n m f w = elim w [ ]
 of_bodies (function x t ps b ∷ ds) n m f (in_body w) =
     let (B, r) = f (body n t ps b) in-first in
     record { node = n; type = t; parameters = ps; block = b; context = B; rule = r; stands = w }

@@ -1,7 +1,7 @@
 -- Where a node stands in a tree it is one of the tree's. Assumes nothing.
 use Prim.Native.Nat.{ℕ, ◌+◌, ◌≤◌, ◌<◌}
 use native.Mathlib.Omega.{arith}
-use Rattle.oat.specs.Syntax.{Expr, null, literal, name, array_literal, default_array, array_with, index, length_of, struct_literal, field, call, unary, binary, Exprs, also, Inits, init, Target, name_target, index_target, field_target, target_expr, Vars, next_var, Condition, condition, Stmt, assign, var, return_value, return_void, call_stmt, if_else, if_null, for, while, Step, step, Block, block, Stmts, then, size, sizes, size_inits, size_target, size_vars, size_condition, size_stmt, size_step, size_block, size_stmts}
+use Rattle.oat.specs.Syntax.{Expr, null, literal, name, array_literal, default_array, array_with, index, length_of, struct_literal, field, call, unary, binary, Exprs, none, also, Inits, no_init, init, Target, name_target, index_target, field_target, target_expr, Vars, no_var, next_var, Condition, no_condition, condition, Stmt, assign, var, return_value, return_void, call_stmt, if_else, if_null, for, while, Step, no_step, step, Block, block, Stmts, empty, then, size, sizes, size_inits, size_target, size_vars, size_condition, size_stmt, size_step, size_block, size_stmts}
 use Rattle.typing_rules.specs.Derivations.{At, here, in-elements, in-length, in-with-length, in-with-value, in-indexed, in-position, in-measured, in-fields, in-record, in-callee, in-arguments, in-operand, in_left, in_right, AtAll, in-first, in_rest, AtInits, in-value, in-others, Node, AtVars, at_var, in-var, in-vars, AtCondition, in-condition, InStmt, in-target, in-assigned, in-initial, in-returned, in-called, in-passed, in-test, in_then, in-else, in-nullable, in_some, in-null, in-for-vars, in-for-condition, in-for-step, in-for-body, in-while-test, in-while-body, AtStep, at_step, in_step, AtBlock, here_block, in_block, AtStmts, at_stmt, in-stmt, in-stmts}
 
 -- a statement has a node
@@ -53,24 +53,29 @@ mutual
   expr_holds (binary x a b) (in_right w) = let (h, k) = expr_holds b w in (omega (arith, h), omega (arith, k))
 
   exprs_hold : (es : Exprs) {n m : ℕ} {u : Expr} → AtAll es n m u → (n ≤ m) × (m < n + sizes es)
+  exprs_hold none w = elim w [ ]
   exprs_hold (also a es) (in-first w) = let (h, k) = expr_holds a w in (omega (arith, h), omega (arith, k))
   exprs_hold (also a es) (in_rest w) = let (h, k) = exprs_hold es w in (omega (arith, h), omega (arith, k))
 
   inits_hold : (is : Inits) {n m : ℕ} {u : Expr} → AtInits is n m u → (n ≤ m) × (m < n + size_inits is)
+  inits_hold no_init w = elim w [ ]
   inits_hold (init x a is) (in-value w) = let (h, k) = expr_holds a w in (omega (arith, h), omega (arith, k))
   inits_hold (init x a is) (in-others w) = let (h, k) = inits_hold is w in (omega (arith, h), omega (arith, k))
 
 -- statements
 vars_hold : (vs : Vars) {n m : ℕ} {u : Node} → AtVars vs n m u → (n ≤ m) × (m < n + size_vars vs)
+vars_hold no_var w = elim w [ ]
 vars_hold (next_var x a vs) at_var = (omega arith, omega arith)
 vars_hold (next_var x a vs) (in-var w) = let (h, k) = expr_holds a w in (omega (arith, h), omega (arith, k))
 vars_hold (next_var x a vs) (in-vars w) = let (h, k) = vars_hold vs w in (omega (arith, h), omega (arith, k))
 
 condition_holds : (c : Condition) {n m : ℕ} {u : Node} → AtCondition c n m u → (n ≤ m) × (m < n + size_condition c)
+condition_holds no_condition w = elim w [ ]
 condition_holds (condition a) (in-condition w) = expr_holds a w
 
 mutual
   stmt_holds : (t : Stmt) {n m : ℕ} {u : Node} → InStmt t n m u → (n ≤ m) × (m < n + size_stmt t)
+  stmt_holds return_void w = elim w [ ]
   stmt_holds (assign g a) (in-target w) = let (h, k) = expr_holds (target_expr g) w in (omega (arith, h), omega (arith, k, target_size g))
   stmt_holds (assign g a) (in-assigned w) = let (h, k) = expr_holds a w in (omega (arith, h), omega (arith, k))
   stmt_holds (var x a) (in-initial w) = let (h, k) = expr_holds a w in (omega (arith, h), omega (arith, k))
@@ -91,6 +96,7 @@ mutual
   stmt_holds (while a b) (in-while-body w) = let (h, k) = block_holds b w in (omega (arith, h), omega (arith, k))
 
   step_holds : (t : Step) {n m : ℕ} {u : Node} → AtStep t n m u → (n ≤ m) × (m < n + size_step t)
+  step_holds no_step w = elim w [ ]
   step_holds (step t) at_step = (omega arith, omega (arith, some_node t))
   step_holds (step t) (in_step w) = stmt_holds t w
 
@@ -99,6 +105,7 @@ mutual
   block_holds (block ss) (in_block w) = let (h, k) = stmts_hold ss w in (omega (arith, h), omega (arith, k))
 
   stmts_hold : (ss : Stmts) {n m : ℕ} {u : Node} → AtStmts ss n m u → (n ≤ m) × (m < n + size_stmts ss)
+  stmts_hold empty w = elim w [ ]
   stmts_hold (then t ss) at_stmt = (omega arith, omega (arith, some_node t))
   stmts_hold (then t ss) (in-stmt w) = let (h, k) = stmt_holds t w in (omega (arith, h), omega (arith, k))
   stmts_hold (then t ss) (in-stmts w) = let (h, k) = stmts_hold ss w in (omega (arith, h), omega (arith, k))

@@ -1,7 +1,7 @@
 -- The rows that the check writes for labels are those of the labels written out. Assumes nothing.
 use mathlib.Core.Path.{refl}
 use mathlib.Core.List.{List, [], ◌∷◌, ◌++◌}
-use Prim.Native.Nat.{ℕ, ◌+◌, ◌<◌}
+use Prim.Native.Nat.{ℕ, ◌<◌}
 use lib.ListN.{length}
 use Rattle.oat.specs.Tables.{Tables}
 use Rattle.typing_rules.specs.Labels.{Result, gives, marks, nothing, Label}

@@ -1,7 +1,7 @@
 -- The row of a node of a global or of a function's body, in the rows of a derivation: its result and its binder are those of the node's label;
 -- and a function's own row, whose mark is its block's. Assumes nothing.
 use mathlib.Core.Path.{◌≡◌, ap, sym, subst, ◌∙◌}
-use mathlib.Core.List.{List, ◌∷◌, ◌++◌, append_assoc}
+use mathlib.Core.List.{List, [], ◌∷◌, ◌++◌, append_assoc}
 use Prim.Native.Nat.{ℕ, zero, suc, ◌+◌, ◌*◌, ◌-◌, ◌≤◌, ◌<◌}
 use native.Mathlib.Omega.{arith}
 use lib.ListN.{length, get_or, length-append, get_or-append}
@@ -71,16 +71,19 @@ pub data HasRow : ℕ → List Decl → ℕ → Type 0 where
   of_others : {n m : ℕ} {d : Decl} {ds : List Decl} → HasRow (n + size_decl d) ds m → HasRow n (d ∷ ds) m
 
 row_low : (ds : List Decl) {n m : ℕ} → HasRow n ds m → n ≤ m
+row_low [] w = elim w [ ]
 row_low (global x a ∷ ds) (of_global h k) = h
 row_low (function x t ps b ∷ ds) (of_block h k) = omega (arith, h)
 row_low (d ∷ ds) (of_others w) = omega (arith, row_low ds w)
 
 body_has_row : (ds : List Decl) {n m : ℕ} {u : Node} → InBodies n ds m u → HasRow n ds m
+body_has_row [] w = elim w [ ]
 body_has_row (function x t ps b ∷ ds) (in_body w) = let (h, k) = block_holds b w in of_block h k
 body_has_row (d ∷ ds) (in-others w) = of_others (body_has_row ds w)
 
 -- among the rows of the declarations that stand from n on
 decl_row : (T : Tables) (D : Labels Ty) (ds : List Decl) (n i m : ℕ) (R : List ℕ) → DeclRows T D n ds R → HasRow n ds m → m ≡ n + i → RowIs T (D m) i R
+decl_row T D [] n i m R r w j = elim w [ ]
 decl_row T D (function x t ps b ∷ ds) n i m _ (function_rows {m = f} {P = P} {R = R} {Q = Q} k h r z) (of_block low high) j =
     let front = 1 + length ps in
     let long : length R ≡ 2 * size_block b = rows_long r ∙ ap (λ k. 2 * k) (labels_long D (n + 1 + length ps) (size_block b)) in
@@ -114,6 +117,7 @@ pub data FunctionAt : ℕ → List Decl → (m k : ℕ) → Type 0 where
   later_function : {n m k : ℕ} {d : Decl} {ds : List Decl} → FunctionAt (n + size_decl d) ds m k → FunctionAt n (d ∷ ds) m k
 
 function_low : (ds : List Decl) {n m k : ℕ} → FunctionAt n ds m k → n ≤ m
+function_low [] w = elim w [ ]
 function_low (_ ∷ ds) this_function = omega arith
 function_low (_ ∷ ds) (later_function w) = omega (arith, function_low ds w)
 
@@ -126,6 +130,7 @@ behind k i xs ys e h =
 -- the mark in a function's row is its block's
 head_row : (T : Tables) (D : Labels Ty) (ds : List Decl) (n i m k : ℕ) (R : List ℕ) → DeclRows T D n ds R → FunctionAt n ds m k → m ≡ n + i
     → (q : ℕ) × ((D k).result ≡ marks q) × (get_or R (2 * i) 65535 ≡ q)
+head_row T D [] n i m k R r w j = elim w [ ]
 head_row T D (function x t ps b ∷ ds) n i m k _ (function_rows {m = f} {P = P} {R = R} {Q = Q} e h r z) this_function j =
     let at : 2 * i ≡ 0 = omega (arith, j) in
     (f, e, ap (λ y. get_or ((f ∷ 65535 ∷ P ++ R) ++ Q) y 65535) at)

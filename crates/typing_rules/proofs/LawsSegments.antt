@@ -197,6 +197,7 @@ module _ {T : Tables} {D : Labels Ty} (n : ℕ) (r : Step) (g : Segment) (gs : L
 -- every step with nodes, where no other has them, finds its rows
 pub found_rows : {T : Tables} {D : Labels Ty} {ss : List Step} {gs : List Segment} → Segments T D ss gs → {s : Step} → In s ss → 1 ≤ node_count s
     → steps_at (rows_begin s) ss ≤ 1 → RowsFit T D s (segment_at (rows_begin s) gs)
+found_rows segments_none i h o = elim i [ ]
 found_rows {T} {D} (segments_step {g = g} {gs = gs} e r q) {s} in-first h o =
     subst (RowsFit T D s) (sym (segment_here (rows_begin s) g gs e (some_rows r h))) r
 found_rows {T} {D} (segments_step {s = r} {ss = ss} {g = g} {gs = gs} e w q) {s} (in-later i) h o =

@@ -84,10 +84,10 @@ module _ (m : ℕ) (G : Step → Type 0) (Z : Step → ℕ → Type 0) (p : Prog
       go (ran_fine a) = a
 
   pub told_at : {j q : ℕ} → run_of p ≡ refused m j q → Z (get_or (steps_of p) j (struct_name 0)) q
-  told_at {j} {q} e = go (subst (RanTells m G Z (steps_of p) 0) e ran)
+  told_at {j} {q} e = go refl (subst (RanTells m G Z (steps_of p) 0) e ran)
     where
-      go : RanTells m G Z (steps_of p) 0 (refused m j q) → Z (get_or (steps_of p) j (struct_name 0)) q
-      go (ran_told i f h) =
-          let same : i ≡ j = omega (arith, f) in
-          subst (λ n. Z (get_or (steps_of p) n (struct_name 0)) q) same h
-      go (ran_other h) = absurd (h refl)
+      go : {a b c : ℕ} → a ≡ m → RanTells m G Z (steps_of p) 0 (refused a b c) → Z (get_or (steps_of p) b (struct_name 0)) c
+      go {b = b} {c = c} s (ran_told i f h) =
+          let same : i ≡ b = omega (arith, f) in
+          subst (λ n. Z (get_or (steps_of p) n (struct_name 0)) c) same h
+      go s (ran_other h) = absurd (h s)

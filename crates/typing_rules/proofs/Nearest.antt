@@ -12,7 +12,7 @@ use borrow.Author.Tests.{eq-eqb, ne_eqb, eqb-true, eqb-false}
 use Rattle.oat.specs.Basics.{pick}
 use Rattle.oat.specs.Tables.{Tables, type_at, entry_at}
 use Rattle.oat.specs.Types.{Ty, Tys, type_of}
-use Rattle.oat.specs.Syntax.{Expr, name, array_literal, default_array, array_with, index, length_of, struct_literal, field, call, unary, binary, Exprs, Inits, Vars, no_var, next_var, Condition, Stmt, assign, var, return_value, return_void, call_stmt, if_else, if_null, for, while, Step, step, Block, block, Stmts, then, size}
+use Rattle.oat.specs.Syntax.{Expr, name, array_literal, default_array, array_with, index, length_of, struct_literal, field, call, unary, binary, Exprs, Inits, Vars, no_var, next_var, Condition, Stmt, assign, var, return_value, return_void, call_stmt, if_else, if_null, for, while, Step, no_step, step, Block, block, Stmts, empty, then, size}
 use Rattle.oat.specs.ProgramFile.{Program}
 use Rattle.typing_rules.specs.Contexts.{Binding, Bindings, unbound, bind, Scope, empty as empty_scope, binds, inner, hit, miss, nearest, is_fresh_at, is_fresh, Context}
 use Rattle.typing_rules.specs.Labels.{gives, Labels}
@@ -35,7 +35,7 @@ record Layered (Γ : Scope Ty) : Type 0 where
   apart : Apart Γ.bindings
 
 -- what the own block has not bound is none of its bindings
-not_bound : (l x : ℕ) {B : Bindings Ty} {d : Binding Ty} → is_fresh_at l x B ≡ true → Among d B → d.name ≡ x → d.level ≡ l → ⊥
+not_bound : (l x : ℕ) {d : Binding Ty} {B : Bindings Ty} → is_fresh_at l x B ≡ true → Among d B → d.name ≡ x → d.level ≡ l → ⊥
 unfolding is_fresh_at
 not_bound l x {d = d} h (latest {B}) e f = go d.level d.name f e h
   where
@@ -228,6 +228,7 @@ module _ {T : Tables} {C : Context Ty} {D : Labels Ty} {rt : Ty} where
 
     stmt_keeps : (s : Stmt) {n m : ℕ} {u : Node} {last : Bool} → InStmt s n m u → StmtRule T C D rt last n s → ((i : ℕ) (v : Node) → InStmt s n i v → RuleAt T C D rt i v)
         → Keeps D n → Keeps D m
+    stmt_keeps return_void w r f h = elim w [ ]
     stmt_keeps (assign g a) (in-target w) (typ_assn t u v p q r z) f h = expr_keeps w (λ i e k. f i (expression e) (in-target k)) (kept p.scope h)
     stmt_keeps (assign g a) (in-assigned w) (typ_assn t u v p q r z) f h = expr_keeps w (λ i e k. f i (expression e) (in-assigned k)) (kept q.scope h)
     stmt_keeps (var x a) (in-initial w) (typ_decl t p q z) f h = expr_keeps w (λ i e k. f i (expression e) (in-initial k)) (kept p.scope h)
@@ -252,6 +253,7 @@ module _ {T : Tables} {C : Context Ty} {D : Labels Ty} {rt : Ty} where
 
     step_keeps : (s : Step) {n m : ℕ} {u : Node} {Γ : Scope Ty} → AtStep s n m u → StepGoesOn D n Γ s → ((i : ℕ) (v : Node) → AtStep s n i v → RuleAt T C D rt i v)
         → Layered Γ → Keeps D m
+    step_keeps no_step w p f h = elim w [ ]
     step_keeps (step s) at_step p f h = kept p.scope h
     step_keeps (step s) (in_step w) p f h = stmt_keeps s w (f _ _ at_step) (λ i v k. f i v (in_step k)) (kept p.scope h)
 
@@ -261,6 +263,7 @@ module _ {T : Tables} {C : Context Ty} {D : Labels Ty} {rt : Ty} where
 
     stmts_keep : (p q : ℕ) (ss : Stmts) {n m : ℕ} {u : Node} {Γ : Scope Ty} → AtStmts ss n m u → Chain D n ss p Γ q → ((i : ℕ) (v : Node) → AtStmts ss n i v → RuleAt T C D rt i v)
         → Layered Γ → Keeps D m
+    stmts_keep p q empty w e f h = elim w [ ]
     stmts_keep p q (then s ss) at_stmt (r, z, k, e) f h = kept k.scope h
     stmts_keep p q (then s ss) (in-stmt w) (r, z, k, e) f h = stmt_keeps s w (f _ _ at_stmt) (λ i v a. f i v (in-stmt a)) (kept k.scope h)
     stmts_keep p q (then s ss) (in-stmts w) (r, z, k, e) f h = stmts_keep r q ss w e (λ i v a. f i v (in-stmts a)) (after_keeps s (f _ _ at_stmt) (kept k.scope h))
@@ -298,6 +301,7 @@ body_keeps {T = T} {n = n} {t = t} {ps = ps} {b = b} (typ_fdeclok d z e k r) w =
 -- a name, by its rule
 none_found : (x : ℕ) (B : Bindings Ty) → nearest x B ≡ miss → (c : Binding Ty) → Among c B → c.name ≡ x → ⊥
 unfolding nearest
+none_found x unbound e c a i = elim a [ ]
 none_found x (bind B b) e c latest i = go (eqb b.name x) (eq-eqb b.name x i) e
   where
     go : (v : Bool) → v ≡ true → pick v (hit b.type b.binder) (nearest x B) ≡ miss → ⊥

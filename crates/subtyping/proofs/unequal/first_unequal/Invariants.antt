@@ -1,0 +1,15 @@
+-- `unequal::first_unequal` meets its contract. The loop keeps: the parameters passed are equal. Assumes nothing.
+use mathlib.Core.Path.{◌≡◌}
+use mathlib.Core.Bool.{true}
+use Prim.Native.Nat.{◌-◌, ◌≤◌}
+use Rattle.file_sections.specs.Layout.{tables_of}
+use Rattle.type_index.specs.Index.{same_params}
+use Rattle.type_index.proofs.LawsSameTypes.{in_list, no_params, params_more}
+use Rattle.subtyping.proofs.LawsUnequal.{differ_here, differ_nowhere}
+use Rattle.subtyping.proofs.unequal.first_unequal.Given as goal
+
+abbrev pub invariant-loop-j : goal.invariant-loop-j
+invariant-loop-j l = (l.j ≤ l.count) × (same_params l.index (tables_of l.file l.sections) l.p l.q l.j ≡ true)
+
+abbrev pub decreases-loop-j : goal.decreases-loop-j
+decreases-loop-j l = l.count - l.j
