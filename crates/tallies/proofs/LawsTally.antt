@@ -105,9 +105,9 @@ module _ {l : Limits} {F R W R' W' : List ℕ} {c : CheckAnswer} (k : Checked l 
       }
 
 -- the file of an accepting check, as the tallies within speak of it
-pub accepted_ready : {l : Limits} {F R W R' W' G : List ℕ} {S : Sections} {c : CheckAnswer} → Bytes F → reading_of l F ≡ Good S → G ≡ meant F → Checked l F R W R' W' c → c.number ≡ 0
+pub tally_ready_of : {l : Limits} {F R W R' W' G : List ℕ} {S : Sections} {c : CheckAnswer} → Bytes F → reading_of l F ≡ Good S → G ≡ meant F → Checked l F R W R' W' c → c.number ≡ 0
     → ReadyAccepted G S R'
-accepted_ready {l} {F} {R' = R'} {S = S} b e is k z =
+tally_ready_of {l} {F} {R' = R'} {S = S} b e is k z =
     let d = opened l F S b e in
     let rows = subst (λ T. TypedRows T R') (tables_are d.program d.wide d.reads) (accepted_rows k z d.program d.file) in
     subst (λ G. ReadyAccepted G S R') (sym is) (record { reads = d.reads; program = d.program; file = d.wide; rows = rows })
@@ -145,7 +145,7 @@ module _ (l : Limits) {F R W : List ℕ} {S : Sections} {g : Reading} {R' W' : L
 
   module _ {G : List ℕ} (b : Bytes F) (is : G ≡ meant F) (z : c.number ≡ 0) where
     pub tally_ready : ReadyAccepted G S R'
-    tally_ready = accepted_ready b (sym e ∙ h) is its_check.0 z
+    tally_ready = tally_ready_of b (sym e ∙ h) is its_check.0 z
 
     module _ {A B A' B' : List ℕ} {w : Bool} (t : ToldAccepted G R' A B A' B' w) where
       told_file : (p : Program) → IsFile l F p → Writes p R' A B A' B' w

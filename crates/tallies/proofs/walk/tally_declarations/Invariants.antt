@@ -1,0 +1,14 @@
+-- `walk::tally_declarations` meets its contract. The loop keeps: the declarations before `node` are counted. Assumes nothing.
+use mathlib.Core.Path.{◌≡◌, refl}
+use Prim.Native.Nat.{◌-◌}
+use lib.ListN.{length}
+use native.Mathlib.Omega.{arith}
+use Rattle.tallies.proofs.LawsWalk.{TallyAlong, tally_start, tally_tree, tally_low, tally_fits, tally_falls, tally_next, tally_done}
+use Rattle.tallies.proofs.walk.tally_declarations.Given as goal
+
+abbrev pub invariant-loop-node : goal.invariant-loop-node
+invariant-loop-node l =
+    TallyAlong l.file l.sections l.rows l.node l.count l.types l.declarations × (length l.types ≡ length l.initial.types) × (length l.declarations ≡ length l.initial.declarations)
+
+abbrev pub decreases-loop-node : goal.decreases-loop-node
+decreases-loop-node l = l.sections.nodes - l.node
