@@ -8,15 +8,15 @@ use Rattle.demand3.specs.CheckFile.{Checks}
 use Rattle.typing.specs.declared.check.Answer.{Answer}
 use Rattle.typing.specs.Check.{outcome_of, Checked}
 use Rattle.printing.specs.Outcome.{leaves, print_of}
-use Rattle.answer_output.specs.declared.Output.{Output}
+use Rattle.printing.specs.declared.Printed.{Printed}
 use Rattle.answer_output.specs.Nodes.{nodes_of}
 use Rattle.oat_check.specs.declared.Answered.{Answered}
 use Rattle.oat_check.specs.Answers.{Answers}
 
 module _ (F R W T R' W' T' : List ℕ) (limits : Limits) (widest : limits ≡ record { parts = 200; depth = 100 }) (a : Answer) (checked : Checked (setting_of limits) F R W R' W' a) where
-  pub answered : (nodes : ℕ) → nodes ≡ nodes_of (reading_of (setting_of limits) F) → (o : Output)
-      → leaves o.printed T' ≡ print_of a.number a.step a.place R' nodes T
-      → Answers F R W T R' T' (record { number = a.number; output = o })
+  pub answered : (nodes : ℕ) → nodes ≡ nodes_of (reading_of (setting_of limits) F) → (o : Printed)
+      → leaves o T' ≡ print_of a.number a.step a.place R' nodes T
+      → Answers F R W T R' T' (record { number = a.number; printed = o })
   answered nodes e o h = record {
     step = a.step;
     place = a.place;
