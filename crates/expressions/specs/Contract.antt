@@ -1,7 +1,7 @@
 -- What the contracts of expressions cite: what the buffers hold before, what an answer says, and what they hold after an accepted one.
 -- F is the file, S its sections, X the index of types, R the rows, W the stack, K the chains; a prime marks a buffer after the call.
 -- Assumes nothing.
-use Rattle.std.specs.Prelude.{◌≡◌, Bool, true, List, [], ◌∷◌, ℕ, ◌+◌, ◌*◌, ◌≤◌, ◌<◌, length, get_or}
+use Rattle.std.specs.Prelude.{◌≡◌, true, List, [], ◌∷◌, ℕ, ◌+◌, ◌*◌, ◌≤◌, ◌<◌, length, get_or}
 use Rattle.oat.specs.Tables.{Tables, node_at}
 use Rattle.oat.specs.TableRules.{has_kind}
 use Rattle.oat.specs.Types.{struct_of, Field}

@@ -1,5 +1,5 @@
 -- What the members of the cycle need. Assumes nothing.
-use Rattle.std.proofs.Common.{rules, ◌-◌, arith, refl, ◌≡◌}
+use Rattle.std.proofs.Common.{rules, arith, refl, ◌≡◌}
 use Rattle.answers.proofs.LawsOperators.{takes, compares}
 use Rattle.expressions.proofs.LawsArrayWith.{filling_bindable, filling_array, filling_no, filling_left, filling_asked, filling_counted, filling_below, filling_ok, filled_first, filled_filling, filled_array, filled_entered, filled_unformed, filled_no, filled_sort, filled_no_2, filled_ok}
 use Rattle.expressions.proofs.LawsChild.{has_node, child_type, has_type, type_entered, child_fine, child_within}

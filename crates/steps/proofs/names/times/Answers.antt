@@ -1,8 +1,5 @@
 -- `names::times` meets its contract. The loop keeps: the name was found that often among the names passed. Assumes nothing.
-use mathlib.Core.Path.{◌≡◌}
-use Prim.Native.Nat.{◌-◌, ◌≤◌}
 use borrow.Author.Rules.{rules}
-use Rattle.steps.specs.Contract.{times_in}
 use Rattle.steps.proofs.LawsNames.{times_none, times_hit, times_miss, times_done}
 use Rattle.steps.proofs.names.times.Goals as goal
 use Rattle.steps.proofs.names.times.Goals.{then-names-i, else-names-i}

@@ -1,9 +1,7 @@
 -- `names::times` meets its contract. The loop keeps: the name was found that often among the names passed. Assumes nothing.
 use mathlib.Core.Path.{◌≡◌}
-use mathlib.Core.Logic.{⊎_elim}
 use Prim.Native.Nat.{◌-◌, ◌≤◌}
 use Rattle.steps.specs.Contract.{times_in}
-use Rattle.steps.proofs.LawsNames.{times_none, times_hit, times_miss, times_done}
 use Rattle.steps.proofs.names.times.Given as goal
 
 abbrev pub invariant-loop-i : goal.invariant-loop-i

@@ -1,10 +1,5 @@
 -- `names::types_formed` meets its contract. The loop keeps: the type of every field passed is well-formed. Assumes nothing.
-use mathlib.Core.Path.{◌≡◌}
-use mathlib.Core.Bool.{true}
-use Prim.Native.Nat.{◌-◌, ◌≤◌}
 use borrow.Author.Rules.{rules}
-use Rattle.file_sections.specs.Layout.{tables_of}
-use Rattle.steps.specs.Contract.{types_formed}
 use Rattle.steps.proofs.LawsNames.{no_field_formed, all_fields_formed, field_unformed, more_fields_formed, field_entered}
 use Rattle.steps.proofs.names.types_formed.Goals as goal
 

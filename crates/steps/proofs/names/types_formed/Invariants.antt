@@ -4,7 +4,6 @@ use mathlib.Core.Bool.{true}
 use Prim.Native.Nat.{◌-◌, ◌≤◌}
 use Rattle.file_sections.specs.Layout.{tables_of}
 use Rattle.steps.specs.Contract.{types_formed}
-use Rattle.steps.proofs.LawsNames.{no_field_formed, all_fields_formed, field_unformed, more_fields_formed, field_entered}
 use Rattle.steps.proofs.names.types_formed.Given as goal
 
 abbrev pub invariant-loop-i : goal.invariant-loop-i

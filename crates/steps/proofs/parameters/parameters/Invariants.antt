@@ -1,9 +1,8 @@
 -- `parameters::parameters` meets its contract. Assumes nothing.
-use native.Mathlib.Omega.{arith}
-use mathlib.Core.Path.{◌≡◌, refl}
+use mathlib.Core.Path.{◌≡◌}
 use Prim.Native.Nat.{◌-◌}
 use lib.ListN.{length}
-use Rattle.steps.proofs.LawsParameters.{Walked, parameters_start, parameter_some, parameter_node, parameter_entry, parameter_bindable, parameter_fits, parameter_taken, parameter_again, parameters_done}
+use Rattle.steps.proofs.LawsParameters.{Walked}
 use Rattle.steps.proofs.parameters.parameters.Given as goal
 
 abbrev pub invariant-loop-i : goal.invariant-loop-i

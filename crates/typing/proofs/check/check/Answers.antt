@@ -1,5 +1,4 @@
 -- `check` meets its contract, which has demand 3 in it. Assumes nothing.
-use borrow.Author.Rules.{rules}
 use Rattle.typing.proofs.LawsCheck.{check_unread, with_demands, was_read, check_told_sections}
 use Rattle.typing.proofs.check.check.Goals as goal
 

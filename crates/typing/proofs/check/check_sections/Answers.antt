@@ -2,7 +2,6 @@
 use native.Mathlib.Omega.{arith}
 use lib.Seq.{length-take-le}
 use mathlib.Core.Path.{sym}
-use borrow.Author.Rules.{rules}
 use Rattle.oat.proofs.LawsBlank.{these_meant}
 use Rattle.program_file.proofs.Theorem.{bytes-of}
 use Rattle.typing.proofs.LawsCheck.{nodes_few, check_rows_short, check_work_short, check_ready, check_good, told_sections}

@@ -1,8 +1,5 @@
 -- `fill` meets its contract. The loop keeps: the first i numbers are 65,535, the others as they were. Assumes nothing.
-use mathlib.Core.Path.{◌≡◌, refl}
-use mathlib.Core.List.{◌++◌}
-use Prim.Native.Nat.{◌-◌, ◌≤◌}
-use lib.ListN.{length, drop, replicate}
+use mathlib.Core.Path.{refl}
 use borrow.Author.Rules.{rules}
 use borrow.Author.Fill.{fill_none}
 use Rattle.typing.proofs.LawsFill.{fill_step, fill_done}

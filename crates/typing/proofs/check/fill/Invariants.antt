@@ -1,10 +1,8 @@
 -- `fill` meets its contract. The loop keeps: the first i numbers are 65,535, the others as they were. Assumes nothing.
-use mathlib.Core.Path.{◌≡◌, refl}
+use mathlib.Core.Path.{◌≡◌}
 use mathlib.Core.List.{◌++◌}
 use Prim.Native.Nat.{◌-◌, ◌≤◌}
 use lib.ListN.{length, drop, replicate}
-use borrow.Author.Fill.{fill_none}
-use Rattle.typing.proofs.LawsFill.{fill_step, fill_done}
 use Rattle.typing.proofs.check.fill.Given as goal
 
 abbrev pub invariant-loop-i : goal.invariant-loop-i

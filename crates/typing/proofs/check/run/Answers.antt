@@ -1,6 +1,5 @@
 -- `run` meets its contract. Assumes nothing.
 use native.Mathlib.Omega.{arith}
-use borrow.Author.Rules.{rules}
 use Rattle.typing.proofs.LawsRuns.{stopped}
 use Rattle.typing.proofs.LawsAll.{all_first_stop, all_globals, all_globals_stop, all_fields, all_fields_stop, all_bodies, all_done}
 use Rattle.typing.proofs.check.run.Goals as goal

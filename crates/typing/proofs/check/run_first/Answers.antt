@@ -1,5 +1,4 @@
 -- `run_first` meets its contract. Assumes nothing.
-use borrow.Author.Rules.{rules}
 use Rattle.typing.proofs.LawsRuns.{stopped}
 use Rattle.typing.proofs.LawsAll.{first_structs, first_structs_stop, first_built_ins, first_built_ins_stop, first_headings, first_done}
 use Rattle.typing.proofs.check.run_first.Goals as goal

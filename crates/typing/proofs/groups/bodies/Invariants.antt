@@ -1,12 +1,9 @@
 -- `bodies` meets its contract. The loop keeps: the declarations before `node` have had their steps of this group. Assumes nothing.
-use mathlib.Core.Path.{◌≡◌, refl}
+use mathlib.Core.Path.{◌≡◌}
 use Prim.Native.Nat.{◌-◌}
-use native.Mathlib.Omega.{arith}
 use lib.ListN.{length}
 use Rattle.typing_rules.specs.Steps.{bodies}
-use Rattle.typing.proofs.LawsRuns.{stopped}
-use Rattle.typing.proofs.LawsCounts.{bodies_group}
-use Rattle.typing.proofs.LawsGroups.{Along, along_start, along_ready, along_tree, along_stop, along_next, along_falls, along_done}
+use Rattle.typing.proofs.LawsGroups.{Along}
 use Rattle.typing.proofs.groups.bodies.Given as goal
 
 abbrev pub invariant-loop-node : goal.invariant-loop-node

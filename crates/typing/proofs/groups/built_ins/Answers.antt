@@ -1,8 +1,7 @@
 -- `built_ins` meets its contract. The loop keeps: the first i built-ins have had their steps. Assumes nothing.
-use Prim.Native.Nat.{◌-◌, ◌≤◌}
 use borrow.Author.Rules.{rules}
 use Rattle.typing.proofs.LawsRuns.{stopped}
-use Rattle.typing.proofs.LawsLoops.{BuiltInsDone, built_ins_start, built_ins_ready, built_ins_stop, built_ins_next, built_ins_done}
+use Rattle.typing.proofs.LawsLoops.{built_ins_start, built_ins_ready, built_ins_stop, built_ins_next, built_ins_done}
 use Rattle.typing.proofs.groups.built_ins.Goals as goal
 
 pub loop-i-init : goal.loop-i-init

@@ -1,7 +1,6 @@
 -- `built_ins` meets its contract. The loop keeps: the first i built-ins have had their steps. Assumes nothing.
 use Prim.Native.Nat.{◌-◌, ◌≤◌}
-use Rattle.typing.proofs.LawsRuns.{stopped}
-use Rattle.typing.proofs.LawsLoops.{BuiltInsDone, built_ins_start, built_ins_ready, built_ins_stop, built_ins_next, built_ins_done}
+use Rattle.typing.proofs.LawsLoops.{BuiltInsDone}
 use Rattle.typing.proofs.groups.built_ins.Given as goal
 
 abbrev pub invariant-loop-i : goal.invariant-loop-i

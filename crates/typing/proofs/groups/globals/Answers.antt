@@ -1,13 +1,10 @@
 -- `globals` meets its contract. The loop keeps: the declarations before `node` have had their steps of this group. Assumes nothing.
-use mathlib.Core.Path.{◌≡◌, refl}
-use Prim.Native.Nat.{◌-◌}
+use mathlib.Core.Path.{refl}
 use native.Mathlib.Omega.{arith}
-use lib.ListN.{length}
 use borrow.Author.Rules.{rules}
-use Rattle.typing_rules.specs.Steps.{globals}
 use Rattle.typing.proofs.LawsRuns.{stopped}
 use Rattle.typing.proofs.LawsCounts.{globals_group}
-use Rattle.typing.proofs.LawsGroups.{Along, along_start, along_ready, along_tree, along_stop, along_next, along_falls, along_done}
+use Rattle.typing.proofs.LawsGroups.{along_start, along_ready, along_tree, along_stop, along_next, along_falls, along_done}
 use Rattle.typing.proofs.groups.globals.Goals as goal
 
 pub loop-node-init : goal.loop-node-init

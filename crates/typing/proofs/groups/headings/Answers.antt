@@ -1,10 +1,8 @@
 -- `headings` meets its contract. The loop keeps: the declarations before `node` have had their headings' steps. Assumes nothing.
-use mathlib.Core.Path.{◌≡◌, refl}
-use Prim.Native.Nat.{◌-◌}
-use lib.ListN.{length}
+use mathlib.Core.Path.{refl}
 use borrow.Author.Rules.{rules}
 use Rattle.typing.proofs.LawsRuns.{stopped}
-use Rattle.typing.proofs.LawsHeadings.{HeadingsAlong, headings_start, headings_ready, headings_tree, headings_stop, headings_next, headings_falls, headings_done}
+use Rattle.typing.proofs.LawsHeadings.{headings_start, headings_ready, headings_tree, headings_stop, headings_next, headings_falls, headings_done}
 use Rattle.typing.proofs.groups.headings.Goals as goal
 
 pub loop-node-init : goal.loop-node-init

@@ -1,9 +1,8 @@
 -- `headings` meets its contract. The loop keeps: the declarations before `node` have had their headings' steps. Assumes nothing.
-use mathlib.Core.Path.{◌≡◌, refl}
+use mathlib.Core.Path.{◌≡◌}
 use Prim.Native.Nat.{◌-◌}
 use lib.ListN.{length}
-use Rattle.typing.proofs.LawsRuns.{stopped}
-use Rattle.typing.proofs.LawsHeadings.{HeadingsAlong, headings_start, headings_ready, headings_tree, headings_stop, headings_next, headings_falls, headings_done}
+use Rattle.typing.proofs.LawsHeadings.{HeadingsAlong}
 use Rattle.typing.proofs.groups.headings.Given as goal
 
 abbrev pub invariant-loop-node : goal.invariant-loop-node

@@ -1,8 +1,7 @@
 -- `struct_fields` meets its contract. The loop keeps: the fields of the first i structs have had their steps. Assumes nothing.
-use Prim.Native.Nat.{◌-◌, ◌≤◌}
 use borrow.Author.Rules.{rules}
 use Rattle.typing.proofs.LawsRuns.{stopped}
-use Rattle.typing.proofs.LawsLoops.{FieldsDone, fields_start, fields_ready, fields_stop, fields_next, fields_done}
+use Rattle.typing.proofs.LawsLoops.{fields_start, fields_ready, fields_stop, fields_next, fields_done}
 use Rattle.typing.proofs.groups.struct_fields.Goals as goal
 
 pub loop-i-init : goal.loop-i-init

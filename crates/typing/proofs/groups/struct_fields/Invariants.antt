@@ -1,7 +1,6 @@
 -- `struct_fields` meets its contract. The loop keeps: the fields of the first i structs have had their steps. Assumes nothing.
 use Prim.Native.Nat.{◌-◌, ◌≤◌}
-use Rattle.typing.proofs.LawsRuns.{stopped}
-use Rattle.typing.proofs.LawsLoops.{FieldsDone, fields_start, fields_ready, fields_stop, fields_next, fields_done}
+use Rattle.typing.proofs.LawsLoops.{FieldsDone}
 use Rattle.typing.proofs.groups.struct_fields.Given as goal
 
 abbrev pub invariant-loop-i : goal.invariant-loop-i

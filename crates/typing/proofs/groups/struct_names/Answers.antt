@@ -1,10 +1,7 @@
 -- `struct_names` meets its contract. The loop keeps: the first i structs have had their steps. Assumes nothing.
-use mathlib.Core.Path.{◌≡◌}
-use Prim.Native.Nat.{◌-◌, ◌≤◌}
-use lib.ListN.{length}
 use borrow.Author.Rules.{rules}
 use Rattle.typing.proofs.LawsRuns.{stopped}
-use Rattle.typing.proofs.LawsLoops.{StructsDone, structs_first, structs_ready, structs_stop, structs_next, structs_done}
+use Rattle.typing.proofs.LawsLoops.{structs_first, structs_ready, structs_stop, structs_next, structs_done}
 use Rattle.typing.proofs.groups.struct_names.Goals as goal
 
 pub loop-i-init : goal.loop-i-init

@@ -2,8 +2,7 @@
 use mathlib.Core.Path.{◌≡◌}
 use Prim.Native.Nat.{◌-◌, ◌≤◌}
 use lib.ListN.{length}
-use Rattle.typing.proofs.LawsRuns.{stopped}
-use Rattle.typing.proofs.LawsLoops.{StructsDone, structs_first, structs_ready, structs_stop, structs_next, structs_done}
+use Rattle.typing.proofs.LawsLoops.{StructsDone}
 use Rattle.typing.proofs.groups.struct_names.Given as goal
 
 abbrev pub invariant-loop-i : goal.invariant-loop-i

@@ -1,5 +1,4 @@
 -- `Context::body_step` meets its contract. Assumes nothing.
-use borrow.Author.Rules.{rules}
 use Rattle.std.proofs.lemmas.Bool.{not_from_true, not_from_false}
 use native.Mathlib.Omega.{arith}
 use Rattle.steps.proofs.LawsBody.{unreturned, body_node, body_type, body_parameters, body_numbers, body_taken, body_block, body_no, body_open, body_scoped, body_fits, body_ok}

@@ -1,5 +1,4 @@
 -- `Context::global_step` meets its contract. Assumes nothing.
-use borrow.Author.Rules.{rules}
 use Rattle.std.proofs.lemmas.Bool.{not_from_true, not_from_false}
 use native.Mathlib.Omega.{arith}
 use Rattle.steps.proofs.LawsGlobal.{global_first, global_node, global_counts, global_no, global_some, global_bindable, global_fits, global_taken, global_ok}

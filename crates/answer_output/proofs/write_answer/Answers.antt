@@ -1,0 +1,15 @@
+-- `write_answer` meets its contract: it leaves what `print` leaves, and the text that `print` answers is within the buffer. Assumes nothing.
+use mathlib.Core.Path.{sym}
+use lib.Seq.{length-take-le}
+use Rattle.printing.proofs.LawsTold.{written_room}
+use Rattle.answer_output.proofs.LawsOutput.{answer_stays}
+use Rattle.answer_output.proofs.write_answer.Goals as goal
+
+pub slice_bounds-write_all-end : goal.slice_bounds-write_all-end
+slice_bounds-write_all-end c = written_room _ _ _ _ _ _ _ _ c.print-printed.ensures _ c.in-Written.is
+
+pub slice_bounds-write_all-end-in-Written : goal.slice_bounds-write_all-end-in-Written
+slice_bounds-write_all-end-in-Written c = sym (length-take-le _ _ (written_room _ _ _ _ _ _ _ _ c.print-printed.ensures _ c.in-Written.is))
+
+pub returns-in-Written : goal.returns-in-Written
+returns-in-Written c = answer_stays _ _ _ _ c.in-Written.is c.print-printed.ensures
