@@ -1,5 +1,4 @@
 -- `assignment` meets its contract. Assumes nothing.
-use borrow.Author.Rules.{rules}
 use native.Mathlib.Omega.{arith}
 use mathlib.Core.Path.{ap, refl}
 use mathlib.Core.Bool.{not}
@@ -36,14 +35,10 @@ returns-in_default-second c =
 
 pub below-asked-requires : goal.below-asked-requires
 below-asked-requires c =
-    let first-there =
-    (
-    child_within (assignment_second c.requires.ready_stmt c.requires.node_value c.assigns.ensures (ap not c.if-not-assigns.false) c.expression-one.ensures c.in-Typed.is) c.expression-two.ensures c.in-Typed-second.is) in
-    let second-there =
-    (
-    child_within (assignment_first c.requires.ready_stmt c.requires.node_value) c.expression-one.ensures c.in-Typed.is) in
+    let first-there = child_within (assignment_second c.requires.ready_stmt c.requires.node_value c.assigns.ensures (ap not c.if-not-assigns.false) c.expression-one.ensures c.in-Typed.is) c.expression-two.ensures c.in-Typed-second.is in
+    let second-there = child_within (assignment_first c.requires.ready_stmt c.requires.node_value) c.expression-one.ensures c.in-Typed.is in
     let fine = c.requires.ready_stmt.fine in
-    (fine.good_tables, fine.indexed, first-there, second-there)
+    search (fine.good_tables, fine.indexed, first-there, second-there)
 
 pub counting-end-requires : goal.counting-end-requires
 counting-end-requires c =

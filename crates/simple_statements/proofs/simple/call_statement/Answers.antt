@@ -1,6 +1,4 @@
 -- `call_statement` meets its contract. Assumes nothing.
-use borrow.Author.Rules.{rules}
-use native.Mathlib.Omega.{arith}
 use mathlib.Core.Path.{refl}
 use Rattle.answers.proofs.LawsAnswers.{answered}
 use Rattle.expressions.proofs.LawsMeets.{untyped, unlisted}

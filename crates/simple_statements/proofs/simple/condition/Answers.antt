@@ -1,5 +1,4 @@
 -- `simple::condition` meets its contract. Assumes nothing.
-use borrow.Author.Rules.{rules}
 use native.Mathlib.Omega.{arith}
 use mathlib.Core.Path.{refl}
 use Rattle.answers.proofs.LawsAnswers.{answered}

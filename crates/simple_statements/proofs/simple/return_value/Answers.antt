@@ -1,8 +1,6 @@
 -- `return_value` meets its contract. Assumes nothing.
-use borrow.Author.Rules.{rules}
 use native.Mathlib.Omega.{arith}
-use mathlib.Core.Path.{ap, refl}
-use mathlib.Core.Bool.{not}
+use mathlib.Core.Path.{refl}
 use Rattle.answers.proofs.LawsAnswers.{answered}
 use Rattle.expressions.proofs.LawsMeets.{untyped}
 use Rattle.expressions.proofs.LawsChild.{has_type, child_within, child_fine}
@@ -28,12 +26,10 @@ returns-in_default c =
 
 pub below-asked-requires : goal.below-asked-requires
 below-asked-requires c =
-    let first-there =
-    (
-    child_within (value_first c.requires.ready_stmt.0 c.requires.node_value) c.expression-one.ensures c.in-Typed.is) in
+    let first-there = child_within (value_first c.requires.ready_stmt.0 c.requires.node_value) c.expression-one.ensures c.in-Typed.is in
     let second-there = c.requires.ready_stmt.1 in
     let fine = c.requires.ready_stmt.0.fine in
-    (fine.good_tables, fine.indexed, first-there, second-there)
+    search (fine.good_tables, fine.indexed, first-there, second-there)
 
 pub counting-end-requires : goal.counting-end-requires
 counting-end-requires c =

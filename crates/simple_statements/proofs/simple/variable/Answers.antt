@@ -1,5 +1,4 @@
 -- `simple::variable` meets its contract. Assumes nothing.
-use borrow.Author.Rules.{rules}
 use native.Mathlib.Omega.{arith}
 use mathlib.Core.Path.{ap, refl}
 use mathlib.Core.Bool.{not}

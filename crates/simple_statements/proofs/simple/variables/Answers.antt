@@ -1,12 +1,10 @@
 -- `simple::variables` meets its contract. Assumes nothing.
 use borrow.Author.Rules.{rules}
 use native.Mathlib.Omega.{arith}
-use mathlib.Core.Path.{◌≡◌, refl}
-use Prim.Native.Nat.{◌-◌}
-use lib.ListN.{length}
+use mathlib.Core.Path.{refl}
 use Rattle.answers.proofs.LawsAnswers.{answered}
 use Rattle.expressions.proofs.LawsMeets.{unlisted}
-use Rattle.simple_statements.proofs.LawsForVars.{WalkedVars, vars_start, vars_kind, vars_ready, vars_no, vars_again, vars_done}
+use Rattle.simple_statements.proofs.LawsForVars.{vars_start, vars_kind, vars_ready, vars_no, vars_again, vars_done}
 use Rattle.simple_statements.proofs.simple.variables.Goals as goal
 
 pub loop-i-init : goal.loop-i-init
@@ -30,8 +28,7 @@ loop-i-smaller c =
 
 pub loop-i-preserved : goal.loop-i-preserved
 loop-i-preserved c = (
-  (
-      vars_again c.requires c.loop-i.invariant.0 c.loop-i-test.true c.variable-one.ensures c.in-GoesOn.is),
+  vars_again c.requires c.loop-i.invariant.0 c.loop-i-test.true c.variable-one.ensures c.in-GoesOn.is,
   search rules,
   search rules,
 )

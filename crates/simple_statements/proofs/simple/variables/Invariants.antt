@@ -1,11 +1,8 @@
 -- `simple::variables` meets its contract. Assumes nothing.
-use native.Mathlib.Omega.{arith}
-use mathlib.Core.Path.{◌≡◌, refl}
+use mathlib.Core.Path.{◌≡◌}
 use Prim.Native.Nat.{◌-◌}
 use lib.ListN.{length}
-use Rattle.answers.proofs.LawsAnswers.{answered}
-use Rattle.expressions.proofs.LawsMeets.{unlisted}
-use Rattle.simple_statements.proofs.LawsForVars.{WalkedVars, vars_start, vars_kind, vars_ready, vars_no, vars_again, vars_done}
+use Rattle.simple_statements.proofs.LawsForVars.{WalkedVars}
 use Rattle.simple_statements.proofs.simple.variables.Given as goal
 
 abbrev pub invariant-loop-i : goal.invariant-loop-i
