@@ -7,7 +7,7 @@ use mathlib.Core.List.{List, [], ◌∷◌}
 use Prim.Native.Nat.{ℕ}
 use Rattle.oat.specs.Basics.{sum_below, tabulate}
 use Rattle.oat.specs.Tables.{file_of}
-use Rattle.oat.specs.Syntax.{truth, falsity, integer, text, null, literal, name, array_literal, default_array, array_with, index, length_of, struct_literal, field, call, unary, binary, none, also, no_init, init, name_target, index_target, field_target, no_var, next_var, no_condition, condition, assign, var, return_value, return_void, call_stmt, if_else, if_null, for, while, no_step, step, block, empty, then, global, function}
+use Rattle.oat.specs.Syntax.{integer, text, null, literal, name, array_literal, struct_literal, call, none, also, no_init, init, no_var, no_condition, var, return_value, return_void, call_stmt, for, no_step, block, empty, then, global, function}
 use Rattle.oat.specs.Nodes.{is_expression_kind, is_expression}
 use Rattle.oat.specs.ProgramFile.{widest, Program, IsFile}
 use Rattle.type_index.specs.Index.{first_below}

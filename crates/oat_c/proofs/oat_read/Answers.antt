@@ -1,5 +1,4 @@
 -- `oat_read` meets its contract. Assumes nothing.
-use borrow.Author.Rules.{rules}
 use Rattle.oat_c.proofs.LawsAnswer.{number_read}
 use Rattle.oat_c.proofs.oat_read.Goals as goal
 

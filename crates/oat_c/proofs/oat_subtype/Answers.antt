@@ -1,5 +1,4 @@
 -- `oat_subtype` meets its contract. Assumes nothing.
-use borrow.Author.Rules.{rules}
 use Rattle.oat_c.proofs.LawsAnswer.{when_refused, when_yes, when_no}
 use Rattle.oat_c.proofs.oat_subtype.Goals as goal
 

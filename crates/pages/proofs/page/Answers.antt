@@ -1,5 +1,4 @@
 -- `page` meets its contract. Assumes nothing.
-use borrow.Author.Rules.{rules}
 use Rattle.oat.proofs.LawsBlank.{these_meant}
 use Rattle.program_file.proofs.Theorem.{bytes-of}
 use Rattle.typing.proofs.LawsCheck.{was_read}

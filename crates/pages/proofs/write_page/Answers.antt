@@ -1,5 +1,4 @@
 -- `write_page` meets its contract. Assumes nothing.
-use borrow.Author.Rules.{rules}
 use Rattle.pages.proofs.LawsPage.{page_no_room, page_done}
 use Rattle.pages.proofs.write_page.Goals as goal
 

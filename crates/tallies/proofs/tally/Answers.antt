@@ -1,6 +1,5 @@
 -- `tally` meets its contract. Assumes nothing.
 use mathlib.Core.Path.{refl}
-use borrow.Author.Rules.{rules}
 use Rattle.oat.proofs.LawsBlank.{these_meant}
 use Rattle.program_file.proofs.Theorem.{bytes-of}
 use Rattle.typing.proofs.LawsCheck.{was_read}

@@ -1,10 +1,6 @@
 -- `cells::write_blanks` meets its contract. The loop keeps: i blanks are written. Assumes nothing.
-use mathlib.Core.Path.{◌≡◌, refl}
-use Prim.Native.Nat.{◌-◌, ◌≤◌}
-use lib.ListN.{length}
+use mathlib.Core.Path.{refl}
 use borrow.Author.Rules.{rules}
-use Rattle.writing.specs.Placed.{placed}
-use Rattle.pages.specs.Page.{blanks}
 use Rattle.pages.proofs.LawsCells.{blanks_none, blanks_more, blanks_all}
 use Rattle.pages.proofs.cells.write_blanks.Goals as goal
 

@@ -1,10 +1,9 @@
 -- `cells::write_blanks` meets its contract. The loop keeps: i blanks are written. Assumes nothing.
-use mathlib.Core.Path.{◌≡◌, refl}
+use mathlib.Core.Path.{◌≡◌}
 use Prim.Native.Nat.{◌-◌, ◌≤◌}
 use lib.ListN.{length}
 use Rattle.writing.specs.Placed.{placed}
 use Rattle.pages.specs.Page.{blanks}
-use Rattle.pages.proofs.LawsCells.{blanks_none, blanks_more, blanks_all}
 use Rattle.pages.proofs.cells.write_blanks.Given as goal
 
 abbrev pub invariant-loop-i : goal.invariant-loop-i

@@ -1,12 +1,7 @@
 -- `lines::write_rows` meets its contract. The loop keeps: the lines of the nodes passed are written. Assumes nothing.
-use mathlib.Core.Path.{◌≡◌, refl}
-use Prim.Native.Nat.{◌-◌, ◌≤◌}
+use mathlib.Core.Path.{refl}
 use native.Mathlib.Omega.{arith}
-use lib.ListN.{length}
 use borrow.Author.Rules.{rules}
-use Rattle.file_sections.specs.Layout.{tables_of}
-use Rattle.writing.specs.Placed.{placed}
-use Rattle.pages.specs.Page.{row_lines}
 use Rattle.pages.proofs.LawsLines.{rows_fit, lines_none, lines_more, lines_all}
 use Rattle.pages.proofs.lines.write_rows.Goals as goal
 

@@ -1,10 +1,8 @@
 -- `walk::tally_declarations` meets its contract. The loop keeps: the declarations before `node` are counted. Assumes nothing.
-use mathlib.Core.Path.{◌≡◌, refl}
-use Prim.Native.Nat.{◌-◌}
-use lib.ListN.{length}
+use mathlib.Core.Path.{refl}
 use native.Mathlib.Omega.{arith}
 use borrow.Author.Rules.{rules}
-use Rattle.tallies.proofs.LawsWalk.{TallyAlong, tally_start, tally_tree, tally_low, tally_fits, tally_falls, tally_next, tally_done}
+use Rattle.tallies.proofs.LawsWalk.{tally_start, tally_tree, tally_low, tally_fits, tally_falls, tally_next, tally_done}
 use Rattle.tallies.proofs.walk.tally_declarations.Goals as goal
 
 pub loop-node-init : goal.loop-node-init

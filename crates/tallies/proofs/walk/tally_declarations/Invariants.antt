@@ -1,9 +1,8 @@
 -- `walk::tally_declarations` meets its contract. The loop keeps: the declarations before `node` are counted. Assumes nothing.
-use mathlib.Core.Path.{◌≡◌, refl}
+use mathlib.Core.Path.{◌≡◌}
 use Prim.Native.Nat.{◌-◌}
 use lib.ListN.{length}
-use native.Mathlib.Omega.{arith}
-use Rattle.tallies.proofs.LawsWalk.{TallyAlong, tally_start, tally_tree, tally_low, tally_fits, tally_falls, tally_next, tally_done}
+use Rattle.tallies.proofs.LawsWalk.{TallyAlong}
 use Rattle.tallies.proofs.walk.tally_declarations.Given as goal
 
 abbrev pub invariant-loop-node : goal.invariant-loop-node

@@ -2,7 +2,6 @@
 use mathlib.Core.Path.{◌≡◌, ap, sym, ◌∙◌}
 use mathlib.Core.Bool.{true, false}
 use native.Mathlib.Omega.{arith}
-use borrow.Author.Rules.{rules}
 use Rattle.oat.specs.Basics.{pick}
 use Rattle.oat.specs.Nodes.{is_expression}
 use Rattle.tallies.proofs.LawsWalk.{kind_tells, counted_other, row_there, type_entered, count_low, counted_expression}

@@ -1,13 +1,11 @@
 -- `walk::tally_tree` meets its contract. The loop keeps: the trees left of the tree stand from the node come to, the expressions before it are
 -- counted under their types, and so are those of the tree. Assumes nothing.
-use mathlib.Core.Path.{◌≡◌, refl}
-use Prim.Native.Nat.{◌-◌, ◌<◌}
-use lib.ListN.{length}
+use mathlib.Core.Path.{refl}
+use Prim.Native.Nat.{◌<◌}
 use native.Mathlib.Omega.{arith}
 use borrow.Author.Rules.{rules}
-use Rattle.file_sections.specs.Layout.{tables_of}
-use Rattle.file_sections.proofs.LawsTrees.{Along, along_start, along_within, along_low, along_few, along_next}
-use Rattle.tallies.proofs.LawsWalk.{CountsAlong, counts_start, counts_few, counts_next, counts_done}
+use Rattle.file_sections.proofs.LawsTrees.{along_start, along_within, along_low, along_few, along_next}
+use Rattle.tallies.proofs.LawsWalk.{counts_start, counts_few, counts_next, counts_done}
 use Rattle.tallies.proofs.walk.tally_tree.Goals as goal
 
 pub loop-open-init : goal.loop-open-init

@@ -1,12 +1,11 @@
 -- `walk::tally_tree` meets its contract. The loop keeps: the trees left of the tree stand from the node come to, the expressions before it are
 -- counted under their types, and so are those of the tree. Assumes nothing.
-use mathlib.Core.Path.{◌≡◌, refl}
-use Prim.Native.Nat.{◌-◌, ◌<◌}
+use mathlib.Core.Path.{◌≡◌}
+use Prim.Native.Nat.{◌-◌}
 use lib.ListN.{length}
-use native.Mathlib.Omega.{arith}
 use Rattle.file_sections.specs.Layout.{tables_of}
-use Rattle.file_sections.proofs.LawsTrees.{Along, along_start, along_within, along_low, along_few, along_next}
-use Rattle.tallies.proofs.LawsWalk.{CountsAlong, counts_start, counts_few, counts_next, counts_done}
+use Rattle.file_sections.proofs.LawsTrees.{Along}
+use Rattle.tallies.proofs.LawsWalk.{CountsAlong}
 use Rattle.tallies.proofs.walk.tally_tree.Given as goal
 
 abbrev pub invariant-loop-open : goal.invariant-loop-open
