@@ -10,7 +10,6 @@ use Rattle.typing.specs.Check.{outcome_of, Checked}
 use Rattle.printing.specs.Outcome.{leaves, print_of}
 use Rattle.printing.specs.declared.Printed.{Printed}
 use Rattle.answer_output.specs.Nodes.{nodes_of}
-use Rattle.oat_check.specs.declared.Answered.{Answered}
 use Rattle.oat_check.specs.Answers.{Answers}
 
 module _ (F R W T R' W' T' : List ℕ) (limits : Limits) (widest : limits ≡ record { parts = 200; depth = 100 }) (a : Answer) (checked : Checked (setting_of limits) F R W R' W' a) where
