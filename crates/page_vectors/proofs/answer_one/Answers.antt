@@ -1,0 +1,11 @@
+-- `answer_one` is safe and ends. Assumes nothing.
+use mathlib.Core.Path.{sym}
+use lib.Seq.{length-take-le}
+use borrow.Author.Rules.{rules}
+use Rattle.page_vectors.proofs.answer_one.Goals as goal
+
+pub slice_bounds-answer-end : goal.slice_bounds-answer-end
+slice_bounds-answer-end c = sym (length-take-le _ _ c.if-file-length.false)
+
+pub slice_bounds-answer-end-3 : goal.slice_bounds-answer-end-3
+slice_bounds-answer-end-3 c = sym (length-take-le _ _ c.if-out-room.false)

@@ -1,0 +1,11 @@
+-- `table` is safe and ends: the type a comes nearer to 600. Assumes nothing.
+use Prim.Native.Nat.{◌≤◌, ◌-◌}
+use Rattle.subtype_vectors.proofs.table.Given as goal
+
+abbrev pub invariant-loop-a : goal.invariant-loop-a
+-- PARAMS ['file', 'a₀', 't3', 'a'] WANT ['file', 'a', 'a']
+invariant-loop-a l = a ≤ 600
+
+abbrev pub decreases-loop-a : goal.decreases-loop-a
+-- PARAMS ['file', 'a₀', 't3', 'a'] WANT ['file', 'a', 'a']
+decreases-loop-a l = 600 - a
