@@ -13,6 +13,7 @@ use file_sections::records::{node_children, node_kind};
 use type_index::same::lowest;
 
 // The kinds of expressions.
+#[tactic(auto, using(crate::proofs::LawsWalk::kind_low, crate::proofs::LawsWalk::kind_high, crate::proofs::LawsWalk::kind_other))]
 fn is_expression(kind: usize) -> bool
     ensures { result ≡ is_expression_kind kind }
 {
