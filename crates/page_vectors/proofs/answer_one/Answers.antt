@@ -1,7 +1,6 @@
 -- `answer_one` is safe and ends. Assumes nothing.
 use mathlib.Core.Path.{sym}
 use lib.Seq.{length-take-le}
-use borrow.Author.Rules.{rules}
 use Rattle.page_vectors.proofs.answer_one.Goals as goal
 
 pub slice_bounds-answer-end : goal.slice_bounds-answer-end

@@ -1,6 +1,5 @@
 -- `answer_one` is safe and ends. Assumes nothing.
 use mathlib.Core.Path.{sym}
-use borrow.Author.Rules.{rules}
 use lib.Seq.{length-take-le}
 use Rattle.subtype_vectors.proofs.answer_one.Goals as goal
 

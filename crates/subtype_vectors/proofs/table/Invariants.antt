@@ -3,9 +3,7 @@ use Prim.Native.Nat.{◌≤◌, ◌-◌}
 use Rattle.subtype_vectors.proofs.table.Given as goal
 
 abbrev pub invariant-loop-a : goal.invariant-loop-a
--- PARAMS ['file', 'a₀', 't3', 'a'] WANT ['file', 'a', 'a']
-invariant-loop-a l = a ≤ 600
+invariant-loop-a l = l.a ≤ 600
 
 abbrev pub decreases-loop-a : goal.decreases-loop-a
--- PARAMS ['file', 'a₀', 't3', 'a'] WANT ['file', 'a', 'a']
-decreases-loop-a l = 600 - a
+decreases-loop-a l = 600 - l.a

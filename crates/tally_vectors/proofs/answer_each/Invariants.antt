@@ -8,8 +8,8 @@ invariant-loop-left l =
     (length l.file ≡ length l.initial.file)
     × (length l.rows ≡ length l.initial.rows)
     × (length l.work ≡ length l.initial.work)
-    × (length by-type ≡ length by-type₀)
-    × (length by-declaration ≡ length by-declaration₀)
+    × (length l.by_type ≡ length l.initial.by_type)
+    × (length l.by_declaration ≡ length l.initial.by_declaration)
 
 abbrev pub decreases-loop-left : goal.decreases-loop-left
 decreases-loop-left l = l.left
