@@ -3,13 +3,13 @@
 // words. Words that are no command, and a file that cannot be opened or read, are told on standard error, with nothing on standard output.
 #![tactic(auto)]
 
-mod answers;
 mod refusal;
+mod replies;
 mod tally_lines;
 mod text;
 mod words;
 
-use crate::answers::{answer_check, answer_page, answer_subtype, answer_tally};
+use crate::replies::{answer_check, answer_page, answer_subtype, answer_tally};
 use crate::words::{
     Number, Setting, complain, complain_at, limits_from, number_at, same, word_at, word_count,
 };
