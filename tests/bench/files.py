@@ -14,9 +14,9 @@ def section(records):
 
 
 def largest():
-    packed = open("tests/vectors/rules.bin", "rb").read()
+    packed = open("crates/read_vectors/stdin", "rb").read()
     found, at = b"", 0
-    for answer in open("tests/vectors/rules.txt").read().split():
+    for answer in open("crates/read_vectors/stdout").read().split():
         length = int.from_bytes(packed[at:at + 4], "little")
         file = packed[at + 4:at + 4 + length]
         at += 4 + length

@@ -1,25 +1,25 @@
 #!/usr/bin/env python3
-"""Compares the static library with the peer on fresh random files, outside the gate: the peer's generator makes them from a seed, both answer them, and
+"""Compares the proved check with the peer on fresh random files, outside the gate: the peer's generator makes them from a seed, both answer them, and
 every line is compared. It prints how many files there were, how many were accepted and how many were refused under each number. Where the two
 differ it prints both answers, keeps the file, and ends with status 1.
 
-    tests/vectors/run.sh && (cd tests/peer && cargo build --release --offline)
+    tools/build.sh check_vectors && (cd tests/peer && cargo build --release --offline)
     tests/compare/run.py [--count N] [--seed S]
 
 Files are made in batches, so that little memory is used; batch k has the seed S + k.
 
-With --limits each file is asked under four settings of document 02's limits, reading and the subtype question too. Besides, request (xi)'s claim is
-tested on the library's own answers: for every two settings of one file, both in range, of which one is at least the other, all lines are the same
-unless the file is 3 or 5 under the smaller; such a file is neither 1 nor 2 under the larger and, if it was 5, nor 3 or 4.
+With --limits each file is asked under four settings of document 02's limits, reading and the subtype question too, and the program is limit_vectors.
+Besides, request (xi)'s claim is tested on the program's own answers: for every two settings of one file, both in range, of which one is at least the
+other, all lines are the same unless the file is 3 or 5 under the smaller; such a file is neither 1 nor 2 under the larger and, if it was 5, nor 3 or 4.
 
 With --names the files are about the names of struct literals, with --endless about loops that never end, with --levels about names in inner
 blocks, with --pairs about subtype questions on large types. The sum of compared pairs is a line of every answer.
 
-With --tallies the expressions of each file are tallied, in buffers that are long enough or too short. Most files are accepted and have equal types under
-several numbers.
+With --tallies the expressions of each file are tallied, in buffers that are long enough or too short, and the program is tally_vectors. Most files are
+accepted and have equal types under several numbers.
 
-With --pages the rows of each file are printed, into a buffer that is long enough or too short. Every byte of the buffer is compared. Most files are
-accepted, and many have full pages or one row more or fewer."""
+With --pages the rows of each file are printed, into a buffer that is long enough or too short, and the program is page_vectors. Every byte of the
+buffer is compared. Most files are accepted, and many have full pages or one row more or fewer."""
 import argparse
 import collections
 import itertools
@@ -29,7 +29,7 @@ import sys
 
 ROOT = os.path.join(os.path.dirname(os.path.abspath(__file__)), "..", "..")
 SETTINGS = 4  # cases that genlimits makes of each file
-Question = collections.namedtuple("Question", "make batch unpack line")
+Question = collections.namedtuple("Question", "make batch program unpack line")
 
 
 def answers(command, packed):
@@ -62,14 +62,14 @@ def unpack_set(many):
     return unpacked
 
 
-CHECK = Question("gen", "batch", unpack, 0)
+CHECK = Question("gen", "batch", "check_vectors", unpack, 0)
 NAMES = CHECK._replace(make="gennames")
 ENDLESS = CHECK._replace(make="genendless")
 LEVELS = CHECK._replace(make="genlevels")
 PAIRS = CHECK._replace(make="genpairs")
-LIMITS = Question("genlimits", "limitbatch", unpack_set(2), 2)
-TALLIES = Question("gentallies", "tallybatch", unpack_set(4), 0)
-PAGES = Question("genpages", "pagebatch", unpack_set(3), 0)
+LIMITS = Question("genlimits", "limitbatch", "limit_vectors", unpack_set(2), 2)
+TALLIES = Question("gentallies", "tallybatch", "tally_vectors", unpack_set(4), 0)
+PAGES = Question("genpages", "pagebatch", "page_vectors", unpack_set(3), 0)
 
 
 def refusal(said, question):
@@ -128,7 +128,7 @@ def compare(given, question, seed, many, counts):
     """Compares one batch; gives what is wrong, if anything is."""
     packed = subprocess.run([given.peer, question.make, str(seed), str(many)], stdout=subprocess.PIPE, check=True).stdout
     cases = list(question.unpack(packed))
-    right, found = answers([given.peer, question.batch], packed), answers([given.program, question.batch], packed)
+    right, found = answers([given.peer, question.batch], packed), answers([given.program], packed)
     for i, (file, setting) in enumerate(cases):
         said = found[i] if i < len(found) else "no answer\n"
         if said != right[i]:
@@ -147,7 +147,7 @@ def compare(given, question, seed, many, counts):
 
 
 def main():
-    words = argparse.ArgumentParser(description="Compares the static library with the peer on fresh random files.")
+    words = argparse.ArgumentParser(description="Compares the proved check with the peer on fresh random files.")
     words.add_argument("--count", type=int, default=10000, help="how many files (10000)")
     words.add_argument("--seed", type=int, default=1000, help="the seed of the first batch (1000)")
     words.add_argument("--batch", type=int, default=2000, help="files in a batch (2000)")
@@ -159,13 +159,14 @@ def main():
     sorts.add_argument("--pairs", action="store_true", help="files about subtype questions on large types")
     sorts.add_argument("--tallies", action="store_true", help="tallies of the expressions of each file")
     sorts.add_argument("--pages", action="store_true", help="a printed page of the rows of each file")
-    words.add_argument("--program", default=os.path.join(ROOT, "target", "tests", "driver"), help="the program over the library")
+    words.add_argument("--program", help="target/bin/check_vectors, with --limits limit_vectors, with --tallies tally_vectors, with --pages page_vectors")
     words.add_argument("--peer", default=os.path.join(ROOT, "tests", "peer", "target", "release", "oat_peer"), help="the peer's program")
     words.add_argument("--keep", default="different.oat", help="where a file that differs is kept (different.oat)")
     given = words.parse_args()
     asked = ((given.limits, LIMITS), (given.names, NAMES), (given.endless, ENDLESS), (given.levels, LEVELS), (given.pairs, PAIRS),
              (given.tallies, TALLIES), (given.pages, PAGES), (True, CHECK))
     question = next(question for chosen, question in asked if chosen)
+    given.program = given.program or os.path.join(ROOT, "target", "bin", question.program)
     counts, done = collections.Counter(), 0
     while done < given.count:
         many = min(given.batch, given.count - done)
