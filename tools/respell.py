@@ -14,6 +14,17 @@ KIT = "/opt/rattle/rattle"
 WORD = re.compile(r"[^\s(){}\[\].,;:=λ→×⊎\"«»⌜⌝|@◌+*<>&/\\`!?]+")
 DECLARED = re.compile(r"(?m)^[ \t]*(?:(?:pattern|unfoldable|abbrev|pub|axiom|mutual) )*([a-z][^\s(){}:]*(?: [a-z][^\s(){}:]*)*)(?: \{[^}\n]*\})? :(?= |\n|$)")
 GOALS = re.compile(r"(?m)^[ \t]*(?:(?:abbrev|pub) )*(\S+) : (?:tie|goal)\.")
+# names that begin or end as those of goals do, whose dashes the rule below leaves
+GOAL_LIKE = """
+    after-init agree-index and-true at-index at-init below-init each-init entry-few entry-is entry-low entry-run entry-there if-case if-ends
+    if-first if-found if-marked if-no-2 if-null-case if-null-found if-null-ok if-second if-sort if-type in-arguments in-assigned in-at
+    in-called in-callee in-condition in-elements in-else in-fields in-first in-for-body in-for-condition in-for-step in-for-vars in-indexed
+    in-initial in-later in-length in-measured in-null in-nullable in-operand in-others in-passed in-position in-range-not-25 in-record
+    in-returned in-role in-stmt in-stmts in-target in-test in-value in-var in-vars in-while-body in-while-test in-with-length in-with-value
+    loop-done loop-fails loop-goes on-index or-false or-true returns-are returns-at returns-entered returns-in returns-lower returns-marked
+    returns-next returns-up run-init typ-index typed-init
+"""
+LAST = {n: n.replace("-", "_") for n in GOAL_LIKE.split()} | {"from_aTo_b": "from_a_to_b", "from_bTo_a": "from_b_to_a"}
 # lemmas and fields that would have the name of a definition: they get another first
 FIRST = {
     "all_in": "in_all",
@@ -85,11 +96,25 @@ def kit_words():
     return found
 
 
+def last(texts):
+    """Turns the names of LAST, but where they are a step's (`c.if-first`), and writes the files."""
+    for p, t in texts.items():
+        parts = pieces(p, t)
+        for i, x in enumerate(parts):
+            if i % 2 == 0:
+                parts[i] = re.sub(r"(?<![\w'-])(?<!\bc\.)(?<!goal\.)(?:" + WORD.pattern + ")", lambda m: LAST.get(m.group(0), m.group(0)), x)
+            elif not x.startswith(('"', "'", 'b"')):
+                parts[i] = TICKED.sub(lambda m: "`" + WORD.sub(lambda w: LAST.get(w.group(0), w.group(0)), m.group(1)) + "`", x)
+        new = "".join(parts)
+        with open(p, "w", encoding="utf-8") as f:
+            f.write(new)
+
+
 def main():
     top = sys.argv[1] if len(sys.argv) > 1 else os.path.join(os.path.dirname(os.path.abspath(__file__)), "..")
     texts = {p: open(p, encoding="utf-8").read() for p in files(top)}
     if not any("builtInAt" in t for t in texts.values()):
-        print("nothing to do")
+        last(texts)
         return
     for p, t in texts.items():
         if p.endswith(".antt"):
@@ -146,8 +171,8 @@ def main():
             elif not x.startswith(('"', "'", 'b"')):
                 parts[i] = TICKED.sub(lambda m: "`" + WORD.sub(lambda w: turned.get(w.group(0), w.group(0)), m.group(1)) + "`", x)
         new = "".join(parts)
-        with open(p, "w", encoding="utf-8") as f:
-            f.write(new)
+        texts[p] = new
+    last(texts)
     print(f"{len(turned)} names turned")
     for name, new in kept:
         print(f"kept: {name} (another name is {new})")

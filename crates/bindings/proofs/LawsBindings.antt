@@ -423,14 +423,14 @@ module _ {F : List ℕ} {S : Sections} {W K : List ℕ} {s node t : ℕ} (b : Bi
   abbrev written : List ℕ
   written = set once (entry + 1) t
 
-  entry-low : entry + 1 < length W
-  entry-low = omega (arith, b.low, b.room, b.scoped.long)
+  entry_low : entry + 1 < length W
+  entry_low = omega (arith, b.low, b.room, b.scoped.long)
 
   own_binder : get_or written entry 0 ≡ node
-  own_binder = get_or-set_other once (entry + 1) entry t 0 (λ m. omega arith) ∙ get_or-set_same W entry node 0 (omega (arith, entry-low))
+  own_binder = get_or-set_other once (entry + 1) entry t 0 (λ m. omega arith) ∙ get_or-set_same W entry node 0 (omega (arith, entry_low))
 
   own_type : get_or written (entry + 1) 0 ≡ t
-  own_type = get_or-set_same once (entry + 1) t 0 (simp length-set entry-low)
+  own_type = get_or-set_same once (entry + 1) t 0 (simp length-set entry_low)
 
   written_same : Same (entry_of (tables_of F S) s) W written
   written_same = record {
@@ -568,15 +568,15 @@ pub names_more : (T : Tables) (W : List ℕ) (s : ℕ) → names_of T W (s + 1) 
 unfolding names_of
 names_more T W s = rw add-one
 
-entry-is : (n m t u b d : ℕ) (a e : Bool) (l k : List (Entry ℕ)) → n ≡ m → t ≡ u → b ≡ d → a ≡ e → l ≡ k → ◌≡◌ {A = List (Entry ℕ)} (record { name = n; type = t; binder = b; assignable = a } ∷ l) (record { name = m; type = u; binder = d; assignable = e } ∷ k)
-entry-is n m t u b d a e l k p q r z y = rw (p, q, r, z, y)
+entry_is : (n m t u b d : ℕ) (a e : Bool) (l k : List (Entry ℕ)) → n ≡ m → t ≡ u → b ≡ d → a ≡ e → l ≡ k → ◌≡◌ {A = List (Entry ℕ)} (record { name = n; type = t; binder = b; assignable = a } ∷ l) (record { name = m; type = u; binder = d; assignable = e } ∷ k)
+entry_is n m t u b d a e l k p q r z y = rw (p, q, r, z, y)
 
 pub names_linked : (F : List ℕ) (S : Sections) (W : List ℕ) (s : ℕ) → s < S.built_ins → names_of (tables_of F S) W (s + 1) ≡ (record { name = (built_in_at (tables_of F S) s).name; type = (built_in_at (tables_of F S) s).type; binder = 40000 + s; assignable = false } ∷ names_of (tables_of F S) W s)
 names_linked F S W s h =
     names_more (tables_of F S) W s
-    ∙ entry-is _ _ _ _ _ _ _ _ _ _ (sym (built_in_named F S W s h _ refl)) (sym (built_in_bound F S W s h _ refl)) (sym (built_in_binder F S W s h)) (built_in_fixed F S W s h) refl
+    ∙ entry_is _ _ _ _ _ _ _ _ _ _ (sym (built_in_named F S W s h _ refl)) (sym (built_in_bound F S W s h _ refl)) (sym (built_in_binder F S W s h)) (built_in_fixed F S W s h) refl
 
 pub names_declared : {F : List ℕ} {S : Sections} {W K W' K' : List ℕ} {s node t : ℕ} → Bound F S W K s node t W' K' → S.built_ins ≤ s → names_of (tables_of F S) W' (s + 1) ≡ (record { name = (node_at (tables_of F S) node).x; type = t; binder = node; assignable = eqb (node_at (tables_of F S) node).kind 1 } ∷ names_of (tables_of F S) W s)
 names_declared {F} {S} {W} {K} {W'} {K'} {s} {node} {t} b h =
     names_more (tables_of F S) W' s
-    ∙ entry-is _ _ _ _ _ _ _ _ _ _ b.name b.type b.binder (stack_global F S W' s h node (sym b.binder)) (names_same (tables_of F S) s b.same s (omega arith))
+    ∙ entry_is _ _ _ _ _ _ _ _ _ _ b.name b.type b.binder (stack_global F S W' s h node (sym b.binder)) (names_same (tables_of F S) s b.same s (omega arith))

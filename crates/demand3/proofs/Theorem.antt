@@ -225,14 +225,14 @@ module _ (limits : Limits) (bytes rows work : List ℕ) where
   pub limits_alone : (o : Outcome) → Checks limits bytes rows work o → o.number ≡ 25 → in_range limits ≡ false
   limits_alone o c h = go (in_range limits) refl
     where
-      in-range-not-25 : in_range limits ≡ true → (u : Outcome) → Checks limits bytes rows work u → u.number ≡ 25 → ⊥
-      in-range-not-25 i u (unreadable n e) k = omega (arith, k, (refused_from_1_to_5 limits i bytes n e).1)
-      in-range-not-25 i u (rows_short j p f l) k = omega (arith, k)
-      in-range-not-25 i u (work_short j p f l m) k = omega (arith, k)
-      in-range-not-25 i u (checked j p f l m) k = ⊎_elim (λ z. omega (arith, z, k)) (λ h. omega (arith, h.1, k)) (check_numbers p)
+      in_range_not_25 : in_range limits ≡ true → (u : Outcome) → Checks limits bytes rows work u → u.number ≡ 25 → ⊥
+      in_range_not_25 i u (unreadable n e) k = omega (arith, k, (refused_from_1_to_5 limits i bytes n e).1)
+      in_range_not_25 i u (rows_short j p f l) k = omega (arith, k)
+      in_range_not_25 i u (work_short j p f l m) k = omega (arith, k)
+      in_range_not_25 i u (checked j p f l m) k = ⊎_elim (λ z. omega (arith, z, k)) (λ h. omega (arith, h.1, k)) (check_numbers p)
 
       go : (b : Bool) → in_range limits ≡ b → in_range limits ≡ false
-      go true i = absurd (in-range-not-25 i o c h)
+      go true i = absurd (in_range_not_25 i o c h)
       go false out = out
 
   program_outcome : in_range limits ≡ true → (p : Program) (o : Outcome) → IsFile limits bytes p → Checks limits bytes rows work o → o ≡ outcome_for p rows work

@@ -15,7 +15,7 @@ use Rattle.oat.specs.Nodes.{Stands}
 use Rattle.oat.proofs.LawsTables.{has-kind}
 use Rattle.typing_rules.specs.Contexts.{binds, inner}
 use Rattle.typing_rules.specs.Labels.{Label}
-use Rattle.typing_rules.proofs.LawsAlike.{agree-index}
+use Rattle.typing_rules.proofs.LawsAlike.{agree_index}
 use Rattle.typing_rules.specs.Judge.{ok, Counted, giving, and_counting, asks, plain, is_kind, referred, asked, formed, judge, judging}
 use Rattle.typing_rules.proofs.LawsPairs.{expr_pairs, asked_most}
 use Rattle.file_sections.specs.declared.Sections.{Sections}
@@ -74,7 +74,7 @@ retell_bound : {F : List ℕ} {S : Sections} {X R W K W₁ K₁ R₂ W₂ K₂ :
     → Bound F S W K s n 0 W₁ K₁ → Told F S X R W₁ base m (s + 1) π R₂ W₂ K₂ r → (e : Expr) → Stands (tables_of F S) m e
     → Meets (Typing F S X base m (size e) (s + 1) R W₁ R₂ W₂ K₂ r) r π (bound_in F S W base s e m n).out (bound_in F S W base s e m n).pairs
 retell_bound {F} {S} {X} {R} {W} {K} {W₁} {K₁} {R₂} {W₂} {K₂} {base} {n} {m} {s} {π} {r} l b told e h =
-    typed_in _ _ e m (agree-index (scope_of (tables_of F S) W base s) (node_at (tables_of F S) n).x 0 n)
+    typed_in _ _ e m (agree_index (scope_of (tables_of F S) W base s) (node_at (tables_of F S) n).x 0 n)
     (subst (λ Γ. Answered (judging (tables_of F S) (context_of (tables_of F S) W base) e m Γ)) (scope_bound base b l)
     (subst (λ N. Answered (judging (tables_of F S) (record { structs = declared (tables_of F S); names = N }) e m (scope_of (tables_of F S) W₁ base (s + 1))))
     (names_bound base b l) (told.tells e h)))

@@ -74,10 +74,10 @@ member_below T W base t (has u) = refl
 member_below T W base t lacks = refl
 
 -- the row of an initializer over its value's
-after-init : {F : List ℕ} {S : Sections} {X : List ℕ} {base : ℕ} {L : List (Label ℕ)} {n k s t : ℕ} {R W R₁ W₁ K₁ R₂ : List ℕ} → n < S.nodes → next_result L ≡ t → R₂ ≡ with_row R₁ n t 65535
+after_init : {F : List ℕ} {S : Sections} {X : List ℕ} {base : ℕ} {L : List (Label ℕ)} {n k s t : ℕ} {R W R₁ W₁ K₁ R₂ : List ℕ} → n < S.nodes → next_result L ≡ t → R₂ ≡ with_row R₁ n t 65535
     → After F S X base L (n + 1) k s s R W R₁ W₁ K₁ → After F S X base (unlabelled ∷ L) n (1 + k) s s R W R₂ W₁ K₁
 unfolding RowsAt
-after-init {F} {S} {X} {base} {L} {n} {k} {s} {t} {R} {W} {R₁} {W₁} {K₁} h q e a =
+after_init {F} {S} {X} {base} {L} {n} {k} {s} {t} {R} {W} {R₁} {W₁} {K₁} h q e a =
     let long : n * 2 + 1 < length R₁ = omega (arith, a.fine.rows_long, h) in
     subst (λ r. After F S X base (unlabelled ∷ L) n (1 + k) s s R W r W₁ K₁) (sym e)
     (record {
@@ -179,7 +179,7 @@ module _ {F : List ℕ} {S : Sections} {X R W : List ℕ} {base n s π left owne
         after = subst (λ k. After F S X base (p.labels ++ (unlabelled ∷ M)) n k s s R W R₃ W₂ K₂) (sym both)
             (after_append refl p.closed p.after
             (subst (λ k. After F S X base (unlabelled ∷ M) k (1 + size a) s s R₁ W₁ R₃ W₂ K₂) p.reached
-            (after-init (subst (λ k. m < k) (nodes_long F S) st.0.within) head e_r v.after)));
+            (after_init (subst (λ k. m < k) (nodes_long F S) st.0.within) head e_r v.after)));
         below = λ us. ap (inits_asked T C fs is) (append_assoc p.types (t ∷ []) us) ∙ f (t ∷ us)
             ∙ next_assoc (compared c) (member_asked T C t (member x fs)) (inits_asked T C fs rs us) ∙ ap (λ k. and_next k (inits_asked T C fs rs us)) (sym fit);
         judged = j ∙ ap (after_those p.types p.labels) one ∙ those_more p.types p.labels t (unlabelled ∷ M) (judge_inits T C rs (m + 1 + size a) Γ)

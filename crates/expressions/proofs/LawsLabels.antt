@@ -93,8 +93,8 @@ head_typed : {k t : ℕ} {L : List (Label ℕ)} → Typed k t L → (M : List (L
 head_typed (typed e r) M = refl
 
 -- a field initializer, before others
-run-init : {j k m t : ℕ} {L M : List (Label ℕ)} → m ≡ 1 + j + k → Typed j t L → Run k M → Run m (unlabelled ∷ L ++ M)
-run-init {L = L} {M = M} w (typed e r) s = record {
+run_init : {j k m t : ℕ} {L M : List (Label ℕ)} → m ≡ 1 + j + k → Typed j t L → Run k M → Run m (unlabelled ∷ L ++ M)
+run_init {L = L} {M = M} w (typed e r) s = record {
   long = simp length-append (omega arith);
   closed = closed_before unlabelled (closed_typed (closed_append r.closed s.closed));
 }
@@ -183,7 +183,7 @@ module _ (T : Tables) (C : Context ℕ) where
         then_ok (judge T C a (n + 1) Γ) _ j λ u M i k1.
         then_ok (judge_inits T C is (n + 1 + size a) Γ) _ k1 λ us N i1 k2.
         ok_is (λ ts L. Run (size_inits (init x a is)) L) k2
-        (run-init refl (labels a (n + 1) Γ u M i) (inits_labels is (n + 1 + size a) Γ us N i1))
+        (run_init refl (labels a (n + 1) Γ u M i) (inits_labels is (n + 1 + size a) Γ us N i1))
 
   -- an expression
   pub expr_run : (e : Expr) (n : ℕ) (Γ : Scope ℕ) (t : ℕ) (L : List (Label ℕ)) → judge T C e n Γ ≡ ok t L → Run (size e) L

@@ -126,9 +126,9 @@ module _ {T : Tables} {n : ℕ} where
       let (t, x, a, b, v) = seen T n 18 e h k in
       subst P (sym v) (f t x a b (subst (Stands T n) v h))
 
-  pub on-index : (P : Expr → Type 0) → ((a b : Expr) → Stands T n (index a b) → P (index a b))
+  pub on_index : (P : Expr → Type 0) → ((a b : Expr) → Stands T n (index a b) → P (index a b))
       → (node_at T n).kind ≡ 19 → (e : Expr) → Stands T n e → P e
-  on-index P f k e h =
+  on_index P f k e h =
       let (a, b, v) = seen T n 19 e h k in
       subst P (sym v) (f a b (subst (Stands T n) v h))
 

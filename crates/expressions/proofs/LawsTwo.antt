@@ -25,7 +25,7 @@ use Rattle.expressions.specs.Contract.{context_of, Typing, Meets, Ready, Told}
 use Rattle.expressions.proofs.LawsMeets.{Untyped, stops, passes, fails, holds, skips}
 use Rattle.expressions.proofs.LawsChild.{base_within, element_within, few_asked, child_within}
 use Rattle.expressions.proofs.LawsRules.{Two, two_children, first_ready, first_no, first_sort, second_ready, second_no, two_spent, two_then, gives_type}
-use Rattle.expressions.proofs.LawsShape.{on-index, on_binary}
+use Rattle.expressions.proofs.LawsShape.{on_index, on_binary}
 
 and_second : (a b : Bool) → b ≡ false → (a && b) ≡ false
 and_second true b e = e
@@ -50,7 +50,7 @@ module _ {F : List ℕ} {S : Sections} {X R W K : List ℕ} {base n s π : ℕ} 
   element_rule : (e : Expr) → Stands (tables_of F S) n e
       → Two F S W base n s (λ t. is_kind (tables_of F S) t 5) (λ t u L. requires (is_kind (tables_of F S) u 0) 10 n (giving (plain (referred (tables_of F S) t) (scope_of (tables_of F S) W base s) L))) e
   unfolding judging
-  element_rule = on-index (Two F S W base n s _ _) (λ a b h. record { one = a; two = b; one_stands = h.1; two_stands = h.2; long = omega arith; judged = refl }) kind
+  element_rule = on_index (Two F S W base n s _ _) (λ a b h. record { one = a; two = b; one_stands = h.1; two_stands = h.2; long = omega arith; judged = refl }) kind
 
   pub element_first : Ready F S X R W K base (n + 1) s π
   element_first = first_ready (two_children element_rule) g

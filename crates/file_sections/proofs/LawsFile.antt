@@ -71,9 +71,9 @@ module _ (s : List ℕ) where
   unfolding run
   type_run p = simp unary_clauses
 
-  entry-run : (p : ℕ) → entry_numbers (entry_from (λ j. number_at s (p + j))) ≡ run (number_at s) p 1
+  entry_run : (p : ℕ) → entry_numbers (entry_from (λ j. number_at s (p + j))) ≡ run (number_at s) p 1
   unfolding run
-  entry-run p = simp unary_clauses
+  entry_run p = simp unary_clauses
 
   field_run : (p : ℕ) → field_numbers (field_from (λ j. number_at s (p + j))) ≡ run (number_at s) p 2
   unfolding run
@@ -183,7 +183,7 @@ laid_run s n1 n2 n3 n4 n5 n6 p2 p3 p4 p5 p6 h2 h3 h4 h5 h6 e1 e2 e3 e4 e5 e6 =
     let f = number_at s in
     let all : (1 + n1 * 4) + ((1 + n2 * 1) + ((1 + n3 * 2) + ((1 + n4 * 3) + ((1 + n5 * 2) + (1 + n6 * 4))))) ≡ p6 + (1 + n6 * 4) = omega arith in
     chain f 0 (1 + n1 * 4) p2 _ _ _ h2 (section_run type_from type_numbers 4 s 0 n1 (type_run s) e1)
-    (chain f p2 (1 + n2 * 1) p3 _ _ _ h3 (section_run entry_from entry_numbers 1 s p2 n2 (entry-run s) e2)
+    (chain f p2 (1 + n2 * 1) p3 _ _ _ h3 (section_run entry_from entry_numbers 1 s p2 n2 (entry_run s) e2)
     (chain f p3 (1 + n3 * 2) p4 _ _ _ h4 (section_run field_from field_numbers 2 s p3 n3 (field_run s) e3)
     (chain f p4 (1 + n4 * 3) p5 _ _ _ h5 (section_run struct_from struct_numbers 3 s p4 n4 (struct_run s) e4)
     (chain f p5 (1 + n5 * 2) p6 _ _ _ h6 (section_run built_in_from built_in_numbers 2 s p5 n5 (built_in_run s) e5)

@@ -1,16 +1,16 @@
-// The exit status of a program. A program of Rattle has none of its own: it writes the digit to descriptor 3, and the script that runs it (`oat`,
-// `oat_check`) ends with that. Where a program is run without its script nobody listens on descriptor 3, and the status is lost.
+// How a program ended, for the script that runs it: the program writes a digit to descriptor 3, and the script (`oat_check`) ends with that as its
+// exit status. Where descriptor 3 is not open the digit is lost.
 ghost use Rattle.std.specs.Prelude.{◌≡◌};
 ghost use Rattle.input_output.specs.Digits.{digit_of};
 
 // How a command ended.
 #[derive(Clone, Copy)]
 pub enum Status {
-    // accepted, yes, or printed
+    // accepted
     Done,
-    // refused, or no
+    // refused
     Refused,
-    // wrong words, or a file or an output that fails, told on standard error
+    // a file that cannot be read, or an output that fails, told on standard error
     Failed,
 }
 

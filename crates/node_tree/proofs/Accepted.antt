@@ -1,6 +1,6 @@
 -- Every program that stands in the node section within the depth is accepted by the recursive descent. Assumes nothing.
 use mathlib.Core.Path.{◌≡◌, refl, ap}
-use mathlib.Core.Bool.{Bool, true, false, ◌&&◌, ◌||◌, or-false, or-true, false≢true}
+use mathlib.Core.Bool.{Bool, true, false, ◌&&◌, ◌||◌, or_false, or_true, false≢true}
 use mathlib.Core.List.{List, [], ◌∷◌}
 use Prim.Native.Nat.{ℕ, zero, suc, ◌+◌, ◌-◌, ◌≤◌, ◌<◌}
 use native.Mathlib.Numerals.{sub-one}
@@ -70,7 +70,7 @@ module _ {T : Tables} {n k x t count : ℕ} (h : Node T n k x t count) where
   -- below a global all is in its tree, and below any other node what the node itself is in
   inner : {c : Bool} {role : Role} {d m : ℕ} → eqb k 1 ≡ false → admits c role k ≡ true → x_fits k x ≡ true → t_fits T k t ≡ true
       → count_fits k (params_of T k t) count ≡ true → 1 ≤ d → Run T (d - 1) c (child_role k count) count 0 (n + 1) m → Ends T d c role n m
-  inner e a p q r l s = node a p q r l (rw (e, or-false) s)
+  inner e a p q r l s = node a p q r l (rw (e, or_false) s)
 
 free : {b : Bool} → false ≡ true → b ≡ true
 free e = absurd (false≢true e)
@@ -149,25 +149,25 @@ change true true s f o m g e = rw (g refl) e
 change true false s f o m g e = absurd (let z : ◌≡◌ {A = ℕ} 0 1 = cc in omega arith)
 change false r s f o m g e = e
 
-in-role : {T : Tables} {d : ℕ} {c : Bool} {r s : Role} {n m : ℕ} → Ends T d c r n m
+in_role : {T : Tables} {d : ℕ} {c : Bool} {r s : Role} {n m : ℕ} → Ends T d c r n m
     → (admits c r (node_at T n).kind ≡ true → admits c s (node_at T n).kind ≡ true) → Ends T d c s n m
 unfolding tree_of node_right
-in-role {d = zero} a g = absurd (let e = a.ends in let z : ◌≡◌ {A = ℕ} 0 1 = cc in omega arith)
-in-role {T} {d = suc d} {c} {n = n} {m} a g =
+in_role {d = zero} a g = absurd (let e = a.ends in let z : ◌≡◌ {A = ℕ} 0 1 = cc in omega arith)
+in_role {T} {d = suc d} {c} {n = n} {m} a g =
     record { ends = change (ltb n (length T.nodes)) _ _ (node_fits T n) _ m g a.ends }
 
 target : {T : Tables} {n d : ℕ} (g : Target) → Stands T n (target_expr g) → depth (target_expr g) ≤ d
     → Ends T d false Role.Target n (n + size_target g)
 unfolding admits
-target (name_target x) h l = in-role (expr (name x) h l (λ e. refl)) (λ e. rw h.kind_is)
-target (index_target a b) h l = in-role (expr (index a b) h l free) (λ e. rw h.0.kind_is)
-target (field_target x a) h l = in-role (expr (field x a) h l free) (λ e. rw h.0.kind_is)
+target (name_target x) h l = in_role (expr (name x) h l (λ e. refl)) (λ e. rw h.kind_is)
+target (index_target a b) h l = in_role (expr (index a b) h l free) (λ e. rw h.0.kind_is)
+target (field_target x a) h l = in_role (expr (field x a) h l free) (λ e. rw h.0.kind_is)
 
 test : {T : Tables} {n d : ℕ} (q : Condition) → ConditionStands T n q → depth_condition q ≤ d
     → Ends T d false Role.Condition n (n + size_condition q)
 unfolding admits is_expression x_fits t_fits count_fits
 test no_condition h l = inner h refl refl refl refl refl l (done refl)
-test (condition a) h l = in-role (expr a h l free) (λ e. rw (e, or-true))
+test (condition a) h l = in_role (expr a h l free) (λ e. rw (e, or_true))
 
 -- the vars of a for, and then its other children
 vars : {T : Tables} {n d i left p : ℕ} {role : ℕ → Role} (vs : Vars) → VarsStand T n vs → depth_vars vs ≤ d
@@ -231,7 +231,7 @@ mutual
 
   stepping : {T : Tables} {n d : ℕ} (s : Step) → StepStands T n s → depth_step s ≤ d → Ends T d false Role.Step n (n + size_step s)
   stepping no_step h l = inner h refl refl refl refl refl l (done refl)
-  stepping (step s) h l = in-role (stmt s h l) (λ e. rw (e, or-true))
+  stepping (step s) h l = in_role (stmt s h l) (λ e. rw (e, or_true))
 
   body : {T : Tables} {n d : ℕ} (b : Block) → BlockStands T n b → depth_block b ≤ d → Ends T d false Role.Block n (n + size_block b)
   body (block ss) h l =

@@ -1,4 +1,4 @@
-// The operations for C and Rust, over plain pointers and lengths (`rt staticlib oat_c`). The two limits are plain numbers: `parts` from 1 to
+// The operations for C and Rust, over plain pointers and lengths (`tools/build.sh oat_c`). The two limits are plain numbers: `parts` from 1 to
 // 200, `depth` from 1 to 100.
 #![tactic(auto)]
 

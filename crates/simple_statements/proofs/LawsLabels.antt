@@ -81,9 +81,9 @@ run_var {L = L} {M = M} w r s = record {
 }
 
 -- a test and two blocks
-if-marked : {i j k p q : ℕ} {Γ Δ : Scope ℕ} {L M N : List (Label ℕ)} → Run i L → Marked j p M → Marked k q N
+if_marked : {i j k p q : ℕ} {Γ Δ : Scope ℕ} {L M N : List (Label ℕ)} → Run i L → Marked j p M → Marked k q N
     → Marked (1 + i + j + k) (both p q) (marked_as (both p q) Γ Δ ∷ L ++ (M ++ N))
-if-marked {i = i} {j = j} {k = k} {p = p} {q = q} r b c =
+if_marked {i = i} {j = j} {k = k} {p = p} {q = q} r b c =
     marked {j = i + (j + k)} (omega arith) (both_marks p q (mark_marked c)) (run_append r (run_append (run_marked b) (run_marked c)))
 
 stepping : {k p : ℕ} {L : List (Label ℕ)} → Marked k p L → Stepping k L
@@ -172,7 +172,7 @@ module _ (T : Tables) (C : Context ℕ) where
           then_ok (execute_block T C rt b (n + 1 + size a) (inner Γ)) _ k2 λ p N i1 k3.
           then_ok (execute_block T C rt c (n + 1 + size a + size_block b) (inner Γ)) _ k3 λ r O i2 k4.
           ok_is (DoneMarked (size_stmt (if_else a b c))) k4
-          (if-marked (expr_run T C a (n + 1) Γ u M i)
+          (if_marked (expr_run T C a (n + 1) Γ u M i)
           (block_labels b (n + 1 + size a) (inner Γ) p N i1) (block_labels c (n + 1 + size a + size_block b) (inner Γ) r O i2))
       stmt_labels last (if_null x t a b c) n Γ d L j =
           then_ok (judge T C a (n + 1) Γ) _ j λ u M i k1.
@@ -181,7 +181,7 @@ module _ (T : Tables) (C : Context ℕ) where
           then_ok (execute_block T C rt b (n + 1 + size a) (inner (binds (inner Γ) x t n))) _ k3 λ p N i1 k4.
           then_ok (execute_block T C rt c (n + 1 + size a + size_block b) (inner Γ)) _ k4 λ r O i2 k5.
           ok_is (DoneMarked (size_stmt (if_null x t a b c))) k5
-          (if-marked (expr_run T C a (n + 1) Γ u M i)
+          (if_marked (expr_run T C a (n + 1) Γ u M i)
           (block_labels b (n + 1 + size a) (inner (binds (inner Γ) x t n)) p N i1) (block_labels c (n + 1 + size a + size_block b) (inner Γ) r O i2))
       stmt_labels last (for vs c s b) n Γ d L j =
           then_ok (execute_vars T C vs (n + 1) (inner Γ)) _ j λ Δ M i k1.

@@ -33,8 +33,8 @@ use Rattle.expressions.proofs.LawsLabels.{last_result, Closed, rows_join}
 use Rattle.simple_statements.specs.Contract.{marked, MarksWhile, Marking}
 
 -- the judgement of a mark, and an answer with it
-pub returns-marked : (p : ℕ) → p ≡ 1 → Returns ≡ marked p
-returns-marked p h = rw (eq-eqb p 1 h) refl
+pub returns_marked : (p : ℕ) → p ≡ 1 → Returns ≡ marked p
+returns_marked p h = rw (eq-eqb p 1 h) refl
 
 pub goes_on_marked : (p : ℕ) → (p ≡ 1 → ⊥) → GoesOn ≡ marked p
 goes_on_marked p h = rw (ne_eqb p 1 h) refl

@@ -121,8 +121,8 @@ module _ (F : List ℕ) (S : Sections) (W : List ℕ) (base rt s : ℕ) (b c : B
 
 -- if
 module _ {F : List ℕ} {S : Sections} {X R W K : List ℕ} {base rt n s π : ℕ} (given : ReadyStmt F S X R W K base n s π × (rt < S.types)) (kind : (node_at (tables_of F S) n).kind ≡ 35) where
-  pub if-first : Ready F S X R W K base (n + 1) s π
-  if-first =
+  pub if_first : Ready F S X R W K base (n + 1) s π
+  if_first =
       on_if (λ z. s + size_stmt z ≤ S.built_ins + S.nodes → Few π (size_stmt z) → Ready F S X R W K base (n + 1) s π)
       (λ a b c h l f. ready (n + 1) a given.0.fine h.1 (omega arith) (omega arith)) kind
       given.0.tree given.0.stands given.0.room given.0.few
@@ -133,11 +133,11 @@ module _ {F : List ℕ} {S : Sections} {X R W K : List ℕ} {base rt n s π : �
     if_no u = record { tells = λ start last. on_if (AnswersStmt F S X R W base start rt last n s π R₁ W₁ K₁ r₁) (λ a b c h Γ d. child_no _ _ _ u (in_scope d _ _ _ (m₁.tells a h.1))) kind }
 
     module _ {t : ℕ} (y₁ : r₁.judgement ≡ Typed t) where
-      pub if-type : Has F S t S.types
-      if-type = child_type if-first m₁ y₁
+      pub if_type : Has F S t S.types
+      if_type = child_type if_first m₁ y₁
 
-      pub if-second : (n < r₁.at.node) × ReadyArms F S X R₁ W₁ K₁ base rt r₁.at.node s s r₁.at.pairs
-      if-second =
+      pub if_second : (n < r₁.at.node) × ReadyArms F S X R₁ W₁ K₁ base rt r₁.at.node s s r₁.at.pairs
+      if_second =
           on_if (λ z. s + size_stmt z ≤ S.built_ins + S.nodes → Few π (size_stmt z) → (n < r₁.at.node) × ReadyArms F S X R₁ W₁ K₁ base rt r₁.at.node s s r₁.at.pairs)
           (λ a b c h l f.
           let (L, q, p) = typing_of _ (m₁.tells a h.1) y₁ in (
@@ -148,9 +148,9 @@ module _ {F : List ℕ} {S : Sections} {X R W K : List ℕ} {base rt n s π : �
           given.0.tree given.0.stands given.0.room given.0.few
 
       module _ {k₁ : ℕ} (e₁ : k₁ ≡ (type_at (tables_of F S) t).kind) where
-        pub if-sort : {r : Judged} → (k₁ ≡ 1 → ⊥) → Refuses r 10 n r₁.at.pairs → ToldAnywhere F S X R W base rt n s π R₁ W₁ K₁ r
+        pub if_sort : {r : Judged} → (k₁ ≡ 1 → ⊥) → Refuses r 10 n r₁.at.pairs → ToldAnywhere F S X R W base rt n s π R₁ W₁ K₁ r
         unfolding executing
-        if-sort {r} f e =
+        if_sort {r} f e =
             record {
               tells = λ start last. on_if (AnswersStmt F S X R W base start rt last n s π R₁ W₁ K₁ r)
                   (λ a b c h Γ d. child_ok _ _ _ t y₁ (in_scope d _ _ _ (m₁.tells a h.1)) λ L q p. stops _ 10 n _ _ (ne_eqb _ _ (λ i. f (e₁ ∙ i))) e) kind;
@@ -166,9 +166,9 @@ module _ {F : List ℕ} {S : Sections} {X R W K : List ℕ} {base rt n s π : �
               let i = holds_inner (holds_same d p.after.same) in
               retell_arms p.after.same given.0.fine.above p.next m₂ b c h h₂ (inner Γ) (inner Γ) i i
 
-          pub if-no-2 : {p q : ℕ} → r₂.judgement ≡ Refused p q → ToldAnywhere F S X R W base rt n s π R₂ W₂ K₂ r₂
+          pub if_no_2 : {p q : ℕ} → r₂.judgement ≡ Refused p q → ToldAnywhere F S X R W base rt n s π R₂ W₂ K₂ r₂
           unfolding executing
-          if-no-2 e =
+          if_no_2 e =
               record {
                 tells = λ start last. on_if (AnswersStmt F S X R W base start rt last n s π R₂ W₂ K₂ r₂)
                     (λ a b c h Γ d.
@@ -180,8 +180,8 @@ module _ {F : List ℕ} {S : Sections} {X R W K : List ℕ} {base rt n s π : �
 
           module _ (u₂ : Unrefused r₂) where
             -- for `ends`
-            pub if-ends : {m : ℕ} → m ≤ 1 → (n * 2 + 1 < length R₂) × (n < 65536) × (m ≤ 1)
-            if-ends h = mark_fits (arms_fine if-second.1 m₂ u₂) given.0.within h
+            pub if_ends : {m : ℕ} → m ≤ 1 → (n * 2 + 1 < length R₂) × (n < 65536) × (m ≤ 1)
+            if_ends h = mark_fits (arms_fine if_second.1 m₂ u₂) given.0.within h
 
             pub if_ok : {m : ℕ} {R' : List ℕ} {r : Judged} → m ≡ mark_of r₂.judgement → AnswerIs (marked m) r₂.at.node s r₂.at.pairs r
                 → R' ≡ with_row R₂ n m 65535 → ToldAnywhere F S X R W base rt n s π R' W₂ K₂ r

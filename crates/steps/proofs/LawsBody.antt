@@ -36,7 +36,7 @@ use Rattle.expressions.proofs.LawsMeets.{Unrefused, part_of}
 use Rattle.expressions.proofs.LawsAfter.{row_other, row-result, row_binder}
 use Rattle.expressions.proofs.LawsChild.{kind-of, has_type, kind_within, returned_within, parameters_within}
 use Rattle.simple_statements.proofs.LawsLabels.{block_long, block_mark, block_within}
-use Rattle.simple_statements.proofs.LawsMarks.{returns-marked}
+use Rattle.simple_statements.proofs.LawsMarks.{returns_marked}
 use Rattle.statements.specs.Contract.{Blocking, ReadyBlock, ToldBlock}
 use Rattle.statements.proofs.LawsParts.{marked_no, mark_is}
 use Rattle.statements.proofs.LawsBlock.{ready_block}
@@ -211,7 +211,7 @@ module _ {F : List ℕ} {S : Sections} {X R W K : List ℕ} {c : Context} {n : �
                       tells = λ x u ps b h.
                           passes (distinct_names ps) 7 n _ (distinct x u ps b h)
                           (goes_on _ _ v (ran x u ps b h) λ i L q d.
-                          stops (eqb i 1) 14 n _ _ (ne_eqb i 1 (λ z. o.never (d.mark ∙ sym (returns-marked i z)))) refl);
+                          stops (eqb i 1) 14 n _ _ (ne_eqb i 1 (λ z. o.never (d.mark ∙ sym (returns_marked i z)))) refl);
                     }
 
                 fine_now : Fine F S X R₂ W₂ K₂ c.names (c.names + count)

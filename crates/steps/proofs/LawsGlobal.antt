@@ -39,9 +39,9 @@ use Rattle.steps.specs.Contract.{context_at, with_name, summing, handed_up, Acce
 use Rattle.steps.proofs.LawsStepping.{accepts_with, stepping_more, stops, passes, hands_up, whole_context}
 use Rattle.steps.proofs.LawsRows.{rows_count, rows_list}
 
-entry-is : {t n x y : ℕ} {b : Bool} {l k : List (Entry ℕ)} → x ≡ y → b ≡ true → l ≡ k
+entry_is : {t n x y : ℕ} {b : Bool} {l k : List (Entry ℕ)} → x ≡ y → b ≡ true → l ≡ k
     → ◌≡◌ {A = List (Entry ℕ)} (record { name = x; type = t; binder = n; assignable = b } ∷ l) (record { name = y; type = t; binder = n; assignable = true } ∷ k)
-entry-is p q e = rw (p, q, e)
+entry_is p q e = rw (p, q, e)
 
 module _ {F : List ℕ} {S : Sections} {X R W K : List ℕ} {c : Context} {n : ℕ} (g : ReadyGlobal F S X R W K c n) where
   -- for `expression`, `node_x` and `with_name`
@@ -130,7 +130,7 @@ module _ {F : List ℕ} {S : Sections} {X R W K : List ℕ} {c : Context} {n : �
           record {
             held = record { good_tables = g.held.good_tables; indexed = g.held.indexed; scoped = b.scoped };
             made = ap (λ l. record { structs = structs_of T c.structs; names = l })
-                (names_declared b g.low ∙ entry-is h.0.x_is (eq-eqb _ _ h.0.kind_is) (names_same T c.names p.after.same c.names (omega arith)));
+                (names_declared b g.low ∙ entry_is h.0.x_is (eq-eqb _ _ h.0.kind_is) (names_same T c.names p.after.same c.names (omega arith)));
             long = let all = rows_count L in omega (arith, all, long);
             rows = list_row R₂ (n * 2) (next_result L) 65535 (rows_of L) (row-result R₁ n t 65535 wide ∙ sym head) (row_binder R₁ n t 65535 wide)
                 (list_from R₂ ((n + 1) * 2) (n * 2 + 2) (rows_of L) (omega arith)

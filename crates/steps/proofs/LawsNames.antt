@@ -22,7 +22,7 @@ use Rattle.file_sections.specs.declared.Sections.{Sections}
 use Rattle.file_sections.specs.Layout.{tables_of, GoodTables}
 use Rattle.file_sections.proofs.LawsRecords.{types_long, fields_long}
 use Rattle.type_index.specs.Index.{declared, formed_entry, Entered, Indexed}
-use Rattle.type_index.proofs.LawsIndex.{loop-fails, loop-goes, loop-done, none_tested, entered}
+use Rattle.type_index.proofs.LawsIndex.{loop_fails, loop_goes, loop_done, none_tested, entered}
 use Rattle.type_index.proofs.LawsSameTypes.{all_front, all_same}
 use Rattle.bindings.specs.declared.Found.{Found}
 use Rattle.bindings.specs.declared.Found.TheVariants.{At, Nothing}
@@ -46,16 +46,16 @@ module _ (X : List ℕ) (T : Tables) (first : ℕ) where
 
   pub all_fields_formed : (count j : ℕ) → j ≤ count → count ≤ j → types_formed X T first j ≡ true → true ≡ types_formed X T first count
   unfolding types_formed
-  all_fields_formed count j h k a = loop-done count _ j h k a
+  all_fields_formed count j h k a = loop_done count _ j h k a
 
   module _ (j x : ℕ) (t : Bool) (ex : x ≡ (field_at T (first + j)).type) (et : t ≡ formed_entry X x) where
     pub field_unformed : (count : ℕ) → j < count → not t ≡ true → false ≡ types_formed X T first count
     unfolding types_formed
-    field_unformed count h f = loop-fails count _ j t h f (et ∙ rw ex)
+    field_unformed count h f = loop_fails count _ j t h f (et ∙ rw ex)
 
     pub more_fields_formed : types_formed X T first j ≡ true → not t ≡ false → types_formed X T first (j + 1) ≡ true
     unfolding types_formed
-    more_fields_formed a f = loop-goes 0 _ j t a f (et ∙ rw ex)
+    more_fields_formed a f = loop_goes 0 _ j t a f (et ∙ rw ex)
 
 -- the type of a field is one of the file's
 module _ {F : List ℕ} {S : Sections} (R : GoodTables F S) where

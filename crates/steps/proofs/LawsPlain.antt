@@ -52,8 +52,8 @@ module _ (j : Judgement) (step pairs : ℕ) where
   pub goes_up : j ≡ GoesOn → Refused 0 step 0 pairs ≡ handed_up j step pairs
   goes_up e = rw e
 
-  pub returns-up : j ≡ Returns → Refused 0 step 0 pairs ≡ handed_up j step pairs
-  returns-up e = rw e
+  pub returns_up : j ≡ Returns → Refused 0 step 0 pairs ≡ handed_up j step pairs
+  returns_up e = rw e
 
 -- structs without a name
 missing_of : (x n : ℕ) (f : ℕ → Struct) → ((j : ℕ) → j < n → (f j).name ≡ x → ⊥) → is_missing (lookup (tabulate n f) x) ≡ true

@@ -142,8 +142,8 @@ module _ (s : List ℕ) (S : Sections) where
     pub nullable_lower : (i x k : ℕ) → x ≡ (type_at T i).a → k ≡ (type_at T i).kind → k ≡ 7 → i < S.types → x < i
     nullable_lower i x k e ek h l = omega (arith, (formed.nullable i (within i l) (sym ek ∙ h)).lower)
 
-    pub returns-lower : (i x : ℕ) → x ≡ (type_at T i).a → (type_at T i).kind ≡ 6 → i < S.types → x < i
-    returns-lower i x e k l = omega (arith, (formed.function i (within i l) k).returns)
+    pub returns_lower : (i x : ℕ) → x ≡ (type_at T i).a → (type_at T i).kind ≡ 6 → i < S.types → x < i
+    returns_lower i x e k l = omega (arith, (formed.function i (within i l) k).returns)
 
     -- parameters
     pub params_of : (i p count : ℕ) → p ≡ (type_at T i).b → count ≡ (type_at T i).c → (type_at T i).kind ≡ 6 → i < S.types → Params s S i p count
@@ -292,8 +292,8 @@ module _ (s : List ℕ) (S : Sections) where
           params_fail h =
               pair_on _ t (ap (λ x. record { holds = x; pairs = 1 + t.pairs }) (sym (not-true t.holds h))) (stops _ _ t et h) of-one-number
 
-          pub returns-are : (x y : ℕ) (v : Compared) → not t.holds ≡ false → x ≡ (type_at T a).a → y ≡ (type_at T b).a → Says T x y v → Matches (record { holds = v.holds; pairs = 1 + t.pairs + v.pairs }) (compare_functions T a b)
-          returns-are x y v h ex ey ev =
+          pub returns_are : (x y : ℕ) (v : Compared) → not t.holds ≡ false → x ≡ (type_at T a).a → y ≡ (type_at T b).a → Says T x y v → Matches (record { holds = v.holds; pairs = 1 + t.pairs + v.pairs }) (compare_functions T a b)
+          returns_are x y v h ex ey ev =
               pair_on _ (record { holds = v.holds; pairs = t.pairs + v.pairs }) (ap (λ k. record { holds = v.holds; pairs = k }) (omega arith)) (goes_on _ _ t et v h (as_compared T x y v ev))
               (of-one-number ∙ ap₂ (λ i j. pair (and_next (compare_params T p q m) (compare_at T i j))) (sym ex) (sym ey))
 

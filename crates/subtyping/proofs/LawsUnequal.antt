@@ -97,9 +97,9 @@ module _ (s : List ℕ) (S : Sections) where
     unfolding operand_at
     parameter_at n p x en ep l ex = rw (lt-ltb j (type_at T i).c (omega arith)) (ex ∙ ap (λ m. entry_at T (m + j)) ep)
 
-    pub returns-at : (n x : ℕ) → n ≡ (type_at T i).c → n ≤ j → x ≡ (type_at T i).a → x ≡ operand_at T i j
+    pub returns_at : (n x : ℕ) → n ≡ (type_at T i).c → n ≤ j → x ≡ (type_at T i).a → x ≡ operand_at T i j
     unfolding operand_at
-    returns-at n x en l ex = rw (le-ltb j (type_at T i).c (omega arith)) ex
+    returns_at n x en l ex = rw (le-ltb j (type_at T i).c (omega arith)) ex
 
     pub operand_lower : (x : ℕ) → GoodTables s S → i < S.types → kind_at T i ≡ 6 → x ≡ operand_at T i j → x < i
     unfolding operand_at
@@ -132,8 +132,8 @@ module _ (s : List ℕ) (S : Sections) where
         let there : i < length T.types = rw (types_long s S) h in
         omega (arith, formed.few i there, parts_written T formed i there)
 
-    pub entry-few : (index : List ℕ) (i w : ℕ) → Indexed index T S.types → i < S.types → w ≡ parts_entry index i → w < 400
-    entry-few index i w I l e = omega (arith, I.parts i l, parts_few i l)
+    pub entry_few : (index : List ℕ) (i w : ℕ) → Indexed index T S.types → i < S.types → w ≡ parts_entry index i → w < 400
+    entry_few index i w I l e = omega (arith, I.parts i l, parts_few i l)
 
     -- what an array or nullable type holds is lower
     pub held_lower : (i k x : ℕ) → i < S.types → k ≡ kind_at T i → (k ≡ 5) ⊎ (k ≡ 7) → x ≡ (type_at T i).a → x < i
@@ -212,9 +212,9 @@ module _ (s : List ℕ) (S : Sections) where
           unfolding operand_at
           parameter_next l = (ex ∙ rw (lt-ltb j (type_at T a).c (omega arith), ep), ey ∙ rw (lt-ltb j (type_at T b).c (omega arith), eq))
 
-          returns-next : m ≤ j → (x ≡ (type_at T a).a) × (y ≡ (type_at T b).a)
+          returns_next : m ≤ j → (x ≡ (type_at T a).a) × (y ≡ (type_at T b).a)
           unfolding operand_at
-          returns-next l = (ex ∙ rw (le-ltb j (type_at T a).c (omega arith)), ey ∙ rw (le-ltb j (type_at T b).c (omega arith)))
+          returns_next l = (ex ∙ rw (le-ltb j (type_at T a).c (omega arith)), ey ∙ rw (le-ltb j (type_at T b).c (omega arith)))
 
           params_equal : m ≤ j → params T p m ≡ params T q m
           params_equal l = all_equal T m p q (λ k h. first-equal k (omega arith))
@@ -232,7 +232,7 @@ module _ (s : List ℕ) (S : Sections) where
                   sym (entries_same I x y (omega arith) (omega arith)) ∙ rw (ix, iy) (D.apart l)
               go false e =
                   let l = ltb-false j m e in
-                  let (ix, iy) = returns-next l in
+                  let (ix, iy) = returns_next l in
                   types_are (λ t u. same_ty t u ≡ false → same_ty (type_of T x) (type_of T y) ≡ false) (λ n. rw (ix, iy) (rw ((sames_is (params T p m) (params T q m)).1 (params_equal l)) at n)) d
 
           pub functions_pairs : (sum w : ℕ) → same_ty (type_of T a) (type_of T b) ≡ false → sum ≡ params_parts index T p j → w ≡ (same_at T x y).pairs → 1 + sum + w ≡ (same_at T a b).pairs
@@ -251,7 +251,7 @@ module _ (s : List ℕ) (S : Sections) where
                   omega (arith, parts, ew, function_stops _ _ (type_of T (type_at T a).a) (type_of T (type_at T b).a) long _ (stops_at T j m p q x y l first-equal ix iy (operands_unequal d)))
               go false e =
                   let l = ltb-false j m e in
-                  let (ix, iy) = returns-next l in
+                  let (ix, iy) = returns_next l in
                   let end : j ≡ m = omega (arith, D.most) in
                   omega (arith, rw end at parts, rw (ix, iy) at ew, function_goes _ _ (type_of T (type_at T a).a) (type_of T (type_at T b).a) long (params_equal l))
 

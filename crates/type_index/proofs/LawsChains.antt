@@ -26,7 +26,7 @@ use Rattle.file_sections.specs.Layout.{tables_of, GoodTables}
 use Rattle.file_sections.proofs.LawsRecords.{types_long}
 use Rattle.type_index.specs.Index.{declared, first_below, struct_named, lowest_entry, struct_entry, formed_entry, parts_entry, first_equal, chain_of, bucket_of, linking, entering, Entered, Chained, Cleared, Indexed}
 use Rattle.type_index.proofs.LawsIndex.{first_longer, first-equal, first_nowhere, names_none, stored, elsewhere, indexed_more}
-use Rattle.type_index.proofs.LawsSameTypes.{on_base, base_kept, base_own, kind_is, function_kept, holder_lower, returns-lower}
+use Rattle.type_index.proofs.LawsSameTypes.{on_base, base_kept, base_own, kind_is, function_kept, holder_lower, returns_lower}
 use Rattle.type_index.proofs.LawsFormedTypes.{formed_base}
 use Rattle.type_index.proofs.LawsParts.{parts_base}
 
@@ -75,11 +75,11 @@ module _ (s : List ℕ) (S : Sections) (i : ℕ) where
       unfolding bucket_of chain_of
       bucket_function c k ec =
           let F = function_kept s S R i h k in
-          rw (type_function (tables_of s S) i k F.returns (λ j m. (F.parameter j m).lower), params_many (type_of (tables_of s S)) (tables_of s S) (type_at (tables_of s S) i).b (type_at (tables_of s S) i).c, first_operand (returns-lower s S i a R h ea k), ec)
+          rw (type_function (tables_of s S) i k F.returns (λ j m. (F.parameter j m).lower), params_many (type_of (tables_of s S)) (tables_of s S) (type_at (tables_of s S) i).b (type_at (tables_of s S) i).c, first_operand (returns_lower s S i a R h ea k), ec)
 
 -- the entry of what a type refers to is in the index
-pub entry-there : (index : List ℕ) (x : ℕ) → Entered index x → x < length index
-entry-there index x E = omega (arith, E.low, E.long)
+pub entry_there : (index : List ℕ) (x : ℕ) → Entered index x → x < length index
+entry_there index x E = omega (arith, E.low, E.long)
 
 -- the way along the chain of the type i to an equal type
 abbrev pub EqualWalk : Tables → ℕ → ℕ → Type 0

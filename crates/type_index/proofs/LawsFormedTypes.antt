@@ -20,7 +20,7 @@ use Rattle.file_sections.specs.declared.Sections.{Sections}
 use Rattle.file_sections.specs.Layout.{tables_of, GoodTables}
 use Rattle.file_sections.proofs.LawsRecords.{structs_long}
 use Rattle.type_index.specs.Index.{declared, record_of, formed_entry, params_formed, Indexed}
-use Rattle.type_index.proofs.LawsIndex.{loop-fails, loop-goes, loop-done, none_tested, lookup_is}
+use Rattle.type_index.proofs.LawsIndex.{loop_fails, loop_goes, loop_done, none_tested, lookup_is}
 use Rattle.type_index.proofs.LawsSameTypes.{all_front, all_same, on_base, kind_is, array_kept, function_kept, nullable_kept}
 
 -- a loop over parameters
@@ -31,16 +31,16 @@ module _ (index : List ℕ) (T : Tables) (first : ℕ) where
 
   pub all_formed : (count j : ℕ) → j ≤ count → count ≤ j → params_formed index T first j ≡ true → true ≡ params_formed index T first count
   unfolding params_formed
-  all_formed count j h k a = loop-done count _ j h k a
+  all_formed count j h k a = loop_done count _ j h k a
 
   module _ (j x : ℕ) (t : Bool) (ex : x ≡ entry_at T (first + j)) (et : t ≡ formed_entry index x) where
     pub param_unformed : (count : ℕ) → j < count → not t ≡ true → false ≡ params_formed index T first count
     unfolding params_formed
-    param_unformed count h f = loop-fails count _ j t h f (et ∙ rw ex)
+    param_unformed count h f = loop_fails count _ j t h f (et ∙ rw ex)
 
     pub more_formed : params_formed index T first j ≡ true → not t ≡ false → params_formed index T first (j + 1) ≡ true
     unfolding params_formed
-    more_formed a f = loop-goes 0 _ j t a f (et ∙ rw ex)
+    more_formed a f = loop_goes 0 _ j t a f (et ∙ rw ex)
 
 -- a type that isn't void is well-formed as a value where it is as a return type; one that may be null, as a reference too
 module _ (H : List Struct) where

@@ -27,14 +27,14 @@ use Rattle.type_index.specs.Index.{declared, first_below, record_of, struct_name
 
 -- a loop that tests the numbers below n, one after another
 module _ (n : ℕ) (p : ℕ → Bool) (i : ℕ) where
-  pub loop-fails : (t : Bool) → i < n → not t ≡ true → t ≡ p i → false ≡ all_below n p
-  loop-fails t h f e = sym (all_false n p i h (sym e ∙ not-true t f))
+  pub loop_fails : (t : Bool) → i < n → not t ≡ true → t ≡ p i → false ≡ all_below n p
+  loop_fails t h f e = sym (all_false n p i h (sym e ∙ not-true t f))
 
-  pub loop-goes : (t : Bool) → all_below i p ≡ true → not t ≡ false → t ≡ p i → all_below (i + 1) p ≡ true
-  loop-goes t a f e = all_more i p a (sym e ∙ not-false t f)
+  pub loop_goes : (t : Bool) → all_below i p ≡ true → not t ≡ false → t ≡ p i → all_below (i + 1) p ≡ true
+  loop_goes t a f e = all_more i p a (sym e ∙ not-false t f)
 
-  pub loop-done : i ≤ n → n ≤ i → all_below i p ≡ true → true ≡ all_below n p
-  loop-done h k a =
+  pub loop_done : i ≤ n → n ≤ i → all_below i p ≡ true → true ≡ all_below n p
+  loop_done h k a =
       let e : i ≡ n = omega arith in
       sym a ∙ rw e
 

@@ -23,7 +23,7 @@ use Rattle.file_sections.specs.declared.Sections.{Sections}
 use Rattle.file_sections.specs.Layout.{tables_of, GoodTables}
 use Rattle.file_sections.proofs.LawsRecords.{types_long, list_long}
 use Rattle.type_index.specs.Index.{lowest_entry, same_params, Entered, Indexed, Listed, Operand, Parameters}
-use Rattle.type_index.proofs.LawsIndex.{loop-fails, loop-goes, loop-done, none_tested, entries_same}
+use Rattle.type_index.proofs.LawsIndex.{loop_fails, loop_goes, loop_done, none_tested, entries_same}
 
 -- all from the first on, and tests that agree
 pub all_front : (n : ℕ) (p : ℕ → Bool) → all_below (suc n) p ≡ (p 0 && all_below n (λ j. p (suc j)))
@@ -185,16 +185,16 @@ module _ (index : List ℕ) (T : Tables) (p q : ℕ) where
 
   pub params_done : (count j : ℕ) → j ≤ count → count ≤ j → same_params index T p q j ≡ true → true ≡ same_params index T p q count
   unfolding same_params
-  params_done count j h k a = loop-done count _ j h k a
+  params_done count j h k a = loop_done count _ j h k a
 
   module _ (j x y : ℕ) (t : Bool) (ex : x ≡ entry_at T (p + j)) (ey : y ≡ entry_at T (q + j)) (et : t ≡ eqb (lowest_entry index x) (lowest_entry index y)) where
     pub param_differs : (count : ℕ) → j < count → not t ≡ true → false ≡ same_params index T p q count
     unfolding same_params
-    param_differs count h f = loop-fails count _ j t h f (et ∙ rw (ex, ey))
+    param_differs count h f = loop_fails count _ j t h f (et ∙ rw (ex, ey))
 
     pub params_more : same_params index T p q j ≡ true → not t ≡ false → same_params index T p q (j + 1) ≡ true
     unfolding same_params
-    params_more a f = loop-goes 0 _ j t a f (et ∙ rw (ex, ey))
+    params_more a f = loop_goes 0 _ j t a f (et ∙ rw (ex, ey))
 
 -- the index has places for the entries of a parameter
 pub in_list : (s : List ℕ) (S : Sections) (index : List ℕ) (first count j x : ℕ) → Listed s S first count → j < count → x ≡ entry_at (tables_of s S) (first + j) → 2624 ≤ length index → Entered index x
@@ -211,8 +211,8 @@ module _ (s : List ℕ) (S : Sections) (i a : ℕ) (R : GoodTables s S) (h : i <
   holder_lower k ek d =
       ⊎_elim (λ e. omega (arith, (array_kept s S R i h (omega arith)).lower)) (λ e. omega (arith, (nullable_kept s S R i h (omega arith)).lower)) d
 
-  pub returns-lower : kind_at (tables_of s S) i ≡ 6 → a < i
-  returns-lower k = omega (arith, (function_kept s S R i h k).returns)
+  pub returns_lower : kind_at (tables_of s S) i ≡ 6 → a < i
+  returns_lower k = omega (arith, (function_kept s S R i h k).returns)
 
 -- a lower type than one of the file is of the file
 pub lower_there : (a b n : ℕ) → b < n → a < b → a < n
@@ -249,14 +249,14 @@ module _ (s : List ℕ) (S : Sections) (index : List ℕ) (i : ℕ) (R : GoodTab
     pub held_entered : (k : ℕ) → kind_at (tables_of s S) i ≡ k → (k ≡ 5) ⊎ (k ≡ 7) → Entered index x
     held_entered k ek d = record { low = omega (arith, holder_lower s S i x R h ex k ek d, R.laid.types_most); long = long }
 
-    pub returns-entered : kind_at (tables_of s S) i ≡ 6 → Entered index x
-    returns-entered k = record { low = omega (arith, returns-lower s S i x R h ex k, R.laid.types_most); long = long }
+    pub returns_entered : kind_at (tables_of s S) i ≡ 6 → Entered index x
+    returns_entered k = record { low = omega (arith, returns_lower s S i x R h ex k, R.laid.types_most); long = long }
 
   pub held_in : (k : ℕ) → kind_at (tables_of s S) i ≡ k → (k ≡ 5) ⊎ (k ≡ 7) → Operand s S index i
   held_in k ek d = record { there = h; entered = held_entered _ refl k ek d }
 
-  pub returns-in : kind_at (tables_of s S) i ≡ 6 → Operand s S index i
-  returns-in k = record { there = h; entered = returns-entered _ refl k }
+  pub returns_in : kind_at (tables_of s S) i ≡ 6 → Operand s S index i
+  returns_in k = record { there = h; entered = returns_entered _ refl k }
 
 -- equal operands, as the index has it
 pub operands_from : (index : List ℕ) (p q m n : ℕ) (u : Bool) → m ≡ p → n ≡ q → u ≡ eqb (lowest_entry index m) (lowest_entry index n) → u ≡ eqb (lowest_entry index p) (lowest_entry index q)

@@ -20,7 +20,7 @@ use Rattle.file_sections.specs.declared.Sections.{Sections}
 use Rattle.file_sections.specs.Layout.{Has, tables_of}
 use Rattle.file_sections.proofs.LawsRecords.{types_long, list_long}
 use Rattle.type_tables.specs.Parts.{Measured, param_parts, keeps}
-use Rattle.type_tables.proofs.LawsTypes.{array_rest, nullable_rest, type_base, type_struct, loop-done, none_added}
+use Rattle.type_tables.proofs.LawsTypes.{array_rest, nullable_rest, type_base, type_struct, loop_done, none_added}
 
 -- a rule whose test passes is kept
 kept : (t x : Bool) → not t ≡ false → t ≡ x → x ≡ true
@@ -209,7 +209,7 @@ module _ (s : List ℕ) (S : Sections) (most : ℕ) where
   unfolding each_type_right keeps
   types_end i taken h k a e =
       let n : i ≡ S.types = omega arith in
-      let done = loop-done S.types (keeps most (tables_of s S)) i h k a in
+      let done = loop_done S.types (keeps most (tables_of s S)) i h k a in
       rw (types_long s S, list_long s S, ← done, e ∙ ap (taken_before (tables_of s S)) n)
 
   pub too_few : S.types < 4 → false ≡ types_right most (tables_of s S)

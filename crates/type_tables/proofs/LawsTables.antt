@@ -14,7 +14,7 @@ use Rattle.oat.proofs.LawsBasics.{sum_more, all_more, all_false}
 use Rattle.file_sections.specs.declared.Sections.{Sections}
 use Rattle.file_sections.specs.Layout.{tables_of}
 use Rattle.file_sections.proofs.LawsRecords.{types_long, fields_long, structs_long, built_ins_long}
-use Rattle.type_tables.proofs.LawsTypes.{none_added, loop-done}
+use Rattle.type_tables.proofs.LawsTypes.{none_added, loop_done}
 
 module _ (s : List ℕ) (S : Sections) where
   -- a type of a given kind
@@ -57,7 +57,7 @@ module _ (s : List ℕ) (S : Sections) where
   unfolding structs_right
   structs_end i taken h k a e =
       let n : i ≡ S.structs = omega arith in
-      let done = loop-done S.structs (struct_rule (tables_of s S)) i h k a in
+      let done = loop_done S.structs (struct_rule (tables_of s S)) i h k a in
       rw (structs_long s S, fields_long s S, ← done, e ∙ ap (fields_before (tables_of s S)) n)
 
   -- the three tables

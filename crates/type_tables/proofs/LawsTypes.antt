@@ -109,14 +109,14 @@ module _ (T : Tables) (i : ℕ) (r : TypeRecord) (a : ℕ) (ea : a ≡ r.a) wher
 
 -- a loop that tests the numbers below n, one after another
 module _ (n : ℕ) (p : ℕ → Bool) (i : ℕ) where
-  pub loop-fails : (t : Bool) → i < n → not t ≡ true → t ≡ p i → false ≡ all_below n p
-  loop-fails t h f e = sym (all_false n p i h (sym e ∙ not-true t f))
+  pub loop_fails : (t : Bool) → i < n → not t ≡ true → t ≡ p i → false ≡ all_below n p
+  loop_fails t h f e = sym (all_false n p i h (sym e ∙ not-true t f))
 
-  pub loop-goes : (t : Bool) → all_below i p ≡ true → not t ≡ false → t ≡ p i → all_below (i + 1) p ≡ true
-  loop-goes t a f e = all_more i p a (sym e ∙ not-false t f)
+  pub loop_goes : (t : Bool) → all_below i p ≡ true → not t ≡ false → t ≡ p i → all_below (i + 1) p ≡ true
+  loop_goes t a f e = all_more i p a (sym e ∙ not-false t f)
 
-  pub loop-done : i ≤ n → n ≤ i → all_below i p ≡ true → true ≡ all_below n p
-  loop-done h k a =
+  pub loop_done : i ≤ n → n ≤ i → all_below i p ≡ true → true ≡ all_below n p
+  loop_done h k a =
       let e : i ≡ n = omega arith in
       sym a ∙ rw e
 
@@ -137,11 +137,11 @@ module _ (T : Tables) (i first : ℕ) where
   module _ (j x : ℕ) (l : Bool) (ex : x ≡ entry_at T (first + j)) (el : l ≡ is_lower_value T i x) where
     pub param_fails : (count : ℕ) → j < count → not l ≡ true → false ≡ params_right T i first count
     unfolding params_right
-    param_fails count h f = loop-fails count _ j l h f (el ∙ rw ex)
+    param_fails count h f = loop_fails count _ j l h f (el ∙ rw ex)
 
     pub params_more : params_right T i first j ≡ true → not l ≡ false → params_right T i first (j + 1) ≡ true
     unfolding params_right
-    params_more a f = loop-goes 0 _ j l a f (el ∙ rw ex)
+    params_more a f = loop_goes 0 _ j l a f (el ∙ rw ex)
 
 -- functions
 module _ (s : List ℕ) (S : Sections) (i : ℕ) (r : TypeRecord) (a : ℕ) (ea : a ≡ r.a) where

@@ -19,8 +19,8 @@ use Rattle.oat.proofs.LawsTables.{has-kind}
 use Rattle.typing_rules.specs.Contexts.{Scope, binds, Hit, hit, miss, find, find_name, Context, inner}
 use Rattle.typing_rules.specs.Operators.{is_equality, operand_type, result_type, unary_type, base_type, literal_type}
 use Rattle.typing_rules.specs.Labels.{gives, Label, Labels, unlabelled}
-use Rattle.typing_rules.specs.Rules.{Typed, Has, has, member, TypedAll, typed_none, typed_also, TypedInits, typed_no_init, typed-init, ExprRule, typ_null, typ_literal, typ_local, typ_global, typ_carr, typ_newarray, typ_newarrayinit, typ-index, typ_length, typ_structex, typ_field, typ_call, typ_bop, typ_eq, typ_uop}
-use Rattle.typing_rules.specs.Derivations.{AtAll, AtInits, Derives, here, in-elements, in-length, in-with-length, in-with-value, in-indexed, in-position, in-measured, in-fields, in-record, in-callee, in-arguments, in-operand, in_left, in_right, in-first, in_rest, in-value, in-others}
+use Rattle.typing_rules.specs.Rules.{Typed, Has, has, member, TypedAll, typed_none, typed_also, TypedInits, typed_no_init, typed_init, ExprRule, typ_null, typ_literal, typ_local, typ_global, typ_carr, typ_newarray, typ_newarrayinit, typ_index, typ_length, typ_structex, typ_field, typ_call, typ_bop, typ_eq, typ_uop}
+use Rattle.typing_rules.specs.Derivations.{AtAll, AtInits, Derives, here, in_elements, in_length, in_with_length, in_with_value, in_indexed, in_position, in_measured, in_fields, in_record, in_callee, in_arguments, in_operand, in_left, in_right, in_first, in_rest, in_value, in_others}
 use Rattle.typing_rules.specs.Judge.{ok, typed_as, is_kind, referred, formed, arguments_below, judge, judges, judge_inits}
 use Rattle.typing_rules.proofs.Claims.{File, Value, ScopeFits, fits_bind, ContextFits, erase_scope, erase_context, erase_label, erase, gather, gathers, gather_inits, erase_bindings}
 use Rattle.typing_rules.proofs.LawsBridge.{types_of, Values, values_none, values_also, erase_hit, find_erase, name_erase, find_value, name_value, is_base, is_void, array_parts, struct_parts, function_parts, default_is, base_is, base_value, below_sub, formed_value, formed_null, below_each, arguments-below, arguments_many, inits-below, member_value, field_there, erase_append}
@@ -223,7 +223,7 @@ module _ (T : Tables) (C : Context ℕ) (D : Labels Ty) where
 
       index_accepted : (a d : Expr) → Child a (n + 1) Γ → Child d (n + 1 + size a) Γ → Rule n (index a d) → Accepted T C D (index a d) n Γ
       unfolding gather erase
-      index_accepted a d c c' (typ-index t ty tu h) =
+      index_accepted a d c c' (typ_index t ty tu h) =
           let A = c (ty.scope ∙ b) in
           let B = c' (tu.scope ∙ b) in
           let (w, q, v) = array_parts T F A.type A.value.within t (type_is A ty) in
@@ -337,7 +337,7 @@ module _ (T : Tables) (C : Context ℕ) (D : Labels Ty) where
 
     init_accepted : (x : ℕ) (a : Expr) (is : Inits) → Child a (n + 1) Γ → Initial is (n + 1 + size a) Γ → Initial (init x a is) n Γ
     unfolding gather erase types_of erase_bindings
-    init_accepted x a is c c' _ (typed-init {ts = us} l p q) =
+    init_accepted x a is c c' _ (typed_init {ts = us} l p q) =
         let A = c p.scope in
         let B = c' us q in
         record {
@@ -358,43 +358,43 @@ mutual
   complete T F C f D (name x) n Γ g s d b = name_accepted T C D n Γ b F f g x (d.rule n (name x) here)
   complete T F C f D (array_literal t es) n Γ g s d b =
       array_accepted T C D n Γ b F f g t es s.1
-      (λ ts k. completes T F C f D es (n + 1) Γ ts g s.2 (λ m u w. d.rule m u (in-elements w)) k)
+      (λ ts k. completes T F C f D es (n + 1) Γ ts g s.2 (λ m u w. d.rule m u (in_elements w)) k)
       (d.rule n (array_literal t es) here)
   complete T F C f D (default_array t a) n Γ g s d b =
       default_accepted T C D n Γ b F f g t a s.1
-      (λ k. complete T F C f D a (n + 1) Γ g s.2 (record { rule = λ m u w. d.rule m u (in-length w) }) k)
+      (λ k. complete T F C f D a (n + 1) Γ g s.2 (record { rule = λ m u w. d.rule m u (in_length w) }) k)
       (d.rule n (default_array t a) here)
   complete T F C f D (array_with t x a c) n Γ g s d b =
       with_accepted T C D n Γ b F f g t x a c s.1
-      (λ k. complete T F C f D a (n + 1) Γ g s.2 (record { rule = λ m u w. d.rule m u (in-with-length w) }) k)
+      (λ k. complete T F C f D a (n + 1) Γ g s.2 (record { rule = λ m u w. d.rule m u (in_with_length w) }) k)
       (λ k. complete T F C f D c (n + 1 + size a) (binds (inner Γ) x 0 n) (fits_bind g (base_value T F 0 (omega arith))) s.3
-      (record { rule = λ m u w. d.rule m u (in-with-value w) }) k)
+      (record { rule = λ m u w. d.rule m u (in_with_value w) }) k)
       (d.rule n (array_with t x a c) here)
   complete T F C f D (index a c) n Γ g s d b =
       index_accepted T C D n Γ b F f g a c
-      (λ k. complete T F C f D a (n + 1) Γ g s.1 (record { rule = λ m u w. d.rule m u (in-indexed w) }) k)
-      (λ k. complete T F C f D c (n + 1 + size a) Γ g s.2 (record { rule = λ m u w. d.rule m u (in-position w) }) k)
+      (λ k. complete T F C f D a (n + 1) Γ g s.1 (record { rule = λ m u w. d.rule m u (in_indexed w) }) k)
+      (λ k. complete T F C f D c (n + 1 + size a) Γ g s.2 (record { rule = λ m u w. d.rule m u (in_position w) }) k)
       (d.rule n (index a c) here)
   complete T F C f D (length_of a) n Γ g s d b =
       length_accepted T C D n Γ b F f g a
-      (λ k. complete T F C f D a (n + 1) Γ g s.1 (record { rule = λ m u w. d.rule m u (in-measured w) }) k)
+      (λ k. complete T F C f D a (n + 1) Γ g s.1 (record { rule = λ m u w. d.rule m u (in_measured w) }) k)
       (d.rule n (length_of a) here)
   complete T F C f D (struct_literal t is) n Γ g s d b =
       struct_accepted T C D n Γ b F f g t is s.1
-      (λ ts k. complete_inits T F C f D is (n + 1) Γ ts g s.2 (λ m u w. d.rule m u (in-fields w)) k)
+      (λ ts k. complete_inits T F C f D is (n + 1) Γ ts g s.2 (λ m u w. d.rule m u (in_fields w)) k)
       (d.rule n (struct_literal t is) here)
   complete T F C f D (field x a) n Γ g s d b =
       field_accepted T C D n Γ b F f g x a
-      (λ k. complete T F C f D a (n + 1) Γ g s.1 (record { rule = λ m u w. d.rule m u (in-record w) }) k)
+      (λ k. complete T F C f D a (n + 1) Γ g s.1 (record { rule = λ m u w. d.rule m u (in_record w) }) k)
       (d.rule n (field x a) here)
   complete T F C f D (call a es) n Γ g s d b =
       call_accepted T C D n Γ b F f g a es
-      (λ k. complete T F C f D a (n + 1) Γ g s.1 (record { rule = λ m u w. d.rule m u (in-callee w) }) k)
-      (λ ts k. completes T F C f D es (n + 1 + size a) Γ ts g s.2 (λ m u w. d.rule m u (in-arguments w)) k)
+      (λ k. complete T F C f D a (n + 1) Γ g s.1 (record { rule = λ m u w. d.rule m u (in_callee w) }) k)
+      (λ ts k. completes T F C f D es (n + 1 + size a) Γ ts g s.2 (λ m u w. d.rule m u (in_arguments w)) k)
       (d.rule n (call a es) here)
   complete T F C f D (unary x a) n Γ g s d b =
       unary_accepted T C D n Γ b F f g x a
-      (λ k. complete T F C f D a (n + 1) Γ g s.2 (record { rule = λ m u w. d.rule m u (in-operand w) }) k)
+      (λ k. complete T F C f D a (n + 1) Γ g s.2 (record { rule = λ m u w. d.rule m u (in_operand w) }) k)
       (d.rule n (unary x a) here)
   complete T F C f D (binary x a c) n Γ g s d b =
       binary_accepted T C D n Γ b F f g x a c
@@ -408,7 +408,7 @@ mutual
   completes T F C f D none n Γ ts g s d t = none_accepted T C D n Γ ts t
   completes T F C f D (also a es) n Γ ts g s d t =
       also_accepted T C D n Γ a es
-      (λ k. complete T F C f D a n Γ g s.0 (record { rule = λ m u w. d m u (in-first w) }) k)
+      (λ k. complete T F C f D a n Γ g s.0 (record { rule = λ m u w. d m u (in_first w) }) k)
       (λ us k. completes T F C f D es (n + size a) Γ us g s.1 (λ m u w. d m u (in_rest w)) k)
       ts t
 
@@ -418,6 +418,6 @@ mutual
   complete_inits T F C f D no_init n Γ ts g s d t = no_init_accepted T C D n Γ ts t
   complete_inits T F C f D (init x a is) n Γ ts g s d t =
       init_accepted T C D n Γ x a is
-      (λ k. complete T F C f D a (n + 1) Γ g s.1 (record { rule = λ m u w. d m u (in-value w) }) k)
-      (λ us k. complete_inits T F C f D is (n + 1 + size a) Γ us g s.2 (λ m u w. d m u (in-others w)) k)
+      (λ k. complete T F C f D a (n + 1) Γ g s.1 (record { rule = λ m u w. d m u (in_value w) }) k)
+      (λ us k. complete_inits T F C f D is (n + 1 + size a) Γ us g s.2 (λ m u w. d m u (in_others w)) k)
       ts t

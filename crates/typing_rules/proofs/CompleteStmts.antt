@@ -18,11 +18,11 @@ use Rattle.oat.proofs.LawsBasics.{and_parts}
 use Rattle.typing_rules.specs.Contexts.{Scope, binds, is_fresh, Context, inner}
 use Rattle.typing_rules.specs.Labels.{gives, marks, Label, Labels, unlabelled}
 use Rattle.typing_rules.specs.Rules.{ExprRule, StmtRule, BlockRule, Typed, Marked, Ends, TypedAll, both, VarsChain, ConditionHolds, StepGoesOn, Chain, typ_assn, typ_decl, typ_rett, typ_retvoid, typ_scall, typ_if, typ_ifq, typ_while, typ_for, typ_block, while_mark}
-use Rattle.typing_rules.specs.Derivations.{At, Node, expression, statement, blocked, AtVars, at_var, in-var, in-vars, AtCondition, in-condition, InStmt, in-target, in-assigned, in-initial, in-returned, in-called, in-passed, in-test, in_then, in-else, in-nullable, in_some, in-null, in-for-vars, in-for-condition, in-for-step, in-for-body, in-while-test, in-while-body, AtStep, at_step, in_step, AtBlock, here_block, in_block, AtStmts, at_stmt, in-stmt, in-stmts, RuleAt, DerivesBlock, is_empty}
+use Rattle.typing_rules.specs.Derivations.{At, Node, expression, statement, blocked, AtVars, at_var, in_var, in_vars, AtCondition, in_condition, InStmt, in_target, in_assigned, in_initial, in_returned, in_called, in_passed, in_test, in_then, in_else, in_nullable, in_some, in_null, in_for_vars, in_for_condition, in_for_step, in_for_body, in_while_test, in_while_body, AtStep, at_step, in_step, AtBlock, here_block, in_block, AtStmts, at_stmt, in_stmt, in_stmts, RuleAt, DerivesBlock, is_empty}
 use Rattle.typing_rules.specs.Judge.{ok, marked_as, is_kind, referred, is_below, arguments_below, done, ends, execute_vars, judge_condition, execute, execute_step, execute_block, execute_all, executing, executing_all, executing_vars, judging_condition}
 use Rattle.typing_rules.proofs.Claims.{File, Value, ScopeFits, fits_bind, ContextFits, erase_scope, erase_context, erase_label, erase, gather_vars, gather_condition, gather_stmt, gather_step, gather_block, gather_stmts, erase_bindings}
 use Rattle.typing_rules.proofs.LawsBridge.{fresh_erase, assigns_erase, is_base, is_void, function_parts, nullable_parts, below_sub, arguments-below, arguments_many, types_of, Values, erase_append}
-use Rattle.typing_rules.proofs.LawsExecute.{vars_ok, condition_ok, assign_ok, var_ok, return_ok, return_void_ok, call_ok, if_ok, if-null-ok, for_ok, while_ok, step_ok, block_ok, then_ok}
+use Rattle.typing_rules.proofs.LawsExecute.{vars_ok, condition_ok, assign_ok, var_ok, return_ok, return_void_ok, call_ok, if_ok, if_null_ok, for_ok, while_ok, step_ok, block_ok, then_ok}
 use Rattle.typing_rules.proofs.Complete.{Accepted, complete, AcceptedAll, completes}
 
 pub record AcceptedBlock (T : Tables) (C : Context ℕ) (D : Labels Ty) (rt : ℕ) (b : Block) (n : ℕ) (Γ : Scope ℕ) : Type 0 where
@@ -225,10 +225,10 @@ module _ (T : Tables) (F : File T) (C : Context ℕ) (D : Labels Ty) (rt : ℕ) 
       let o = call_ok T C rt last a es n Γ A.accepts kind returned (B.many ∙ many) B.accepts sub in
       stays T C D rt last (call_stmt a es) n 0 0 Γ g e k refl o (same_both T _ _ A.same B.same) refl
 
-  if-case : (a : Expr) (b c : Block) → Rule T C D rt last n (if_else a b c) → ExprAt T C D a (n + 1) Γ → BlockAt T C D rt b (n + 1 + size a) (inner Γ)
+  if_case : (a : Expr) (b c : Block) → Rule T C D rt last n (if_else a b c) → ExprAt T C D a (n + 1) Γ → BlockAt T C D rt b (n + 1 + size a) (inner Γ)
       → BlockAt T C D rt c (n + 1 + size a + size_block b) (inner Γ) → AcceptedStmt T C D rt last (if_else a b c) n Γ
   unfolding gather_stmt
-  if-case a b c (typ_if p q h i j k) fa fb fc =
+  if_case a b c (typ_if p q h i j k) fa fb fc =
       let A = fa (h.scope ∙ e) in
       let X = fb g (i.scope ∙ ap (λ (G : Scope Ty). inner G) e) in
       let Y = fc g (j.scope ∙ ap (λ (G : Scope Ty). inner G) e) in
@@ -237,11 +237,11 @@ module _ (T : Tables) (F : File T) (C : Context ℕ) (D : Labels Ty) (rt : ℕ) 
       let o = if_ok T C rt last a b c n Γ A.accepts test X.accepts Y.accepts in
       stays T C D rt last (if_else a b c) n (both p q) (both X.mark Y.mark) Γ g e k mark o (same_three T _ _ _ A.same X.same Y.same) refl
 
-  if-null-case : (x t : ℕ) (a : Expr) (b c : Block) → has_reference_kind T t ≡ true → Rule T C D rt last n (if_null x t a b c) → ExprAt T C D a (n + 1) Γ
+  if_null_case : (x t : ℕ) (a : Expr) (b c : Block) → has_reference_kind T t ≡ true → Rule T C D rt last n (if_null x t a b c) → ExprAt T C D a (n + 1) Γ
       → BlockAt T C D rt b (n + 1 + size a) (inner (binds (inner Γ) x t n)) → BlockAt T C D rt c (n + 1 + size a + size_block b) (inner Γ)
       → AcceptedStmt T C D rt last (if_null x t a b c) n Γ
   unfolding gather_stmt
-  if-null-case x t a b c m (typ_ifq r p q h s i j k) fa fb fc =
+  if_null_case x t a b c m (typ_ifq r p q h s i j k) fa fb fc =
       let v = reference_value T t m in
       let A = fa (h.scope ∙ e) in
       let X = fb (fits_bind g v) (i.scope ∙ ap (λ (G : Scope Ty). inner G) (binds_erase T (inner Γ) x t n (inner (D n).before) (type_of T t) (ap (λ (G : Scope Ty). inner G) e) refl)) in
@@ -249,7 +249,7 @@ module _ (T : Tables) (F : File T) (C : Context ℕ) (D : Labels Ty) (rt : ℕ) 
       let (kind, refers, value) = nullable_parts T F A.type A.value.within r (sym (type_is h A.result)) in
       let sub = sub_below T F C (referred T A.type) t r (type_of T t) value v refers refl s in
       let mark = ap₂ (λ (x y : ℕ). both x y) (mark_is i X.result) (mark_is j Y.result) in
-      let o = if-null-ok T C rt last x t a b c n Γ A.accepts kind sub X.accepts Y.accepts in
+      let o = if_null_ok T C rt last x t a b c n Γ A.accepts kind sub X.accepts Y.accepts in
       stays T C D rt last (if_null x t a b c) n (both p q) (both X.mark Y.mark) Γ g e k mark o (same_three T _ _ _ A.same X.same Y.same) refl
 
   while_case : (a : Expr) (b : Block) → Rule T C D rt last n (while a b) → ExprAt T C D a (n + 1) Γ → BlockAt T C D rt b (n + 1 + size a) (inner Γ)
@@ -378,7 +378,7 @@ module _ (T : Tables) (F : File T) (C : Context ℕ) (f : ContextFits T C) (D : 
   unfolding ConditionHolds judging_condition gather_condition
   complete_condition no_condition m n Γ g s d h = record { labels = unlabelled ∷ []; accepts = refl; same = same_unlabelled T D m h }
   complete_condition (condition a) m n Γ g s d h =
-      condition_case T F C D a m n Γ h (complete T F C f D a m Γ g s (record { rule = λ i u w. d i (expression u) (in-condition w) }) h.scope)
+      condition_case T F C D a m n Γ h (complete T F C f D a m Γ g s (record { rule = λ i u w. d i (expression u) (in_condition w) }) h.scope)
 
   complete_vars : (vs : Vars) (n : ℕ) (Γ : Scope ℕ) (Δ : Scope Ty) → ScopeFits T Γ → VarsStand T n vs
       → ((m : ℕ) (u : Node) → AtVars vs n m u → RuleAt T (erase_context T C) D rt m u) → VarsChain D n vs (erase_scope T Γ) Δ
@@ -387,8 +387,8 @@ module _ (T : Tables) (F : File T) (C : Context ℕ) (f : ContextFits T C) (D : 
   complete_vars no_var n Γ Δ g s d c = record { scope = Γ; labels = []; accepts = refl; after = c; fits = g; same = refl }
   complete_vars (next_var x a vs) n Γ Δ g s d c =
       next_case T F C D x a vs n Γ Δ rt g c (d n (statement false (var x a)) at_var)
-      (λ z. complete T F C f D a (n + 1) Γ g s.1 (record { rule = λ m u w. d m (expression u) (in-var w) }) z)
-      (λ Θ h k. complete_vars vs (n + 1 + size a) Θ Δ h s.2 (λ m u w. d m u (in-vars w)) k)
+      (λ z. complete T F C f D a (n + 1) Γ g s.1 (record { rule = λ m u w. d m (expression u) (in_var w) }) z)
+      (λ Θ h k. complete_vars vs (n + 1 + size a) Θ Δ h s.2 (λ m u w. d m u (in_vars w)) k)
 
 -- the recursion
 
@@ -406,39 +406,39 @@ module _ (T : Tables) (F : File T) (C : Context ℕ) (f : ContextFits T C) (D : 
         → AcceptedStmt T C D rt last s n Γ
     complete_stmt last (assign h a) n Γ g s o d e =
         assign_case T F C D rt last n Γ g e h a o
-        (λ z. expr (target_expr h) (n + 1) Γ g s.1 (λ m u w. d m (expression u) (in-target w)) z)
-        (λ z. expr a (n + 1 + size_target h) Γ g s.2 (λ m u w. d m (expression u) (in-assigned w)) z)
+        (λ z. expr (target_expr h) (n + 1) Γ g s.1 (λ m u w. d m (expression u) (in_target w)) z)
+        (λ z. expr a (n + 1 + size_target h) Γ g s.2 (λ m u w. d m (expression u) (in_assigned w)) z)
     complete_stmt last (var x a) n Γ g s o d e =
         var_case T F C D rt last n Γ g e x a o
-        (λ z. expr a (n + 1) Γ g s.1 (λ m u w. d m (expression u) (in-initial w)) z)
+        (λ z. expr a (n + 1) Γ g s.1 (λ m u w. d m (expression u) (in_initial w)) z)
     complete_stmt last (return_value a) n Γ g s o d e =
         return_case T F C D rt last n Γ g e a r o
-        (λ z. expr a (n + 1) Γ g s.1 (λ m u w. d m (expression u) (in-returned w)) z)
+        (λ z. expr a (n + 1) Γ g s.1 (λ m u w. d m (expression u) (in_returned w)) z)
     complete_stmt last return_void n Γ g s o d e = return_void_case T F C D rt last n Γ g e r o
     complete_stmt last (call_stmt a es) n Γ g s o d e =
         call_case T F C D rt last n Γ g e a es o
-        (λ z. expr a (n + 1) Γ g s.1 (λ m u w. d m (expression u) (in-called w)) z)
-        (λ ts t. completes T F C f D es (n + 1 + size a) Γ ts g s.2 (λ m u w. d m (expression u) (in-passed w)) t)
+        (λ z. expr a (n + 1) Γ g s.1 (λ m u w. d m (expression u) (in_called w)) z)
+        (λ ts t. completes T F C f D es (n + 1 + size a) Γ ts g s.2 (λ m u w. d m (expression u) (in_passed w)) t)
     complete_stmt last (if_else a b c) n Γ g s o d e =
-        if-case T F C D rt last n Γ g e a b c o
-        (λ z. expr a (n + 1) Γ g s.1 (λ m u w. d m (expression u) (in-test w)) z)
+        if_case T F C D rt last n Γ g e a b c o
+        (λ z. expr a (n + 1) Γ g s.1 (λ m u w. d m (expression u) (in_test w)) z)
         (λ h z. block_accepted b (n + 1 + size a) (inner Γ) h s.2 (λ m u w. d m u (in_then w)) z)
-        (λ h z. block_accepted c (n + 1 + size a + size_block b) (inner Γ) h s.3 (λ m u w. d m u (in-else w)) z)
+        (λ h z. block_accepted c (n + 1 + size a + size_block b) (inner Γ) h s.3 (λ m u w. d m u (in_else w)) z)
     complete_stmt last (if_null x t a b c) n Γ g s o d e =
-        if-null-case T F C D rt last n Γ g e x t a b c s.1 o
-        (λ z. expr a (n + 1) Γ g s.2 (λ m u w. d m (expression u) (in-nullable w)) z)
+        if_null_case T F C D rt last n Γ g e x t a b c s.1 o
+        (λ z. expr a (n + 1) Γ g s.2 (λ m u w. d m (expression u) (in_nullable w)) z)
         (λ h z. block_accepted b (n + 1 + size a) (inner (binds (inner Γ) x t n)) h s.3 (λ m u w. d m u (in_some w)) z)
-        (λ h z. block_accepted c (n + 1 + size a + size_block b) (inner Γ) h s.4 (λ m u w. d m u (in-null w)) z)
+        (λ h z. block_accepted c (n + 1 + size a + size_block b) (inner Γ) h s.4 (λ m u w. d m u (in_null w)) z)
     complete_stmt last (for vs c p b) n Γ g s o d e =
         for_case T F C D rt last n Γ g e vs c p b o
-        (λ Δ z. complete_vars T F C f D (type_of T rt) vs (n + 1) (inner Γ) Δ g s.1 (λ m u w. d m u (in-for-vars w)) z)
-        (λ Θ h z. complete_condition T F C f D (type_of T rt) c (n + 1 + size_vars vs) n Θ h s.2 (λ m u w. d m u (in-for-condition w)) z)
-        (λ Θ h z. complete_step p (n + 1 + size_vars vs + size_condition c) Θ h s.3 (λ m u w. d m u (in-for-step w)) z)
-        (λ Θ h z. block_accepted b (n + 1 + size_vars vs + size_condition c + size_step p) (inner Θ) h s.4 (λ m u w. d m u (in-for-body w)) z)
+        (λ Δ z. complete_vars T F C f D (type_of T rt) vs (n + 1) (inner Γ) Δ g s.1 (λ m u w. d m u (in_for_vars w)) z)
+        (λ Θ h z. complete_condition T F C f D (type_of T rt) c (n + 1 + size_vars vs) n Θ h s.2 (λ m u w. d m u (in_for_condition w)) z)
+        (λ Θ h z. complete_step p (n + 1 + size_vars vs + size_condition c) Θ h s.3 (λ m u w. d m u (in_for_step w)) z)
+        (λ Θ h z. block_accepted b (n + 1 + size_vars vs + size_condition c + size_step p) (inner Θ) h s.4 (λ m u w. d m u (in_for_body w)) z)
     complete_stmt last (while a b) n Γ g s o d e =
         while_case T F C D rt last n Γ g e a b o
-        (λ z. expr a (n + 1) Γ g s.1 (λ m u w. d m (expression u) (in-while-test w)) z)
-        (λ h z. block_accepted b (n + 1 + size a) (inner Γ) h s.2 (λ m u w. d m u (in-while-body w)) z)
+        (λ z. expr a (n + 1) Γ g s.1 (λ m u w. d m (expression u) (in_while_test w)) z)
+        (λ h z. block_accepted b (n + 1 + size a) (inner Γ) h s.2 (λ m u w. d m u (in_while_body w)) z)
 
     complete_step : (s : Step) (n : ℕ) (Γ : Scope ℕ) → ScopeFits T Γ → StepStands T n s
         → ((m : ℕ) (u : Node) → AtStep s n m u → RuleAt T (erase_context T C) D (type_of T rt) m u) → StepGoesOn D n (erase_scope T Γ) s
@@ -459,8 +459,8 @@ module _ (T : Tables) (F : File T) (C : Context ℕ) (f : ContextFits T C) (D : 
     complete_stmts empty n previous p Γ q g s d c = no_stmts T C D rt n Γ previous p q c
     complete_stmts (then t ss) n previous p Γ q g s d c =
         then_case T C D rt n Γ t ss previous p q c
-        (λ z. complete_stmt (is_empty ss) t n Γ g s.0 (d n (statement (is_empty ss) t) at_stmt) (λ m u w. d m u (in-stmt w)) z)
-        (λ k Δ h z. complete_stmts ss (n + size_stmt t) n k Δ q h s.1 (λ m u w. d m u (in-stmts w)) z)
+        (λ z. complete_stmt (is_empty ss) t n Γ g s.0 (d n (statement (is_empty ss) t) at_stmt) (λ m u w. d m u (in_stmt w)) z)
+        (λ k Δ h z. complete_stmts ss (n + size_stmt t) n k Δ q h s.1 (λ m u w. d m u (in_stmts w)) z)
 
 -- rt is the number of the function's return type
 pub complete_block : (T : Tables) → File T → (C : Context ℕ) → ContextFits T C → (D : Labels Ty) (rt : ℕ) (b : Block) (n : ℕ) (Γ : Scope ℕ)

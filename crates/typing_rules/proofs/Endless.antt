@@ -14,7 +14,7 @@ use Rattle.oat.specs.ProgramFile.{Program}
 use Rattle.typing_rules.specs.Contexts.{Scope, empty as no-scope, Context}
 use Rattle.typing_rules.specs.Labels.{Result, gives, marks, nothing, Label, Labels}
 use Rattle.typing_rules.specs.Rules.{Chain, is_true, while_mark, StmtRule, typ_while, typ_for, BlockRule, typ_block}
-use Rattle.typing_rules.specs.Derivations.{statement, AtBlock, here_block, in_block, AtStmts, at_stmt, in-stmts, DerivesBlock}
+use Rattle.typing_rules.specs.Derivations.{statement, AtBlock, here_block, in_block, AtStmts, at_stmt, in_stmts, DerivesBlock}
 use Rattle.typing_rules.specs.Endless.{InBodies, ending_in}
 use Rattle.typing_rules.specs.Steps.{body, distinct_names, Unlabelled, parameters, StepRule, typ_fdeclok, DerivesFile}
 use Rattle.typing_rules.specs.Rows.{ResultIs, DeclRows}
@@ -55,7 +55,7 @@ ends_so : (D : Labels Ty) (c : Block) (ss : Stmts) (m p : ℕ) (Γ : Scope Ty) (
     → ((i : ℕ) → AtStmts (ending_in ss (while (literal truth) c)) m i (statement true (while (literal truth) c)) → (D i).result ≡ marks 1) → q ≡ 1
 unfolding Chain
 ends_so D c empty m p Γ q (r, z, k, e) f = e ∙ marks_is (sym k.mark ∙ f m at_stmt)
-ends_so D c (then t ss) m p Γ q (r, z, k, e) f = ends_so D c ss (m + size_stmt t) r (D m).after q e (λ i w. f i (in-stmts w))
+ends_so D c (then t ss) m p Γ q (r, z, k, e) f = ends_so D c ss (m + size_stmt t) r (D m).after q e (λ i w. f i (in_stmts w))
 
 module _ {T : Tables} {C : Context Ty} {D : Labels Ty} (ss : Stmts) (c : Block) where
   ends_block : {rt : Ty} {n : ℕ} → DerivesBlock T C D rt (block (ending_in ss (while (literal truth) c))) n

@@ -72,9 +72,9 @@ unfolding nearest
 agree_bind {Γ} {Δ} x t n a = record { means = λ y. ap (λ h. pick (eqb x y) (hit t n) h) (a.means y) }
 
 -- a binding means the same whatever block it belongs to
-pub agree-index : (Γ : Scope ℕ) (x t n : ℕ) → Agree (binds Γ x t n) (binds (inner Γ) x t n)
+pub agree_index : (Γ : Scope ℕ) (x t n : ℕ) → Agree (binds Γ x t n) (binds (inner Γ) x t n)
 unfolding nearest
-agree-index Γ x t n = record { means = λ y. refl }
+agree_index Γ x t n = record { means = λ y. refl }
 
 module _ (T : Tables) (C : Context ℕ) where
   mutual

@@ -12,16 +12,16 @@ use Rattle.oat.specs.ProgramFile.{Program}
 use Rattle.typing_rules.specs.Contexts.{Context}
 use Rattle.typing_rules.specs.Labels.{Labels}
 use Rattle.typing_rules.specs.Derivations.{Node, AtBlock}
-use Rattle.typing_rules.specs.Endless.{InBodies, in_body, in-others}
+use Rattle.typing_rules.specs.Endless.{InBodies, in_body, in_others}
 use Rattle.typing_rules.specs.Steps.{Step, body, bodies, steps_of, StepRule, empty_context, StepsRule, step_left, next_step, DerivesFile}
-use Rattle.typing_rules.proofs.LawsSegments.{In, in-first, in-later}
+use Rattle.typing_rules.proofs.LawsSegments.{In, in_first, in_later}
 use Rattle.typing_rules.proofs.RowsTheorem.{body_in}
 
 -- the rule of a step among steps that have a derivation
 rule_of : {T : Tables} {D : Labels Ty} {C E : Context Ty} {s : Step} {ss : List Step} → StepsRule T D C ss E → In s ss → (B : Context Ty) × StepRule T B D s
 rule_of step_left i = elim i [ ]
-rule_of (next_step r rs) in-first = (_, r)
-rule_of (next_step r rs) (in-later i) = rule_of rs i
+rule_of (next_step r rs) in_first = (_, r)
+rule_of (next_step r rs) (in_later i) = rule_of rs i
 
 -- every step has its rule; so have those of a file
 abbrev pub StepsRuled : Tables → Labels Ty → List Step → Type 0
@@ -43,10 +43,10 @@ of_bodies : {T : Tables} {D : Labels Ty} (ds : List Decl) (n m : ℕ) {u : Node}
 unfolding bodies
 of_bodies [] n m f w = elim w [ ]
 of_bodies (function x t ps b ∷ ds) n m f (in_body w) =
-    let (B, r) = f (body n t ps b) in-first in
+    let (B, r) = f (body n t ps b) in_first in
     record { node = n; type = t; parameters = ps; block = b; context = B; rule = r; stands = w }
-of_bodies (function x t ps b ∷ ds) n m f (in-others w) = of_bodies ds (n + size_decl (function x t ps b)) m (λ s i. f s (in-later i)) w
-of_bodies (global x a ∷ ds) n m f (in-others w) = of_bodies ds (n + size_decl (global x a)) m f w
+of_bodies (function x t ps b ∷ ds) n m f (in_others w) = of_bodies ds (n + size_decl (function x t ps b)) m (λ s i. f s (in_later i)) w
+of_bodies (global x a ∷ ds) n m f (in_others w) = of_bodies ds (n + size_decl (global x a)) m f w
 
 pub of_body : (p : Program) (D : Labels Ty) (C : Context Ty) (m : ℕ) {u : Node} → DerivesFile p D C → InBodies 0 p.declarations m u → OfBody p.tables D m u
 of_body p D C m d w = of_bodies p.declarations 0 m (λ s i. step_rule p D C d s (body_in p s i)) w

@@ -25,7 +25,7 @@ use Rattle.oat.proofs.LawsFormed.{nullable_formed, ref_formed, value_formed, for
 use Rattle.typing_rules.specs.Contexts.{Bindings, unbound, bind, Scope, Hit, hit, miss, nearest, find, is_miss, is_fresh_at, is_fresh, Entry, Context, find_name, is_fixed}
 use Rattle.typing_rules.specs.Operators.{base_type}
 use Rattle.typing_rules.specs.Labels.{Label, Labels}
-use Rattle.typing_rules.specs.Rules.{SubEach, each_none, each_also, HasDefault, default_int, default_bool, default_null, Member, has, lacks, member, InitsBelow, below_no_init, below-init, names_fit, assigns}
+use Rattle.typing_rules.specs.Rules.{SubEach, each_none, each_also, HasDefault, default_int, default_bool, default_null, Member, has, lacks, member, InitsBelow, below_no_init, below_init, names_fit, assigns}
 use Rattle.typing_rules.specs.Judge.{is_kind, referred, is_below, formed, has_default, each_below, arguments_below, number, field_of, is_below_member, inits_below, assigns_to, arguments_asked, each_asked, inits_asked}
 use Rattle.typing_rules.proofs.Claims.{File, Value, BindingsFit, ScopeFits, fits_empty, fits_bind, NamesFit, fits_none, fits_name, ContextFits, erase_bindings, erase_scope, erase_names, erase_context, erase_label, erase, Holds}
 use Rattle.typing_rules.proofs.LawsFields.{member_of, member_in, member_is, from_lookup, from_number, number_value}
@@ -294,7 +294,7 @@ module _ {H : List Struct} where
 
   init_parts : {fs : List Field} {x : ℕ} {a : Expr} {is : Inits} {t : Ty} {ts : Tys} → InitsBelow H fs (init x a is) (and_ty t ts)
       → ((u : Ty) × (member x fs ≡ has u) × Sub H t u) × InitsBelow H fs is ts
-  init_parts (below-init u m s r) = ((u, m, s), r)
+  init_parts (below_init u m s r) = ((u, m, s), r)
 
   -- a nullable type is well-formed when what it refers to is
   null_formed : {r : Ty} → is_ref r ≡ true → (is_formed H (nullable r) ≡ true) ↔ Formed H r
@@ -367,21 +367,21 @@ module _ (T : Tables) (F : File T) (C : Context ℕ) where
   member_below a (has u) v =
       iff_then (below_type a u v) (λ s. (u, refl, s), λ s. subst (Sub C.structs (type_of T a)) (let e = s.1 in cc) s.2)
 
-  each-init : (fs : List Field) (is : Inits) (ts : List ℕ) → Values T ts → length ts ≡ count_inits is
+  each_init : (fs : List Field) (is : Inits) (ts : List ℕ) → Values T ts → length ts ≡ count_inits is
       → (inits_below T C fs is ts ≡ true) ↔ InitsBelow C.structs fs is (types_of T ts)
   unfolding inits_asked types_of
-  each-init fs no_init [] values_none l = holds below_no_init
-  each-init fs no_init (t ∷ ts) (values_also v vs) l = absurd (omega arith)
-  each-init fs (init x a is) [] values_none l = absurd (omega arith)
-  each-init fs (init x a is) (t ∷ ts) (values_also v vs) l =
+  each_init fs no_init [] values_none l = holds below_no_init
+  each_init fs no_init (t ∷ ts) (values_also v vs) l = absurd (omega arith)
+  each_init fs (init x a is) [] values_none l = absurd (omega arith)
+  each_init fs (init x a is) (t ∷ ts) (values_also v vs) l =
       iff_then
-      (and_says (is_below_member T C t (member x fs)) (inits_below T C fs is ts) (member_below t (member x fs) v) (each-init fs is ts vs (omega arith)))
-      (λ s. below-init s.0.0 s.0.1 s.0.2 s.1, init_parts)
+      (and_says (is_below_member T C t (member x fs)) (inits_below T C fs is ts) (member_below t (member x fs) v) (each_init fs is ts vs (omega arith)))
+      (λ s. below_init s.0.0 s.0.1 s.0.2 s.1, init_parts)
 
   pub inits-below : (fs : List Field) (is : Inits) (ts : List ℕ) → ((x : ℕ) (u : Ty) → member x fs ≡ has u → u ≡ void → ⊥)
       → Values T ts → length ts ≡ count_inits is → names_fit fs is ≡ true
       → (inits_below T C fs is ts ≡ true) ↔ InitsBelow C.structs fs is (types_of T ts)
-  inits-below fs is ts n v l g = each-init fs is ts v l
+  inits-below fs is ts n v l g = each_init fs is ts v l
 
 -- fields of declared structs
 module _ (T : Tables) (F : File T) (C : Context ℕ) (f : ContextFits T C) where

@@ -57,12 +57,12 @@ module _ (T : Tables) (C : Context ℕ) (rt : ℕ) (last : Bool) where
   unfolding executing
   if_ok a b c n Γ h i j k = rw (h, i, j, k)
 
-  pub if-null-ok : (x t : ℕ) (a : Expr) (b c : Block) (n : ℕ) (Γ : Scope ℕ) {u p q : ℕ} {L M N : List (Label ℕ)} → judge T C a (n + 1) Γ ≡ ok u L
+  pub if_null_ok : (x t : ℕ) (a : Expr) (b c : Block) (n : ℕ) (Γ : Scope ℕ) {u p q : ℕ} {L M N : List (Label ℕ)} → judge T C a (n + 1) Γ ≡ ok u L
       → is_kind T u 7 ≡ true → is_below T C (referred T u) t ≡ true → execute_block T C rt b (n + 1 + size a) (inner (binds (inner Γ) x t n)) ≡ ok p M
       → execute_block T C rt c (n + 1 + size a + size_block b) (inner Γ) ≡ ok q N
       → execute T C rt last (if_null x t a b c) n Γ ≡ ends (both p q) Γ Γ (L ++ (M ++ N))
   unfolding executing
-  if-null-ok x t a b c n Γ h i j k l = rw (h, i, j, k, l)
+  if_null_ok x t a b c n Γ h i j k l = rw (h, i, j, k, l)
 
   pub for_ok : (vs : Vars) (c : Condition) (s : Step) (b : Block) (n : ℕ) (Γ : Scope ℕ) {Δ Δ₁ : Scope ℕ} {p q : ℕ} {L M N O : List (Label ℕ)}
       → execute_vars T C vs (n + 1) (inner Γ) ≡ ok Δ L → judge_condition T C c (n + 1 + size_vars vs) n Δ ≡ ok Δ₁ M

@@ -11,7 +11,7 @@ use Rattle.oat.specs.Types.{Ty}
 use Rattle.oat.specs.Syntax.{Expr, Block, Decl, global, function, size, size_block, size_decl}
 use Rattle.typing_rules.specs.Labels.{marks, Label, Labels}
 use Rattle.typing_rules.specs.Derivations.{Node}
-use Rattle.typing_rules.specs.Endless.{InBodies, in_body, in-others}
+use Rattle.typing_rules.specs.Endless.{InBodies, in_body, in_others}
 use Rattle.typing_rules.specs.Rows.{ResultIs, RowsAre, rows_node, labels_from, DeclRows, global_rows, function_rows}
 use Rattle.typing_rules.proofs.LawsPlaced.{block_holds}
 use Rattle.typing_rules.proofs.RowsTheorem.{rows_long, parameters_long, labels_long}
@@ -79,7 +79,7 @@ row_low (d ∷ ds) (of_others w) = omega (arith, row_low ds w)
 body_has_row : (ds : List Decl) {n m : ℕ} {u : Node} → InBodies n ds m u → HasRow n ds m
 body_has_row [] w = elim w [ ]
 body_has_row (function x t ps b ∷ ds) (in_body w) = let (h, k) = block_holds b w in of_block h k
-body_has_row (d ∷ ds) (in-others w) = of_others (body_has_row ds w)
+body_has_row (d ∷ ds) (in_others w) = of_others (body_has_row ds w)
 
 -- among the rows of the declarations that stand from n on
 decl_row : (T : Tables) (D : Labels Ty) (ds : List Decl) (n i m : ℕ) (R : List ℕ) → DeclRows T D n ds R → HasRow n ds m → m ≡ n + i → RowIs T (D m) i R

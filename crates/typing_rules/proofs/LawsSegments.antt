@@ -141,12 +141,12 @@ run_segments {T} F {D} {C} (labelled_step {B = B} {s = s} {ss = ss} {L = L} e r 
 
 -- a step is one of the list
 pub data In (s : Step) : List Step → Type 0 where
-  in-first : {ss : List Step} → In s (s ∷ ss)
-  in-later : {r : Step} {ss : List Step} → In s ss → In s (r ∷ ss)
+  in_first : {ss : List Step} → In s (s ∷ ss)
+  in_later : {r : Step} {ss : List Step} → In s ss → In s (r ∷ ss)
 
-in-at : {s : Step} {ss : List Step} → In s ss → 1 ≤ node_count s → 1 ≤ steps_at (rows_begin s) ss
-in-at {s} in-first h = rw (within_true (rows_begin s) (node_count s) (rows_begin s) (omega arith) (omega arith)) (omega arith)
-in-at (in-later i) h = omega (arith, in-at i h)
+in_at : {s : Step} {ss : List Step} → In s ss → 1 ≤ node_count s → 1 ≤ steps_at (rows_begin s) ss
+in_at {s} in_first h = rw (within_true (rows_begin s) (node_count s) (rows_begin s) (omega arith) (omega arith)) (omega arith)
+in_at (in_later i) h = omega (arith, in_at i h)
 
 -- rows are there exactly where nodes are
 label_rows : {T : Tables} {R : List ℕ} (D : Labels Ty) (n k : ℕ) → RowsAre T (labels_from D n k) R → 1 ≤ k → 1 ≤ length R
@@ -198,7 +198,7 @@ module _ {T : Tables} {D : Labels Ty} (n : ℕ) (r : Step) (g : Segment) (gs : L
 pub found_rows : {T : Tables} {D : Labels Ty} {ss : List Step} {gs : List Segment} → Segments T D ss gs → {s : Step} → In s ss → 1 ≤ node_count s
     → steps_at (rows_begin s) ss ≤ 1 → RowsFit T D s (segment_at (rows_begin s) gs)
 found_rows segments_none i h o = elim i [ ]
-found_rows {T} {D} (segments_step {g = g} {gs = gs} e r q) {s} in-first h o =
+found_rows {T} {D} (segments_step {g = g} {gs = gs} e r q) {s} in_first h o =
     subst (RowsFit T D s) (sym (segment_here (rows_begin s) g gs e (some_rows r h))) r
-found_rows {T} {D} (segments_step {s = r} {ss = ss} {g = g} {gs = gs} e w q) {s} (in-later i) h o =
-    subst (RowsFit T D s) (sym (skipped (rows_begin s) r g gs e w ss o (in-at i h))) (found_rows q i h (omega (arith, o)))
+found_rows {T} {D} (segments_step {s = r} {ss = ss} {g = g} {gs = gs} e w q) {s} (in_later i) h o =
+    subst (RowsFit T D s) (sym (skipped (rows_begin s) r g gs e w ss o (in_at i h))) (found_rows q i h (omega (arith, o)))

@@ -16,11 +16,11 @@ use Rattle.oat.proofs.LawsMarks.{each_append}
 use Rattle.typing_rules.specs.Contexts.{Scope, Context}
 use Rattle.typing_rules.specs.Labels.{Result, gives, marks, nothing, Label, Labels}
 use Rattle.typing_rules.specs.Rules.{both, is_true, Chain, StmtRule, typ_assn, typ_decl, typ_rett, typ_retvoid, typ_scall, typ_if, typ_ifq, typ_while, typ_for, BlockRule, typ_block}
-use Rattle.typing_rules.specs.Derivations.{Node, statement, blocked, is_empty, AtVars, at_var, in-vars, InStmt, in_then, in-else, in_some, in-null, in-for-vars, in-for-step, in-for-body, in-while-body, AtStep, at_step, in_step, AtBlock, here_block, in_block, AtStmts, at_stmt, in-stmt, in-stmts, RuleAt, DerivesBlock}
-use Rattle.typing_rules.specs.Endless.{InBodies, in_body, in-others}
+use Rattle.typing_rules.specs.Derivations.{Node, statement, blocked, is_empty, AtVars, at_var, in_vars, InStmt, in_then, in_else, in_some, in_null, in_for_vars, in_for_step, in_for_body, in_while_body, AtStep, at_step, in_step, AtBlock, here_block, in_block, AtStmts, at_stmt, in_stmt, in_stmts, RuleAt, DerivesBlock}
+use Rattle.typing_rules.specs.Endless.{InBodies, in_body, in_others}
 use Rattle.typing_rules.specs.Steps.{body, bodies, StepRule, typ_fdeclok, DerivesFile}
 use Rattle.typing_rules.specs.Rows.{ResultIs, DeclRows}
-use Rattle.typing_rules.proofs.LawsSegments.{in-first, in-later}
+use Rattle.typing_rules.proofs.LawsSegments.{in_first, in_later}
 use Rattle.typing_rules.proofs.RowsTheorem.{body_in}
 use Rattle.typing_rules.proofs.LawsBodies.{StepsRuled, step_rule}
 use Rattle.typing_rules.proofs.LawsRowsAt.{row_at, FunctionAt, this_function, later_function, function_row}
@@ -85,7 +85,7 @@ module _ (T : Tables) (C : Context Ty) (D : Labels Ty) (rt : Ty) (P : ℕ → �
   vars-marks : (vs : Vars) (n : ℕ) → Told (AtVars vs n) → EachMark Holds (vars_marks vs n)
   unfolding vars_marks
   vars-marks no_var n f = each_none
-  vars-marks (next_var x a vs) n f = each_next (go (f n (statement false (var x a)) at_var)) (vars-marks vs (n + 1 + size a) (λ m u w. f m u (in-vars w)))
+  vars-marks (next_var x a vs) n f = each_next (go (f n (statement false (var x a)) at_var)) (vars-marks vs (n + 1 + size a) (λ m u w. f m u (in_vars w)))
     where
       go : StmtRule T C D rt false n (var x a) × ((q : ℕ) → (D n).result ≡ marks q → P n q) → P n 0
       go (typ_decl t h i e, k) = k 0 e.mark
@@ -118,18 +118,18 @@ module _ (T : Tables) (C : Context Ty) (D : Labels Ty) (rt : Ty) (P : ℕ → �
     stmt_marks (call_stmt a es) last n (typ_scall us ts h i j e) f = (e.mark, each_none)
     stmt_marks (if_else a b c) last n (typ_if p q h i j e) f =
         arms (block_returns b) (block_returns c) (block_marks b (n + 1 + size a)) e.mark i.mark j.mark
-        (block-marks b (n + 1 + size a) (λ m u w. f m u (in_then w))) (block-marks c (n + 1 + size a + size_block b) (λ m u w. f m u (in-else w)))
+        (block-marks b (n + 1 + size a) (λ m u w. f m u (in_then w))) (block-marks c (n + 1 + size a + size_block b) (λ m u w. f m u (in_else w)))
     stmt_marks (if_null x t a b c) last n (typ_ifq r p q h i j k e) f =
         arms (block_returns b) (block_returns c) (block_marks b (n + 1 + size a)) e.mark j.mark k.mark
-        (block-marks b (n + 1 + size a) (λ m u w. f m u (in_some w))) (block-marks c (n + 1 + size a + size_block b) (λ m u w. f m u (in-null w)))
+        (block-marks b (n + 1 + size a) (λ m u w. f m u (in_some w))) (block-marks c (n + 1 + size a + size_block b) (λ m u w. f m u (in_null w)))
     stmt_marks (for vs c s b) last n (typ_for Δ p h i j k e) f = (
       e.mark,
-      each_append (vars_marks vs (n + 1)) (vars-marks vs (n + 1) (λ m u w. f m u (in-for-vars w)))
-          (each_append (step_marks s (n + 1 + size_vars vs + size_condition c)) (step-marks s (n + 1 + size_vars vs + size_condition c) (λ m u w. f m u (in-for-step w)))
-          (block-marks b (n + 1 + size_vars vs + size_condition c + size_step s) (λ m u w. f m u (in-for-body w))).1),
+      each_append (vars_marks vs (n + 1)) (vars-marks vs (n + 1) (λ m u w. f m u (in_for_vars w)))
+          (each_append (step_marks s (n + 1 + size_vars vs + size_condition c)) (step-marks s (n + 1 + size_vars vs + size_condition c) (λ m u w. f m u (in_for_step w)))
+          (block-marks b (n + 1 + size_vars vs + size_condition c + size_step s) (λ m u w. f m u (in_for_body w))).1),
     )
     stmt_marks (while a b) last n (typ_while p h i e) f =
-        (e.mark ∙ ap (λ x. marks (mark_of (last && x))) (node_true a), (block-marks b (n + 1 + size a) (λ m u w. f m u (in-while-body w))).1)
+        (e.mark ∙ ap (λ x. marks (mark_of (last && x))) (node_true a), (block-marks b (n + 1 + size a) (λ m u w. f m u (in_while_body w))).1)
 
     step-marks : (s : Step) (n : ℕ) → Told (AtStep s n) → EachMark Holds (step_marks s n)
     step-marks no_step n f = each_none
@@ -147,9 +147,9 @@ module _ (T : Tables) (C : Context Ty) (D : Labels Ty) (rt : Ty) (P : ℕ → �
     stmts-marks empty b n Γ q c f = (c, each_none)
     stmts-marks (then s ss) b n Γ q (r, z, i, c) f =
         let (rule, k) = f n (statement (is_empty ss) s) at_stmt in
-        let (mark, all) = stmt_marks s (is_last ss) n (subst (λ last. StmtRule T C D rt last n s) (last_is ss) rule) (λ m u w. f m u (in-stmt w)) in
+        let (mark, all) = stmt_marks s (is_last ss) n (subst (λ last. StmtRule T C D rt last n s) (last_is ss) rule) (λ m u w. f m u (in_stmt w)) in
         let (same, rest) = stmts-marks ss (stmt_returns (is_last ss) s) (n + size_stmt s) (D n).after q
-        (subst (λ x. Chain D (n + size_stmt s) ss x (D n).after q) (marks_is (sym i.mark ∙ mark)) c) (λ m u w. f m u (in-stmts w)) in
+        (subst (λ x. Chain D (n + size_stmt s) ss x (D n).after q) (marks_is (sym i.mark ∙ mark)) c) (λ m u w. f m u (in_stmts w)) in
         (same ∙ ap mark_of (end_is s ss), each_next (k _ mark) (each_append (marks_below s n) all rest))
 
 module _ {T : Tables} {C : Context Ty} {D : Labels Ty} {rt : Ty} where
@@ -178,13 +178,13 @@ decl-marks : {T : Tables} {D : Labels Ty} (P : ℕ → ℕ → Type 0) (ds : Lis
     → EachMark (λ k. P k.node (mark_of k.returns)) (decl_marks n ds)
 unfolding bodies decl_marks
 decl-marks P [] n f g h = each_none
-decl-marks P (global x a ∷ ds) n f g h = decl-marks P ds (n + size_decl (global x a)) f (λ m u w. g m u (in-others w)) (λ m k w. h m k (later_function w))
+decl-marks P (global x a ∷ ds) n f g h = decl-marks P ds (n + size_decl (global x a)) f (λ m u w. g m u (in_others w)) (λ m k w. h m k (later_function w))
 decl-marks P (function x t ps b ∷ ds) n f g h =
-    let (B, rule) = f (body n t ps b) in-first in
+    let (B, rule) = f (body n t ps b) in_first in
     let (mark, all) = body_marks P b rule (λ m u w. g m u (in_body w)) in
     each_next (h n (n + 1 + length ps) this_function _ mark)
     (each_append (block_marks b (n + 1 + length ps)) all
-    (decl-marks P ds (n + size_decl (function x t ps b)) (λ s i. f s (in-later i)) (λ m u w. g m u (in-others w)) (λ m k w. h m k (later_function w))))
+    (decl-marks P ds (n + size_decl (function x t ps b)) (λ s i. f s (in_later i)) (λ m u w. g m u (in_others w)) (λ m k w. h m k (later_function w))))
 
 -- a row whose label has a mark
 result_is : (T : Tables) {q r : ℕ} (x : Result Ty) (L : List (Label Ty)) → x ≡ marks q → ResultIs T x L r → r ≡ q

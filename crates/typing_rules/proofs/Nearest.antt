@@ -16,8 +16,8 @@ use Rattle.oat.specs.Syntax.{Expr, name, array_literal, default_array, array_wit
 use Rattle.oat.specs.ProgramFile.{Program}
 use Rattle.typing_rules.specs.Contexts.{Binding, Bindings, unbound, bind, Scope, empty as empty_scope, binds, inner, hit, miss, nearest, is_fresh_at, is_fresh, Context}
 use Rattle.typing_rules.specs.Labels.{gives, Labels}
-use Rattle.typing_rules.specs.Rules.{TypedAll, typed_also, TypedInits, typed-init, ExprRule, typ_local, typ_global, typ_carr, typ_newarray, typ_newarrayinit, typ-index, typ_length, typ_structex, typ_field, typ_call, typ_bop, typ_eq, typ_uop, VarsChain, ConditionHolds, StepGoesOn, Chain, StmtRule, typ_assn, typ_decl, typ_rett, typ_retvoid, typ_scall, typ_if, typ_ifq, typ_while, typ_for, BlockRule, typ_block}
-use Rattle.typing_rules.specs.Derivations.{At, here, in-elements, in-length, in-with-length, in-with-value, in-indexed, in-position, in-measured, in-fields, in-record, in-callee, in-arguments, in-operand, in_left, in_right, AtAll, in-first, in_rest, AtInits, in-value, in-others, Node, expression, AtVars, at_var, in-var, in-vars, AtCondition, in-condition, InStmt, in-target, in-assigned, in-initial, in-returned, in-called, in-passed, in-test, in_then, in-else, in-nullable, in_some, in-null, in-for-vars, in-for-condition, in-for-step, in-for-body, in-while-test, in-while-body, AtStep, at_step, in_step, AtBlock, here_block, in_block, AtStmts, at_stmt, in-stmt, in-stmts, RuleAt}
+use Rattle.typing_rules.specs.Rules.{TypedAll, typed_also, TypedInits, typed_init, ExprRule, typ_local, typ_global, typ_carr, typ_newarray, typ_newarrayinit, typ_index, typ_length, typ_structex, typ_field, typ_call, typ_bop, typ_eq, typ_uop, VarsChain, ConditionHolds, StepGoesOn, Chain, StmtRule, typ_assn, typ_decl, typ_rett, typ_retvoid, typ_scall, typ_if, typ_ifq, typ_while, typ_for, BlockRule, typ_block}
+use Rattle.typing_rules.specs.Derivations.{At, here, in_elements, in_length, in_with_length, in_with_value, in_indexed, in_position, in_measured, in_fields, in_record, in_callee, in_arguments, in_operand, in_left, in_right, AtAll, in_first, in_rest, AtInits, in_value, in_others, Node, expression, AtVars, at_var, in_var, in_vars, AtCondition, in_condition, InStmt, in_target, in_assigned, in_initial, in_returned, in_called, in_passed, in_test, in_then, in_else, in_nullable, in_some, in_null, in_for_vars, in_for_condition, in_for_step, in_for_body, in_while_test, in_while_body, AtStep, at_step, in_step, AtBlock, here_block, in_block, AtStmts, at_stmt, in_stmt, in_stmts, RuleAt}
 use Rattle.typing_rules.specs.Endless.{InBodies}
 use Rattle.typing_rules.specs.Steps.{body, is_among, distinct_names, parameters, StepRule, typ_fdeclok, DerivesFile}
 use Rattle.typing_rules.specs.Nearest.{Among, latest, earlier, Nearest, Means, means_local, means_outer}
@@ -125,7 +125,7 @@ module _ {T : Tables} {C : Context Ty} {D : Labels Ty} {n : ℕ} where
   with_value_of (typ_newarrayinit u v e o p q r h) = (_, q.scope)
 
   indexed_of : {a b : Expr} → ExprRule T C D n (index a b) → ((D (n + 1)).before ≡ (D n).before) × ((D (n + 1 + size a)).before ≡ (D n).before)
-  indexed_of (typ-index t p q h) = (p.scope, q.scope)
+  indexed_of (typ_index t p q h) = (p.scope, q.scope)
 
   measured_of : {a : Expr} → ExprRule T C D n (length_of a) → (D (n + 1)).before ≡ (D n).before
   measured_of (typ_length t p h) = p.scope
@@ -160,30 +160,30 @@ module _ {T : Tables} {C : Context Ty} {D : Labels Ty} where
   mutual
     expr_keeps : {e u : Expr} {n m : ℕ} → At e n m u → ((i : ℕ) (v : Expr) → At e n i v → ExprRule T C D i v) → Keeps D n → Keeps D m
     expr_keeps here f h = h
-    expr_keeps (in-elements w) f h = exprs_keep w (elements_of (f _ _ here)).1 (λ i v k. f i v (in-elements k)) h
-    expr_keeps (in-length w) f h = expr_keeps w (λ i v k. f i v (in-length k)) (kept (length-of (f _ _ here)) h)
-    expr_keeps (in-with-length w) f h = expr_keeps w (λ i v k. f i v (in-with-length k)) (kept (with_length_of (f _ _ here)) h)
-    expr_keeps (in-with-value w) f h = expr_keeps w (λ i v k. f i v (in-with-value k)) (kept (with_value_of (f _ _ here)).1 (layered_own h))
-    expr_keeps (in-indexed w) f h = expr_keeps w (λ i v k. f i v (in-indexed k)) (kept (indexed_of (f _ _ here)).0 h)
-    expr_keeps (in-position w) f h = expr_keeps w (λ i v k. f i v (in-position k)) (kept (indexed_of (f _ _ here)).1 h)
-    expr_keeps (in-measured w) f h = expr_keeps w (λ i v k. f i v (in-measured k)) (kept (measured_of (f _ _ here)) h)
-    expr_keeps (in-fields w) f h = inits_keep w (fields_of (f _ _ here)).1 (λ i v k. f i v (in-fields k)) h
-    expr_keeps (in-record w) f h = expr_keeps w (λ i v k. f i v (in-record k)) (kept (of_record (f _ _ here)) h)
-    expr_keeps (in-callee w) f h = expr_keeps w (λ i v k. f i v (in-callee k)) (kept (callee_of (f _ _ here)) h)
-    expr_keeps (in-arguments w) f h = exprs_keep w (arguments_of (f _ _ here)).1 (λ i v k. f i v (in-arguments k)) h
-    expr_keeps (in-operand w) f h = expr_keeps w (λ i v k. f i v (in-operand k)) (kept (operand_of (f _ _ here)) h)
+    expr_keeps (in_elements w) f h = exprs_keep w (elements_of (f _ _ here)).1 (λ i v k. f i v (in_elements k)) h
+    expr_keeps (in_length w) f h = expr_keeps w (λ i v k. f i v (in_length k)) (kept (length-of (f _ _ here)) h)
+    expr_keeps (in_with_length w) f h = expr_keeps w (λ i v k. f i v (in_with_length k)) (kept (with_length_of (f _ _ here)) h)
+    expr_keeps (in_with_value w) f h = expr_keeps w (λ i v k. f i v (in_with_value k)) (kept (with_value_of (f _ _ here)).1 (layered_own h))
+    expr_keeps (in_indexed w) f h = expr_keeps w (λ i v k. f i v (in_indexed k)) (kept (indexed_of (f _ _ here)).0 h)
+    expr_keeps (in_position w) f h = expr_keeps w (λ i v k. f i v (in_position k)) (kept (indexed_of (f _ _ here)).1 h)
+    expr_keeps (in_measured w) f h = expr_keeps w (λ i v k. f i v (in_measured k)) (kept (measured_of (f _ _ here)) h)
+    expr_keeps (in_fields w) f h = inits_keep w (fields_of (f _ _ here)).1 (λ i v k. f i v (in_fields k)) h
+    expr_keeps (in_record w) f h = expr_keeps w (λ i v k. f i v (in_record k)) (kept (of_record (f _ _ here)) h)
+    expr_keeps (in_callee w) f h = expr_keeps w (λ i v k. f i v (in_callee k)) (kept (callee_of (f _ _ here)) h)
+    expr_keeps (in_arguments w) f h = exprs_keep w (arguments_of (f _ _ here)).1 (λ i v k. f i v (in_arguments k)) h
+    expr_keeps (in_operand w) f h = expr_keeps w (λ i v k. f i v (in_operand k)) (kept (operand_of (f _ _ here)) h)
     expr_keeps (in_left w) f h = expr_keeps w (λ i v k. f i v (in_left k)) (kept (operands_of (f _ _ here)).0 h)
     expr_keeps (in_right w) f h = expr_keeps w (λ i v k. f i v (in_right k)) (kept (operands_of (f _ _ here)).1 h)
 
     exprs_keep : {es : Exprs} {Γ : Scope Ty} {n m : ℕ} {ts : Tys} {u : Expr} → AtAll es n m u → TypedAll D Γ n es ts
         → ((i : ℕ) (v : Expr) → AtAll es n i v → ExprRule T C D i v) → Layered Γ → Keeps D m
-    exprs_keep (in-first w) (typed_also p q) f h = expr_keeps w (λ i v k. f i v (in-first k)) (kept p.scope h)
+    exprs_keep (in_first w) (typed_also p q) f h = expr_keeps w (λ i v k. f i v (in_first k)) (kept p.scope h)
     exprs_keep (in_rest w) (typed_also p q) f h = exprs_keep w q (λ i v k. f i v (in_rest k)) h
 
     inits_keep : {is : Inits} {Γ : Scope Ty} {n m : ℕ} {ts : Tys} {u : Expr} → AtInits is n m u → TypedInits D Γ n is ts
         → ((i : ℕ) (v : Expr) → AtInits is n i v → ExprRule T C D i v) → Layered Γ → Keeps D m
-    inits_keep (in-value w) (typed-init l p q) f h = expr_keeps w (λ i v k. f i v (in-value k)) (kept p.scope h)
-    inits_keep (in-others w) (typed-init l p q) f h = inits_keep w q (λ i v k. f i v (in-others k)) h
+    inits_keep (in_value w) (typed_init l p q) f h = expr_keeps w (λ i v k. f i v (in_value k)) (kept p.scope h)
+    inits_keep (in_others w) (typed_init l p q) f h = inits_keep w q (λ i v k. f i v (in_others k)) h
 
 -- the scopes of the parts of a statement, by its rule, and the scope after it
 module _ {T : Tables} {C : Context Ty} {D : Labels Ty} {rt : Ty} {last : Bool} {n : ℕ} where
@@ -207,21 +207,21 @@ module _ {T : Tables} {C : Context Ty} {D : Labels Ty} {rt : Ty} where
       → Layered Γ → Keeps D m
   unfolding VarsChain
   vars_keep Δ at_var (p, q) f h = kept p.scope h
-  vars_keep Δ (in-var w) (p, q) f h = value_keeps (f _ _ at_var) (kept p.scope h) (λ k. expr_keeps w (λ i v a. f i (expression v) (in-var a)) k)
+  vars_keep Δ (in_var w) (p, q) f h = value_keeps (f _ _ at_var) (kept p.scope h) (λ k. expr_keeps w (λ i v a. f i (expression v) (in_var a)) k)
     where
       value_keeps : {x n : ℕ} {a : Expr} {P : Type 0} → StmtRule T C D rt false n (var x a) → Keeps D n → (Keeps D (n + 1) → P) → P
       value_keeps (typ_decl t p g h) k c = c (kept p.scope k)
-  vars_keep Δ (in-vars w) (p, q) f h = vars_keep Δ w q (λ i v k. f i v (in-vars k)) (after_keeps _ (f _ _ at_var) (kept p.scope h))
+  vars_keep Δ (in_vars w) (p, q) f h = vars_keep Δ w q (λ i v k. f i v (in_vars k)) (after_keeps _ (f _ _ at_var) (kept p.scope h))
 
   vars_after : (vs : Vars) {n : ℕ} {Γ Δ : Scope Ty} → VarsChain D n vs Γ Δ → ((i : ℕ) (v : Node) → AtVars vs n i v → RuleAt T C D rt i v) → Layered Γ → Layered Δ
   unfolding VarsChain
   vars_after no_var e f h = kept e h
-  vars_after (next_var x a vs) (p, q) f h = vars_after vs q (λ i v k. f i v (in-vars k)) (after_keeps (var x a) (f _ _ at_var) (kept p.scope h))
+  vars_after (next_var x a vs) (p, q) f h = vars_after vs q (λ i v k. f i v (in_vars k)) (after_keeps (var x a) (f _ _ at_var) (kept p.scope h))
 
   condition_keeps : {c : Condition} {n m : ℕ} {u : Node} {Γ : Scope Ty} → AtCondition c n m u → ConditionHolds D n Γ c → ((i : ℕ) (v : Node) → AtCondition c n i v → RuleAt T C D rt i v)
       → Layered Γ → Keeps D m
   unfolding ConditionHolds
-  condition_keeps (in-condition w) p f h = expr_keeps w (λ i v k. f i (expression v) (in-condition k)) (kept p.scope h)
+  condition_keeps (in_condition w) p f h = expr_keeps w (λ i v k. f i (expression v) (in_condition k)) (kept p.scope h)
 
   mutual
     unfolding StepGoesOn Chain
@@ -229,27 +229,27 @@ module _ {T : Tables} {C : Context Ty} {D : Labels Ty} {rt : Ty} where
     stmt_keeps : (s : Stmt) {n m : ℕ} {u : Node} {last : Bool} → InStmt s n m u → StmtRule T C D rt last n s → ((i : ℕ) (v : Node) → InStmt s n i v → RuleAt T C D rt i v)
         → Keeps D n → Keeps D m
     stmt_keeps return_void w r f h = elim w [ ]
-    stmt_keeps (assign g a) (in-target w) (typ_assn t u v p q r z) f h = expr_keeps w (λ i e k. f i (expression e) (in-target k)) (kept p.scope h)
-    stmt_keeps (assign g a) (in-assigned w) (typ_assn t u v p q r z) f h = expr_keeps w (λ i e k. f i (expression e) (in-assigned k)) (kept q.scope h)
-    stmt_keeps (var x a) (in-initial w) (typ_decl t p q z) f h = expr_keeps w (λ i e k. f i (expression e) (in-initial k)) (kept p.scope h)
-    stmt_keeps (return_value a) (in-returned w) (typ_rett t v p q z) f h = expr_keeps w (λ i e k. f i (expression e) (in-returned k)) (kept p.scope h)
-    stmt_keeps (call_stmt a es) (in-called w) (typ_scall us ts p q r z) f h = expr_keeps w (λ i e k. f i (expression e) (in-called k)) (kept p.scope h)
-    stmt_keeps (call_stmt a es) (in-passed w) (typ_scall us ts p q r z) f h = exprs_keep w q (λ i e k. f i (expression e) (in-passed k)) h
-    stmt_keeps (if_else a b c) (in-test w) (typ_if p q t u v z) f h = expr_keeps w (λ i e k. f i (expression e) (in-test k)) (kept t.scope h)
+    stmt_keeps (assign g a) (in_target w) (typ_assn t u v p q r z) f h = expr_keeps w (λ i e k. f i (expression e) (in_target k)) (kept p.scope h)
+    stmt_keeps (assign g a) (in_assigned w) (typ_assn t u v p q r z) f h = expr_keeps w (λ i e k. f i (expression e) (in_assigned k)) (kept q.scope h)
+    stmt_keeps (var x a) (in_initial w) (typ_decl t p q z) f h = expr_keeps w (λ i e k. f i (expression e) (in_initial k)) (kept p.scope h)
+    stmt_keeps (return_value a) (in_returned w) (typ_rett t v p q z) f h = expr_keeps w (λ i e k. f i (expression e) (in_returned k)) (kept p.scope h)
+    stmt_keeps (call_stmt a es) (in_called w) (typ_scall us ts p q r z) f h = expr_keeps w (λ i e k. f i (expression e) (in_called k)) (kept p.scope h)
+    stmt_keeps (call_stmt a es) (in_passed w) (typ_scall us ts p q r z) f h = exprs_keep w q (λ i e k. f i (expression e) (in_passed k)) h
+    stmt_keeps (if_else a b c) (in_test w) (typ_if p q t u v z) f h = expr_keeps w (λ i e k. f i (expression e) (in_test k)) (kept t.scope h)
     stmt_keeps (if_else a b c) (in_then w) (typ_if p q t u v z) f h = block_keeps b w (λ i e k. f i e (in_then k)) (kept u.scope (layered_inner h))
-    stmt_keeps (if_else a b c) (in-else w) (typ_if p q t u v z) f h = block_keeps c w (λ i e k. f i e (in-else k)) (kept v.scope (layered_inner h))
-    stmt_keeps (if_null x o a b c) (in-nullable w) (typ_ifq r p q t s u v z) f h = expr_keeps w (λ i e k. f i (expression e) (in-nullable k)) (kept t.scope h)
+    stmt_keeps (if_else a b c) (in_else w) (typ_if p q t u v z) f h = block_keeps c w (λ i e k. f i e (in_else k)) (kept v.scope (layered_inner h))
+    stmt_keeps (if_null x o a b c) (in_nullable w) (typ_ifq r p q t s u v z) f h = expr_keeps w (λ i e k. f i (expression e) (in_nullable k)) (kept t.scope h)
     stmt_keeps (if_null x o a b c) (in_some w) (typ_ifq r p q t s u v z) f h = block_keeps b w (λ i e k. f i e (in_some k)) (kept u.scope (layered_inner (layered_own h)))
-    stmt_keeps (if_null x o a b c) (in-null w) (typ_ifq r p q t s u v z) f h = block_keeps c w (λ i e k. f i e (in-null k)) (kept v.scope (layered_inner h))
-    stmt_keeps (for vs c s b) (in-for-vars w) (typ_for Δ p t u v y z) f h = vars_keep Δ w t (λ i e k. f i e (in-for-vars k)) (layered_inner h)
-    stmt_keeps (for vs c s b) (in-for-condition w) (typ_for Δ p t u v y z) f h =
-        condition_keeps w u (λ i e k. f i e (in-for-condition k)) (vars_after vs t (λ i e k. f i e (in-for-vars k)) (layered_inner h))
-    stmt_keeps (for vs c s b) (in-for-step w) (typ_for Δ p t u v y z) f h =
-        step_keeps s w v (λ i e k. f i e (in-for-step k)) (vars_after vs t (λ i e k. f i e (in-for-vars k)) (layered_inner h))
-    stmt_keeps (for vs c s b) (in-for-body w) (typ_for Δ p t u v y z) f h =
-        block_keeps b w (λ i e k. f i e (in-for-body k)) (kept y.scope (layered_inner (vars_after vs t (λ i e k. f i e (in-for-vars k)) (layered_inner h))))
-    stmt_keeps (while a b) (in-while-test w) (typ_while p t u z) f h = expr_keeps w (λ i e k. f i (expression e) (in-while-test k)) (kept t.scope h)
-    stmt_keeps (while a b) (in-while-body w) (typ_while p t u z) f h = block_keeps b w (λ i e k. f i e (in-while-body k)) (kept u.scope (layered_inner h))
+    stmt_keeps (if_null x o a b c) (in_null w) (typ_ifq r p q t s u v z) f h = block_keeps c w (λ i e k. f i e (in_null k)) (kept v.scope (layered_inner h))
+    stmt_keeps (for vs c s b) (in_for_vars w) (typ_for Δ p t u v y z) f h = vars_keep Δ w t (λ i e k. f i e (in_for_vars k)) (layered_inner h)
+    stmt_keeps (for vs c s b) (in_for_condition w) (typ_for Δ p t u v y z) f h =
+        condition_keeps w u (λ i e k. f i e (in_for_condition k)) (vars_after vs t (λ i e k. f i e (in_for_vars k)) (layered_inner h))
+    stmt_keeps (for vs c s b) (in_for_step w) (typ_for Δ p t u v y z) f h =
+        step_keeps s w v (λ i e k. f i e (in_for_step k)) (vars_after vs t (λ i e k. f i e (in_for_vars k)) (layered_inner h))
+    stmt_keeps (for vs c s b) (in_for_body w) (typ_for Δ p t u v y z) f h =
+        block_keeps b w (λ i e k. f i e (in_for_body k)) (kept y.scope (layered_inner (vars_after vs t (λ i e k. f i e (in_for_vars k)) (layered_inner h))))
+    stmt_keeps (while a b) (in_while_test w) (typ_while p t u z) f h = expr_keeps w (λ i e k. f i (expression e) (in_while_test k)) (kept t.scope h)
+    stmt_keeps (while a b) (in_while_body w) (typ_while p t u z) f h = block_keeps b w (λ i e k. f i e (in_while_body k)) (kept u.scope (layered_inner h))
 
     step_keeps : (s : Step) {n m : ℕ} {u : Node} {Γ : Scope Ty} → AtStep s n m u → StepGoesOn D n Γ s → ((i : ℕ) (v : Node) → AtStep s n i v → RuleAt T C D rt i v)
         → Layered Γ → Keeps D m
@@ -265,8 +265,8 @@ module _ {T : Tables} {C : Context Ty} {D : Labels Ty} {rt : Ty} where
         → Layered Γ → Keeps D m
     stmts_keep p q empty w e f h = elim w [ ]
     stmts_keep p q (then s ss) at_stmt (r, z, k, e) f h = kept k.scope h
-    stmts_keep p q (then s ss) (in-stmt w) (r, z, k, e) f h = stmt_keeps s w (f _ _ at_stmt) (λ i v a. f i v (in-stmt a)) (kept k.scope h)
-    stmts_keep p q (then s ss) (in-stmts w) (r, z, k, e) f h = stmts_keep r q ss w e (λ i v a. f i v (in-stmts a)) (after_keeps s (f _ _ at_stmt) (kept k.scope h))
+    stmts_keep p q (then s ss) (in_stmt w) (r, z, k, e) f h = stmt_keeps s w (f _ _ at_stmt) (λ i v a. f i v (in_stmt a)) (kept k.scope h)
+    stmts_keep p q (then s ss) (in_stmts w) (r, z, k, e) f h = stmts_keep r q ss w e (λ i v a. f i v (in_stmts a)) (after_keeps s (f _ _ at_stmt) (kept k.scope h))
 
 -- the parameters, whose names are distinct
 same_among : (x y : ℕ) (ps : List ℕ) → is_among x ps ≡ false → is_among y ps ≡ true → eqb x y ≡ false

@@ -17,7 +17,7 @@ use Rattle.typing_rules.specs.Contexts.{Context}
 use Rattle.typing_rules.specs.Labels.{Labels}
 use Rattle.typing_rules.specs.Steps.{DerivesFile}
 use Rattle.typing_rules.specs.Check.{Ran, accepted, refused, answer_of, check_of}
-use Rattle.typing_rules.specs.PanCases.{Numbered, Body, pan_structs, A, B, C, nullable_a, array_a, array_b, from_aTo_b, from_bTo_a, pan_tables, pan_types, with_body, returning, going, either, pan_cases, Says, BelowIs, AnswerIs, AllHold, hold_none, hold_also}
+use Rattle.typing_rules.specs.PanCases.{Numbered, Body, pan_structs, A, B, C, nullable_a, array_a, array_b, from_a_to_b, from_b_to_a, pan_tables, pan_types, with_body, returning, going, either, pan_cases, Says, BelowIs, AnswerIs, AllHold, hold_none, hold_also}
 use Rattle.typing_rules.proofs.LawsComputed.{computed, is_file, is-file}
 use Rattle.typing_rules.proofs.LawsNumbers.{refused_number}
 use Rattle.typing_rules.proofs.Theorem.{Fits, run_of, file_fits, accepted_derives, derives_accepted}
@@ -69,8 +69,8 @@ pan-cases =
     (hold_also (below_case A nullable_a true refl refl refl)
     (hold_also (below_case nullable_a A false refl refl refl)
     (hold_also (below_case array_b array_a false refl refl refl)
-    (hold_also (below_case from_aTo_b from_bTo_a true refl refl refl)
-    (hold_also (below_case from_bTo_a from_aTo_b false refl refl refl)
+    (hold_also (below_case from_a_to_b from_b_to_a true refl refl refl)
+    (hold_also (below_case from_b_to_a from_a_to_b false refl refl refl)
     (hold_also (body_case returning 0 refl refl)
     (hold_also (body_case going 14 refl refl)
     (hold_also (body_case (either returning returning) 0 refl refl)

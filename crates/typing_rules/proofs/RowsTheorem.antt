@@ -17,17 +17,17 @@ use Rattle.typing_rules.specs.Check.{Segment, accepted, rows_begin, node_count, 
 use Rattle.typing_rules.specs.Rows.{RowsAre, rows_none, rows_node, labels_from, ParametersAre, parameters_none, parameters_next, DeclRows, no_rows, global_rows, function_rows}
 use Rattle.typing_rules.proofs.LawsRuns.{Labelled}
 use Rattle.typing_rules.proofs.LawsProgram.{steps_apart}
-use Rattle.typing_rules.proofs.LawsSegments.{RowsFit, no_nodes, of_global, of_body, Segments, run_segments, In, in-first, in-later, found_rows}
+use Rattle.typing_rules.proofs.LawsSegments.{RowsFit, no_nodes, of_global, of_body, Segments, run_segments, In, in_first, in_later, found_rows}
 use Rattle.typing_rules.proofs.Theorem.{Fits, run_of, empty_fits, trees, derives_labelled, accepted_derives}
 
 -- steps of a part are steps of the whole
 in_left : {s : Step} {xs : List Step} (ys : List Step) → In s xs → In s (xs ++ ys)
-in_left ys in-first = in-first
-in_left ys (in-later i) = in-later (in_left ys i)
+in_left ys in_first = in_first
+in_left ys (in_later i) = in_later (in_left ys i)
 
 in_right : {s : Step} (xs : List Step) {ys : List Step} → In s ys → In s (xs ++ ys)
 in_right [] i = i
-in_right (x ∷ xs) i = in-later (in_right xs i)
+in_right (x ∷ xs) i = in_later (in_right xs i)
 
 pub global_in : (p : Program) (s : Step) → In s (globals 0 p.declarations) → In s (steps_of p)
 unfolding steps_of
@@ -63,11 +63,11 @@ decl_rows : (T : Tables) (D : Labels Ty) (gs : List Segment) (ds : List Decl) (n
 unfolding globals bodies rows_from rows_begin
 decl_rows T D gs [] n g b = no_rows
 decl_rows T D gs (global x a ∷ ds) n g b =
-    global_rows (one_global (g (global_value n x a) in-first (omega arith)))
-    (decl_rows T D gs ds (n + size_decl (global x a)) (λ s i. g s (in-later i)) b)
+    global_rows (one_global (g (global_value n x a) in_first (omega arith)))
+    (decl_rows T D gs ds (n + size_decl (global x a)) (λ s i. g s (in_later i)) b)
 decl_rows T D gs (function x t ps c ∷ ds) n g b =
-    one_function (b (body n t ps c) in-first (omega arith))
-    (decl_rows T D gs ds (n + size_decl (function x t ps c)) g (λ s i. b s (in-later i)))
+    one_function (b (body n t ps c) in_first (omega arith))
+    (decl_rows T D gs ds (n + size_decl (function x t ps c)) g (λ s i. b s (in_later i)))
 
 same_segments : {gs hs : List Segment} {j k : ℕ} → accepted gs j ≡ accepted hs k → gs ≡ hs
 same_segments e = cc
@@ -123,9 +123,9 @@ decls_long : (T : Tables) (D : Labels Ty) (gs : List Segment) (ds : List Decl) (
 unfolding globals bodies rows_begin
 decls_long T D gs [] n g b = long_none
 decls_long T D gs (global x a ∷ ds) n g b =
-    long_next (fit_long (g (global_value n x a) in-first (omega arith))) (decls_long T D gs ds (n + size_decl (global x a)) (λ s i. g s (in-later i)) b)
+    long_next (fit_long (g (global_value n x a) in_first (omega arith))) (decls_long T D gs ds (n + size_decl (global x a)) (λ s i. g s (in_later i)) b)
 decls_long T D gs (function x t ps c ∷ ds) n g b =
-    long_next (fit_long (b (body n t ps c) in-first (omega arith))) (decls_long T D gs ds (n + size_decl (function x t ps c)) g (λ s i. b s (in-later i)))
+    long_next (fit_long (b (body n t ps c) in_first (omega arith))) (decls_long T D gs ds (n + size_decl (function x t ps c)) g (λ s i. b s (in_later i)))
 
 pub segments_long : (p : Program) → Fits p → (gs : List Segment) (k : ℕ) → run_of p ≡ accepted gs k → SegmentsLong gs 0 p.declarations
 segments_long p f gs k e =

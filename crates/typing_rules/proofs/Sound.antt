@@ -19,14 +19,14 @@ use Rattle.oat.proofs.LawsTables.{HasKind, has-kind}
 use Rattle.typing_rules.specs.Contexts.{Scope, binds, Hit, hit, miss, find, Context, find_name, or_else, inner}
 use Rattle.typing_rules.specs.Operators.{is_equality, operand_type, result_type, unary_type, literal_type}
 use Rattle.typing_rules.specs.Labels.{gives, Label, Labels, unlabelled}
-use Rattle.typing_rules.specs.Rules.{Typed, Has, TypedAll, typed_none, typed_also, TypedInits, typed_no_init, typed-init, names_fit, ExprRule, typ_null, typ_literal, typ_local, typ_global, typ_carr, typ_newarray, typ_newarrayinit, typ-index, typ_length, typ_structex, typ_field, typ_call, typ_bop, typ_eq, typ_uop}
+use Rattle.typing_rules.specs.Rules.{Typed, Has, TypedAll, typed_none, typed_also, TypedInits, typed_no_init, typed_init, names_fit, ExprRule, typ_null, typ_literal, typ_local, typ_global, typ_carr, typ_newarray, typ_newarrayinit, typ_index, typ_length, typ_structex, typ_field, typ_call, typ_bop, typ_eq, typ_uop}
 use Rattle.typing_rules.specs.Derivations.{At, AtAll, AtInits, Derives}
 use Rattle.typing_rules.specs.Judge.{ok, judge, judges, judge_inits, typed_as, plain, is_kind, referred, is_below, formed, has_default, each_below, arguments_below, number, field_of, inits_below, judging}
 use Rattle.typing_rules.proofs.Claims.{File, Value, ScopeFits, fits_bind, ContextFits, erase_scope, erase_context, erase, Holds, erase_bindings}
 use Rattle.typing_rules.proofs.LawsBridge.{types_of, Values, values_none, values_also, erase_hit, find_erase, name_erase, find_value, name_value, is_base, is_void, is_struct, is_array, is_function, is_nullable, array_parts, function_parts, default_is, base_is, base_value, below_sub, formed_value, formed_null, below_each, arguments-below, inits-below, member_value, field_found}
 use Rattle.typing_rules.proofs.LawsOutcome.{ok_is, then_ok, needs_ok, named_ok, field_ok, declared_ok}
 use Rattle.typing_rules.proofs.LawsHolds.{labels_split}
-use Rattle.typing_rules.proofs.LawsSubtrees.{Ruled, at_null, at_literal, at_name, at_array_literal, at_default_array, at_array_with, at-index, at_length_of, at_struct_literal, at_field, at_call, at_unary, at_binary, at_none, at_also, at_no_init, at-init}
+use Rattle.typing_rules.proofs.LawsSubtrees.{Ruled, at_null, at_literal, at_name, at_array_literal, at_default_array, at_array_with, at_index, at_length_of, at_struct_literal, at_field, at_call, at_unary, at_binary, at_none, at_also, at_no_init, at_init}
 
 -- what an accepted expression says of every labelling that has its labels
 pub record Right (T : Tables) (C : Context ℕ) (e : Expr) (n : ℕ) (Γ : Scope ℕ) (a : ℕ) (L : List (Label ℕ)) : Type 0 where
@@ -228,7 +228,7 @@ module _ (T : Tables) (F : File T) (C : Context ℕ) (f : ContextFits T C) where
         let e = (is_array T F t ra.value.within).0 kt in
         let z = (is_base T F u rb.value.within 0 (omega arith)).0 ku in
         right_two (index a b) (referred T t) M N _ _ (array_parts T F t ra.value.within _ e).2 ra.long rb.long refl
-        (λ D g h k. at-index (typ-index _ (said g ra h e) (said g rb k z) g.has) (ra.derives D h) (rb.derives D k)) j
+        (λ D g h k. at_index (typ_index _ (said g ra h e) (said g rb k z) g.has) (ra.derives D h) (rb.derives D k)) j
 
     length_right : {a : Expr} {t : ℕ} {M : List (Label ℕ)} → is_kind T t 5 ≡ true → Right T C a (n + 1) Γ t M → plain 0 Γ M ≡ ok r L
         → Right T C (length_of a) n Γ r L
@@ -349,8 +349,8 @@ module _ (T : Tables) (F : File T) (C : Context ℕ) (f : ContextFits T C) where
         values = values_also ra.value rb.values;
         many = omega arith;
         long = simp length-append (omega arith);
-        derives = λ D h. let (e, p, q) = init_split T D n (size a) M N ra.long h in at-init (ra.derives D p) (rb.derives D q);
-        typed = λ D h. let (e, p, q) = init_split T D n (size a) M N ra.long h in typed-init e (typed_of ra p) (rb.typed D q);
+        derives = λ D h. let (e, p, q) = init_split T D n (size a) M N ra.long h in at_init (ra.derives D p) (rb.derives D q);
+        typed = λ D h. let (e, p, q) = init_split T D n (size a) M N ra.long h in typed_init e (typed_of ra p) (rb.typed D q);
       })
 
   -- soundness, step by step as `judge` goes

@@ -16,7 +16,7 @@ use Rattle.oat.proofs.LawsBasics.{and_parts}
 use Rattle.typing_rules.specs.Contexts.{Scope, binds, is_fresh, Context, inner}
 use Rattle.typing_rules.specs.Labels.{gives, marks, Label, Labels, unlabelled}
 use Rattle.typing_rules.specs.Rules.{assigns, Typed, Marked, Ends, TypedAll, ExprRule, both, VarsChain, ConditionHolds, StepGoesOn, Chain, StmtRule, typ_assn, typ_decl, typ_rett, typ_retvoid, typ_scall, typ_if, typ_ifq, typ_while, typ_for, BlockRule, typ_block, while_mark}
-use Rattle.typing_rules.specs.Derivations.{AtAll, Node, AtVars, at_var, in-var, in-vars, AtCondition, in-condition, InStmt, in-target, in-assigned, in-initial, in-returned, in-called, in-passed, in-test, in_then, in-else, in-nullable, in_some, in-null, in-for-vars, in-for-condition, in-for-step, in-for-body, in-while-test, in-while-body, AtStep, at_step, in_step, AtBlock, here_block, in_block, AtStmts, at_stmt, in-stmt, in-stmts, RuleAt, Derives, DerivesBlock, is_empty}
+use Rattle.typing_rules.specs.Derivations.{AtAll, Node, AtVars, at_var, in_var, in_vars, AtCondition, in_condition, InStmt, in_target, in_assigned, in_initial, in_returned, in_called, in_passed, in_test, in_then, in_else, in_nullable, in_some, in_null, in_for_vars, in_for_condition, in_for_step, in_for_body, in_while_test, in_while_body, AtStep, at_step, in_step, AtBlock, here_block, in_block, AtStmts, at_stmt, in_stmt, in_stmts, RuleAt, Derives, DerivesBlock, is_empty}
 use Rattle.typing_rules.specs.Judge.{ok, marked_as, Done, done, is_kind, referred, is_below, arguments_below, judge, judges, assigns_to, execute_vars, judge_condition, execute, execute_step, execute_block, execute_all, executing, executing_vars, judging_condition}
 use Rattle.typing_rules.proofs.Claims.{File, Value, ScopeFits, fits_bind, ContextFits, erase_scope, erase_context, erase, Holds, erase_bindings}
 use Rattle.typing_rules.proofs.LawsBridge.{types_of, fresh_erase, assigns_erase, is_base, is_void, is_function, is_nullable, function_parts, nullable_parts, below_sub, arguments-below}
@@ -73,56 +73,56 @@ record RightStep (T : Tables) (C : Context ℕ) (rt : ℕ) (s : Step) (n : ℕ) 
 module _ {T : Tables} {C : Context Ty} {D : Labels Ty} (rt : Ty) where
   rules_assign : {g : Target} {a : Expr} {n : ℕ} → Derives T C D (target_expr g) (n + 1)
       → Derives T C D a (n + 1 + size_target g) → Ruled T C D rt (InStmt (assign g a) n)
-  rules_assign p q m u (in-target w) = p.rule m _ w
-  rules_assign p q m u (in-assigned w) = q.rule m _ w
+  rules_assign p q m u (in_target w) = p.rule m _ w
+  rules_assign p q m u (in_assigned w) = q.rule m _ w
 
   rules_var : {x : ℕ} {a : Expr} {n : ℕ} → Derives T C D a (n + 1) → Ruled T C D rt (InStmt (var x a) n)
-  rules_var p m u (in-initial w) = p.rule m _ w
+  rules_var p m u (in_initial w) = p.rule m _ w
 
   rules_return : {a : Expr} {n : ℕ} → Derives T C D a (n + 1) → Ruled T C D rt (InStmt (return_value a) n)
-  rules_return p m u (in-returned w) = p.rule m _ w
+  rules_return p m u (in_returned w) = p.rule m _ w
 
   rules_call : {a : Expr} {es : Exprs} {n : ℕ} → Derives T C D a (n + 1)
       → ((m : ℕ) (u : Expr) → AtAll es (n + 1 + size a) m u → ExprRule T C D m u) → Ruled T C D rt (InStmt (call_stmt a es) n)
-  rules_call p q m u (in-called w) = p.rule m _ w
-  rules_call p q m u (in-passed w) = q m _ w
+  rules_call p q m u (in_called w) = p.rule m _ w
+  rules_call p q m u (in_passed w) = q m _ w
 
   rules_condition : {a : Expr} {n : ℕ} → Derives T C D a n → Ruled T C D rt (AtCondition (condition a) n)
-  rules_condition p m u (in-condition w) = p.rule m _ w
+  rules_condition p m u (in_condition w) = p.rule m _ w
 
 module _ {T : Tables} {C : Context Ty} {D : Labels Ty} {rt : Ty} where
   rules_if : {a : Expr} {b c : Block} {n : ℕ} → Derives T C D a (n + 1)
       → DerivesBlock T C D rt b (n + 1 + size a) → DerivesBlock T C D rt c (n + 1 + size a + size_block b)
       → Ruled T C D rt (InStmt (if_else a b c) n)
-  rules_if p q t m u (in-test w) = p.rule m _ w
+  rules_if p q t m u (in_test w) = p.rule m _ w
   rules_if p q t m u (in_then w) = q.rule m u w
-  rules_if p q t m u (in-else w) = t.rule m u w
+  rules_if p q t m u (in_else w) = t.rule m u w
 
   rules_null : {x k : ℕ} {a : Expr} {b c : Block} {n : ℕ} → Derives T C D a (n + 1)
       → DerivesBlock T C D rt b (n + 1 + size a) → DerivesBlock T C D rt c (n + 1 + size a + size_block b)
       → Ruled T C D rt (InStmt (if_null x k a b c) n)
-  rules_null p q t m u (in-nullable w) = p.rule m _ w
+  rules_null p q t m u (in_nullable w) = p.rule m _ w
   rules_null p q t m u (in_some w) = q.rule m u w
-  rules_null p q t m u (in-null w) = t.rule m u w
+  rules_null p q t m u (in_null w) = t.rule m u w
 
   rules_while : {a : Expr} {b : Block} {n : ℕ} → Derives T C D a (n + 1)
       → DerivesBlock T C D rt b (n + 1 + size a) → Ruled T C D rt (InStmt (while a b) n)
-  rules_while p q m u (in-while-test w) = p.rule m _ w
-  rules_while p q m u (in-while-body w) = q.rule m u w
+  rules_while p q m u (in_while_test w) = p.rule m _ w
+  rules_while p q m u (in_while_body w) = q.rule m u w
 
   rules_for : {vs : Vars} {c : Condition} {s : Step} {b : Block} {n : ℕ} → Ruled T C D rt (AtVars vs (n + 1))
       → Ruled T C D rt (AtCondition c (n + 1 + size_vars vs)) → Ruled T C D rt (AtStep s (n + 1 + size_vars vs + size_condition c))
       → DerivesBlock T C D rt b (n + 1 + size_vars vs + size_condition c + size_step s) → Ruled T C D rt (InStmt (for vs c s b) n)
-  rules_for p q t v m u (in-for-vars w) = p m u w
-  rules_for p q t v m u (in-for-condition w) = q m u w
-  rules_for p q t v m u (in-for-step w) = t m u w
-  rules_for p q t v m u (in-for-body w) = v.rule m u w
+  rules_for p q t v m u (in_for_vars w) = p m u w
+  rules_for p q t v m u (in_for_condition w) = q m u w
+  rules_for p q t v m u (in_for_step w) = t m u w
+  rules_for p q t v m u (in_for_body w) = v.rule m u w
 
   rules_vars : {x : ℕ} {a : Expr} {vs : Vars} {n : ℕ} → StmtRule T C D rt false n (var x a) → Derives T C D a (n + 1)
       → Ruled T C D rt (AtVars vs (n + 1 + size a)) → Ruled T C D rt (AtVars (next_var x a vs) n)
   rules_vars r p q m u at_var = r
-  rules_vars r p q m u (in-var w) = p.rule m _ w
-  rules_vars r p q m u (in-vars w) = q m u w
+  rules_vars r p q m u (in_var w) = p.rule m _ w
+  rules_vars r p q m u (in_vars w) = q m u w
 
   rules_step : {s : Stmt} {n : ℕ} → StmtRule T C D rt false n s → Ruled T C D rt (InStmt s n) → Ruled T C D rt (AtStep (step s) n)
   rules_step r p m u at_step = r
@@ -135,8 +135,8 @@ module _ {T : Tables} {C : Context Ty} {D : Labels Ty} {rt : Ty} where
   rules_then : {s : Stmt} {ss : Stmts} {n : ℕ} → StmtRule T C D rt (is_empty ss) n s → Ruled T C D rt (InStmt s n)
       → Ruled T C D rt (AtStmts ss (n + size_stmt s)) → Ruled T C D rt (AtStmts (then s ss) n)
   rules_then r p q m u at_stmt = r
-  rules_then r p q m u (in-stmt w) = p m u w
-  rules_then r p q m u (in-stmts w) = q m u w
+  rules_then r p q m u (in_stmt w) = p m u w
+  rules_then r p q m u (in_stmts w) = q m u w
 
 -- a premise about a child, where its parent has the scope G
 module _ {T : Tables} {C : Context ℕ} {D : Labels Ty} {n : ℕ} {Γ : Scope ℕ} {G : Scope Ty} {L : List (Label ℕ)} where

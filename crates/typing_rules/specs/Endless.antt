@@ -7,7 +7,7 @@ use Rattle.typing_rules.specs.Derivations.{Node, AtBlock}
 -- in a function's block, of the declarations that stand from n on, the node u stands at m
 pub data InBodies : ℕ → List Decl → ℕ → Node → Type 0 where
   in_body : {n m x t : ℕ} {ps : List ℕ} {b : Block} {ds : List Decl} {u : Node} → AtBlock b (n + 1 + length ps) m u → InBodies n (function x t ps b ∷ ds) m u
-  in-others : {n m : ℕ} {d : Decl} {ds : List Decl} {u : Node} → InBodies (n + size_decl d) ds m u → InBodies n (d ∷ ds) m u
+  in_others : {n m : ℕ} {d : Decl} {ds : List Decl} {u : Node} → InBodies (n + size_decl d) ds m u → InBodies n (d ∷ ds) m u
 
 -- statements, and s after them as the last
 abbrev pub ending_in : Stmts → Stmt → Stmts

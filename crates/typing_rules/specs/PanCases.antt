@@ -62,11 +62,11 @@ abbrev pub array_b : Numbered
 array_b = numbered 9 (array (struct 2))
 
 -- (A)->B and (B)->A
-abbrev pub from_aTo_b : Numbered
-from_aTo_b = numbered 10 (function (and_ty (struct 1) no_ty) (struct 2))
+abbrev pub from_a_to_b : Numbered
+from_a_to_b = numbered 10 (function (and_ty (struct 1) no_ty) (struct 2))
 
-abbrev pub from_bTo_a : Numbered
-from_bTo_a = numbered 11 (function (and_ty (struct 2) no_ty) (struct 1))
+abbrev pub from_b_to_a : Numbered
+from_b_to_a = numbered 11 (function (and_ty (struct 2) no_ty) (struct 1))
 
 -- records by their numbers
 abbrev pub type_record : ℕ → ℕ → ℕ → ℕ → TypeRecord
@@ -131,8 +131,8 @@ pan_cases =
     ∷ is_below A nullable_a true
     ∷ is_below nullable_a A false
     ∷ is_below array_b array_a false
-    ∷ is_below from_aTo_b from_bTo_a true
-    ∷ is_below from_bTo_a from_aTo_b false
+    ∷ is_below from_a_to_b from_b_to_a true
+    ∷ is_below from_b_to_a from_a_to_b false
     ∷ answers returning 0
     ∷ answers going 14
     ∷ answers (either returning returning) 0

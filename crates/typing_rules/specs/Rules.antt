@@ -79,12 +79,12 @@ names_fit fs is = eqb (count_inits is) (length fs) && each_once fs is fs
 -- the values of field initializers; a 22 stands for its value
 pub data TypedInits (D : Labels Ty) (Γ : Scope Ty) : ℕ → Inits → Tys → Type 0 where
   typed_no_init : {m : ℕ} → TypedInits D Γ m no_init no_ty
-  typed-init : {m x : ℕ} {a : Expr} {is : Inits} {t : Ty} {ts : Tys} → D m ≡ unlabelled → Typed D (m + 1) Γ t → TypedInits D Γ (m + 1 + size a) is ts → TypedInits D Γ m (init x a is) (and_ty t ts)
+  typed_init : {m x : ℕ} {a : Expr} {is : Inits} {t : Ty} {ts : Tys} → D m ≡ unlabelled → Typed D (m + 1) Γ t → TypedInits D Γ (m + 1 + size a) is ts → TypedInits D Γ m (init x a is) (and_ty t ts)
 
 -- each value's type is below that of the field that it initializes
 pub data InitsBelow (H : List Struct) (fs : List Field) : Inits → Tys → Type 0 where
   below_no_init : InitsBelow H fs no_init no_ty
-  below-init : {x : ℕ} {a : Expr} {is : Inits} {t : Ty} {ts : Tys} (u : Ty) → member x fs ≡ has u → Sub H t u → InitsBelow H fs is ts → InitsBelow H fs (init x a is) (and_ty t ts)
+  below_init : {x : ℕ} {a : Expr} {is : Inits} {t : Ty} {ts : Tys} (u : Ty) → member x fs ≡ has u → Sub H t u → InitsBelow H fs is ts → InitsBelow H fs (init x a is) (and_ty t ts)
 
 -- the rules of expressions
 pub data ExprRule (T : Tables) (C : Context Ty) (D : Labels Ty) (n : ℕ) : Expr → Type 0 where
@@ -97,7 +97,7 @@ pub data ExprRule (T : Tables) (C : Context Ty) (D : Labels Ty) (n : ℕ) : Expr
   typ_newarray : {t : ℕ} {a : Expr} (u : Ty) → type_of T t ≡ array u → Formed C.structs u → Typed D (n + 1) (D n).before int → HasDefault u → Has D n (array u) 65535 → ExprRule T C D n (default_array t a)
   -- the index name forms a block, with the value in it; nothing is asked of it
   typ_newarrayinit : {t x : ℕ} {a b : Expr} (u v : Ty) → type_of T t ≡ array u → Formed C.structs u → Typed D (n + 1) (D n).before int → Typed D (n + 1 + size a) (binds (inner (D n).before) x int n) v → Sub C.structs v u → Has D n (array u) 65535 → ExprRule T C D n (array_with t x a b)
-  typ-index : {a b : Expr} (t : Ty) → Typed D (n + 1) (D n).before (array t) → Typed D (n + 1 + size a) (D n).before int → Has D n t 65535 → ExprRule T C D n (index a b)
+  typ_index : {a b : Expr} (t : Ty) → Typed D (n + 1) (D n).before (array t) → Typed D (n + 1 + size a) (D n).before int → Has D n t 65535 → ExprRule T C D n (index a b)
   typ_length : {a : Expr} (t : Ty) → Typed D (n + 1) (D n).before (array t) → Has D n int 65535 → ExprRule T C D n (length_of a)
   typ_structex : {t : ℕ} {is : Inits} (s : ℕ) (fs : List Field) (ts : Tys) → type_of T t ≡ struct s → lookup C.structs s ≡ found fs → names_fit fs is ≡ true → TypedInits D (D n).before (n + 1) is ts → InitsBelow C.structs fs is ts → Has D n (struct s) 65535 → ExprRule T C D n (struct_literal t is)
   typ_field : {x : ℕ} {a : Expr} (s : ℕ) (fs : List Field) (t : Ty) → Typed D (n + 1) (D n).before (struct s) → lookup C.structs s ≡ found fs → member x fs ≡ has t → Has D n t 65535 → ExprRule T C D n (field x a)

@@ -50,9 +50,9 @@ for_deep v q s b d h =
     let k = rw e at h in
     omega arith
 
-or-true : (b : Bool) → (b || true) ≡ true
-or-true true = refl
-or-true false = refl
+or_true : (b : Bool) → (b || true) ≡ true
+or_true true = refl
+or_true false = refl
 
 -- the children of a for and of a function
 module _ {T : Tables} {d : ℕ} (levels : Levels T d) (b : Bool) (left n j : ℕ) where
@@ -124,17 +124,17 @@ module _ {T : Tables} {d : ℕ} (levels : Levels T d) (constant : Bool) (n j x t
       (λ p. omega arith)
       (λ p h. omega arith)
 
-  if-found : Gives Statement 35
+  if_found : Gives Statement 35
   unfolding x_fits t_fits count_fits child_role
-  if-found f =
+  if_found f =
       node_found levels (plain 3 f f.x_fit f.t-fits f.count_fit)
       (λ p. if_else p.0 p.1.0 p.1.1.0)
       (λ node p s. (node, s.0.0, s.1.0, s.1.1.0))
       (λ p. omega arith)
 
-  if-null-found : Gives Statement 36
+  if_null_found : Gives Statement 36
   unfolding x_fits t_fits count_fits child_role
-  if-null-found f =
+  if_null_found f =
       node_found levels (fits_as f refl refl (eqb-true c 3 f.count_fit))
       (λ p. if_null x t p.0 p.1.0 p.1.1.0)
       (λ node p s. (node, f.t-fits, s.0.0, s.1.0, s.1.1.0))
@@ -163,7 +163,7 @@ module _ {T : Tables} {d : ℕ} (levels : Levels T d) (constant : Bool) (n j x t
   unfolding is_statement
   statement_found k e =
       at_range (Gives Statement) k 30 38 9 e (omega arith)
-      (assign_found, (var_statement, (return_found, (void_found, (call_statement, (if-found, (if-null-found, (for_statement, (while_found, tt)))))))))
+      (assign_found, (var_statement, (return_found, (void_found, (call_statement, (if_found, (if_null_found, (for_statement, (while_found, tt)))))))))
 
   pub block_found : Gives Block 39
   unfolding x_fits t_fits count_fits child_role
@@ -219,7 +219,7 @@ module _ {T : Tables} {d : ℕ} (levels : Levels T d) (constant : Bool) (n j x t
   global_found f =
       node_found levels (fits_as f refl (zero_is f.t-fits) (eqb-true c 1 f.count_fit))
       (λ p. global x p.0)
-      (λ node p s. (node, s.0.1 (or-true constant), s.0.0))
+      (λ node p s. (node, s.0.1 (or_true constant), s.0.0))
       (λ p. omega arith)
 
   pub function_declaration : Gives Declaration 2

@@ -5,7 +5,7 @@ use Rattle.expressions.proofs.LawsChild.{child_type}
 use Rattle.statements.proofs.LawsArms.{arms_first, arms_no, arms_left, arms_asked, arms_no_2, arms_goes, arms_ok}
 use Rattle.statements.proofs.LawsBlock.{block_node, block_call, block_refused, block_left, block_ends, block_ok}
 use Rattle.statements.proofs.LawsFor.{for_count, for_first, for_no, for_second, for_no_2, for_third, for_no_3, for_leaves, for_ends, for_ok}
-use Rattle.statements.proofs.LawsIfs.{if-first, if_no, if-type, if-second, if-sort, if-no-2, if-ends, if_ok, null_first, null_node, null_no, null_type, null_bindable, null_second, null_sort, null_asked, null_counted, null_below, null_no_2, null_ends, null_ok}
+use Rattle.statements.proofs.LawsIfs.{if_first, if_no, if_type, if_second, if_sort, if_no_2, if_ends, if_ok, null_first, null_node, null_no, null_type, null_bindable, null_second, null_sort, null_asked, null_counted, null_below, null_no_2, null_ends, null_ok}
 use Rattle.statements.proofs.LawsRun.{run_start, run_forward, run_stops, run_ready, run_asked, run_no, run_again, run_done}
 use Rattle.statements.proofs.LawsStatement.{stmt_node, stmt_kind_at, while_kind, var_told, while_told, told_anywhere, any_told}
 use Rattle.statements.proofs.LawsStep.{step_node, step_fits, step_absent, step_first, step_no, step_returns, step_leaves, step_ok}
@@ -104,26 +104,26 @@ pub if_else-overflow_add-at : goal.if_else-overflow_add-at
 if_else-overflow_add-at t c = omega (arith, c.requires.ready_stmt.0.within, c.requires.ready_stmt.0.fine.good_tables.laid.nodes_most)
 
 pub if_else-expression-one-requires : goal.if_else-expression-one-requires
-if_else-expression-one-requires t c = if-first c.requires.ready_stmt c.requires.node_value
+if_else-expression-one-requires t c = if_first c.requires.ready_stmt c.requires.node_value
 
 pub if_else-returns-in_default : goal.if_else-returns-in_default
 if_else-returns-in_default t c = if_no c.requires.ready_stmt c.requires.node_value c.expression-one.ensures (record { never = c.in_default.not-Typed })
 
 pub if_else-type_kind-requires : goal.if_else-type_kind-requires
-if_else-type_kind-requires t c = if-type c.requires.ready_stmt c.requires.node_value c.expression-one.ensures c.in-Typed.is
+if_else-type_kind-requires t c = if_type c.requires.ready_stmt c.requires.node_value c.expression-one.ensures c.in-Typed.is
 
 pub if_else-returns-then-type_kind-ne1 : goal.if_else-returns-then-type_kind-ne1
-if_else-returns-then-type_kind-ne1 t c = if-sort c.requires.ready_stmt c.requires.node_value c.expression-one.ensures c.in-Typed.is c.type_kind.ensures.0 c.if-type_kind-ne1.true c.refused.ensures.0
+if_else-returns-then-type_kind-ne1 t c = if_sort c.requires.ready_stmt c.requires.node_value c.expression-one.ensures c.in-Typed.is c.type_kind.ensures.0 c.if-type_kind-ne1.true c.refused.ensures.0
 
 pub if_else-arms-both-requires : goal.if_else-arms-both-requires
-if_else-arms-both-requires t c = let g = if-second c.requires.ready_stmt c.requires.node_value c.expression-one.ensures c.in-Typed.is in (omega (arith, g.0, c.decreases, c.requires.ready_stmt.0.within), g.1)
+if_else-arms-both-requires t c = let g = if_second c.requires.ready_stmt c.requires.node_value c.expression-one.ensures c.in-Typed.is in (omega (arith, g.0, c.decreases, c.requires.ready_stmt.0.within), g.1)
 
 pub if_else-returns-in-Refused : goal.if_else-returns-in-Refused
-if_else-returns-in-Refused t c = if-no-2 c.requires.ready_stmt c.requires.node_value c.expression-one.ensures c.in-Typed.is c.type_kind.ensures.0 c.if-type_kind-ne1.false c.arms-both.ensures c.in-Refused.is
+if_else-returns-in-Refused t c = if_no_2 c.requires.ready_stmt c.requires.node_value c.expression-one.ensures c.in-Typed.is c.type_kind.ensures.0 c.if-type_kind-ne1.false c.arms-both.ensures c.in-Refused.is
 
 pub if_else-ends-requires : goal.if_else-ends-requires
 if_else-ends-requires t c =
-    if-ends c.requires.ready_stmt c.requires.node_value c.expression-one.ensures c.in-Typed.is c.type_kind.ensures.0 c.if-type_kind-ne1.false c.arms-both.ensures (record { never = c.in_default-second.not-Refused }) c.mark_of.ensures.1
+    if_ends c.requires.ready_stmt c.requires.node_value c.expression-one.ensures c.in-Typed.is c.type_kind.ensures.0 c.if-type_kind-ne1.false c.arms-both.ensures (record { never = c.in_default-second.not-Refused }) c.mark_of.ensures.1
 
 pub if_else-returns : goal.if_else-returns
 if_else-returns t c =

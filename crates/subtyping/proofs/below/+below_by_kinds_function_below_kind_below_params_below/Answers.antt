@@ -3,7 +3,7 @@
 use Prim.Native.Nat.{◌<◌}
 use native.Mathlib.Omega.{arith}
 use borrow.Author.Rules.{rules}
-use Rattle.subtyping.proofs.LawsTypesBelow.{answers, itself_below, array_lower, nullable_lower, returns-lower, params_of, params_too, kinds_apart, below_4, from_7, string_held, other_held, base_below, struct_is, function_is, array_is, nullable_is, counts_differ, params_fail, returns-are, no_params, first_lower, other_params, first_fails, others_decide}
+use Rattle.subtyping.proofs.LawsTypesBelow.{answers, itself_below, array_lower, nullable_lower, returns_lower, params_of, params_too, kinds_apart, below_4, from_7, string_held, other_held, base_below, struct_is, function_is, array_is, nullable_is, counts_differ, params_fail, returns_are, no_params, first_lower, other_params, first_fails, others_decide}
 use Rattle.subtyping.proofs.below.+below_by_kinds_function_below_kind_below_params_below.Goals as goal
 use Rattle.subtyping.proofs.below.+below_by_kinds_function_below_kind_below_params_below.Goals.{by_kinds-in_default-via-then-kind-lt4, by_kinds-in_default-via-else-kind-lt4+else-kind-lt7, by_kinds-in-2-1, by_kinds-in_default+else-kind-lt4+then-kind-lt7}
 
@@ -56,14 +56,14 @@ function_below-returns-then-not-params t c = search (params_fail, rules)
 
 pub function_below-below-returns-requires : goal.function_below-below-returns-requires
 function_below-below-returns-requires t c =
-    let x : c.type_a.result < c.args.a = search (returns-lower, rules) in
-    let y : c.type_a-2.result < c.args.b = search (returns-lower, rules) in
+    let x : c.type_a.result < c.args.a = search (returns_lower, rules) in
+    let y : c.type_a-2.result < c.args.b = search (returns_lower, rules) in
     (omega arith, search rules)
 
 pub function_below-returns : goal.function_below-returns
 function_below-returns t c =
     let P = c.requires in
-    returns-are _ _ P.0 _ _ P.2 P.3 _ _ c.type_c-count.ensures.0 c.type_c.ensures.0 c.if-count-type_c.false _ _ _ c.type_b.ensures.0 c.type_b-2.ensures.0 c.params_below-params.ensures.0 _ _ _ c.if-not-params.false c.type_a.ensures.0 c.type_a-2.ensures.0 c.below-returns.ensures.holds_value
+    returns_are _ _ P.0 _ _ P.2 P.3 _ _ c.type_c-count.ensures.0 c.type_c.ensures.0 c.if-count-type_c.false _ _ _ c.type_b.ensures.0 c.type_b-2.ensures.0 c.params_below-params.ensures.0 _ _ _ c.if-not-params.false c.type_a.ensures.0 c.type_a-2.ensures.0 c.below-returns.ensures.holds_value
 
 pub kind_below-equal-requires : goal.kind_below-equal-requires
 kind_below-equal-requires t c =

@@ -1,6 +1,6 @@
 -- `unequal::operand` meets its contract. Assumes nothing.
 use borrow.Author.Rules.{rules}
-use Rattle.subtyping.proofs.LawsUnequal.{parameter_at, returns-at, parameter_listed}
+use Rattle.subtyping.proofs.LawsUnequal.{parameter_at, returns_at, parameter_listed}
 use Rattle.subtyping.proofs.unequal.operand.Statement.{statement}
 use Rattle.subtyping.proofs.unequal.operand.Tie as tie
 
@@ -14,4 +14,4 @@ operand_spec =
     (λ c κs. search (parameter_listed, rules))
     (λ c. search (parameter_at, rules))
     (λ c κs. search rules)
-    (λ c. search (returns-at, rules)))
+    (λ c. search (returns_at, rules)))

@@ -1,6 +1,6 @@
 -- `formed::function_formed` meets its contract. Assumes nothing.
 use borrow.Author.Rules.{rules}
-use Rattle.type_index.proofs.LawsSameTypes.{params_listed, returns-entered}
+use Rattle.type_index.proofs.LawsSameTypes.{params_listed, returns_entered}
 use Rattle.type_index.proofs.LawsFormedTypes.{unformed_params, formed_function}
 use Rattle.type_index.proofs.formed.function_formed.Statement.{statement}
 use Rattle.type_index.proofs.formed.function_formed.Tie as tie
@@ -14,5 +14,5 @@ function_formed_spec =
     (λ c κs. (search (params_listed, rules), search rules))
     (λ c. search (unformed_params, rules))
     (λ c κs. search rules)
-    (λ c κs. search (returns-entered, rules))
+    (λ c κs. search (returns_entered, rules))
     (λ c. search (formed_function, rules)))

@@ -5,11 +5,11 @@ use Rattle.type_index.proofs.LawsIndex.{holder_names_none, first_fits}
 use Rattle.type_index.proofs.LawsSameTypes.{holder_most, held_entered}
 use Rattle.type_index.proofs.LawsFormedTypes.{formed_holder}
 use Rattle.type_index.proofs.LawsParts.{parts_fit, parts_holder}
-use Rattle.type_index.proofs.LawsChains.{bucket_most, bucket_holder, entry-there, one_indexed, one_chained}
+use Rattle.type_index.proofs.LawsChains.{bucket_most, bucket_holder, entry_there, one_indexed, one_chained}
 use Rattle.type_index.proofs.index.index_holder.Goals as goal
 
 pub entry-first-requires : goal.entry-first-requires
-entry-first-requires c = search (entry-there, held_entered, rules)
+entry-first-requires c = search (entry_there, held_entered, rules)
 
 pub overflow_add-bucket : goal.overflow_add-bucket
 overflow_add-bucket c = omega (arith, holder_most c.requires.i_value.1)

@@ -1,7 +1,7 @@
 -- `same::function_bucket` meets its contract. Assumes nothing.
 use borrow.Author.Rules.{rules}
-use Rattle.type_index.proofs.LawsSameTypes.{returns-entered}
-use Rattle.type_index.proofs.LawsChains.{bucket_most, bucket_function, entry-there}
+use Rattle.type_index.proofs.LawsSameTypes.{returns_entered}
+use Rattle.type_index.proofs.LawsChains.{bucket_most, bucket_function, entry_there}
 use Rattle.type_index.proofs.same.function_bucket.Statement.{statement}
 use Rattle.type_index.proofs.same.function_bucket.Tie as tie
 
@@ -10,7 +10,7 @@ function_bucket_spec =
     tie.close
     (tie.spec
     (λ c κs. search rules)
-    (λ c κs. search (entry-there, returns-entered, rules))
+    (λ c κs. search (entry_there, returns_entered, rules))
     (λ c. search rules)
     (λ c κs. search rules)
     (λ c. search rules)
