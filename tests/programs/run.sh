@@ -46,6 +46,8 @@ for place in built linked; do
     says 1 '11 5 3\n' '' '"$folder"/$place/oat_check < examples/pan_c_not_below_a.oat'
     says 2 '' 'oat_check: standard input: Is a directory\n' '"$folder"/$place/oat_check < "$folder"'
     says 2 '' 'oat_check: standard input: Bad file descriptor\n' '"$folder"/$place/oat_check <&-'
+    says 2 '' '' '"$folder"/$place/oat_check < "$folder" 2>&-'
+    says 2 '' '' '"$folder"/$place/oat_check < "$folder" 2> /dev/full'
     says 2 '' 'oat_check: standard output: No space left on device\n' '"$folder"/$place/oat_check < examples/pan_levels.oat > /dev/full'
     says 2 '' 'oat_check: standard output: Bad file descriptor\n' '"$folder"/$place/oat_check < examples/pan_levels.oat >&-'
 done

@@ -28,20 +28,20 @@ DECLARED = {1: "globals", 2: "functions"}
 TYPES = {4: "structs", 5: "arrays", 6: "functions", 7: "nullables"}
 PARTS = {5: "elements", 6: "results", 7: "what they refer to"}
 SYNTAX = (
-    "truth, falsity, integer, text, null, literal, name, arrayLiteral, defaultArray, arrayWith, index, lengthOf, structLiteral, field, call, "
-    "unary, binary, none, also, noInit, init, nameTarget, indexTarget, fieldTarget, noVar, nextVar, noCondition, condition, assign, var, "
-    "returnValue, returnVoid, callStmt, ifElse, ifNull, for, while, noStep, step, block, empty, then, global, function")
+    "truth, falsity, integer, text, null, literal, name, array_literal, default_array, array_with, index, length_of, struct_literal, field, call, "
+    "unary, binary, none, also, no_init, init, name_target, index_target, field_target, no_var, next_var, no_condition, condition, assign, var, "
+    "return_value, return_void, call_stmt, if_else, if_null, for, while, no_step, step, block, empty, then, global, function")
 HEADER = """-- Small programs with the answers of the independent peer, computed: every rule is gone through, every number from 7 to 16 appears at
 -- each kind of place, and rows are written out. One theorem for each: the program is that of a file, and the definition of the check
 -- answers as the peer did (`tests/rules/cases.py` writes this file). Assumes nothing.
-use mathlib.Core.Path.{_≡_, refl}
-use mathlib.Core.List.{List, [], _∷_}
+use mathlib.Core.Path.{◌≡◌, refl}
+use mathlib.Core.List.{List, [], ◌∷◌}
 use Prim.Native.Nat.{ℕ}
-use Rattle·oat.specs.Tables.{TypeRecord, FieldRecord, StructRecord, BuiltInRecord, NodeRecord, fileOf}
-use Rattle·oat.specs.Syntax.{""" + SYNTAX + """}
-use Rattle·oat.specs.ProgramFile.{widest, Program, IsFile}
-use Rattle·typing_rules·specs.specs.Check.{checkOf}
-use Rattle·typing_rules·proofs.proofs.LawsComputed.{computed, isFile, is-file}
+use Rattle.oat.specs.Tables.{TypeRecord, FieldRecord, StructRecord, BuiltInRecord, NodeRecord, file_of}
+use Rattle.oat.specs.Syntax.{""" + SYNTAX + """}
+use Rattle.oat.specs.ProgramFile.{widest, Program, IsFile}
+use Rattle.typing_rules.specs.Check.{check_of}
+use Rattle.typing_rules.proofs.LawsComputed.{computed, is_file, is-file}
 
 abbrev pub ty : ℕ → ℕ → ℕ → ℕ → TypeRecord
 ty k a b c = record { kind = k; a = a; b = b; c = c }
@@ -60,42 +60,42 @@ nd k x t c = record { kind = k; x = x; t = t; children = c }
 
 -- the program is that of a file, and the check answers number, step, place and pairs, with these rows
 pub record Answers (p : Program) (number step place pairs : ℕ) (rows : List ℕ) : Type 0 where
-  pub file : IsFile widest (fileOf (p .tables)) p
-  pub answer : checkOf p ≡ record { number = number; step = step; place = place; pairs = pairs; rows = rows }
+  pub file : IsFile widest (file_of p.tables) p
+  pub answer : check_of p ≡ record { number = number; step = step; place = place; pairs = pairs; rows = rows }
 """
 TALLIES_HEADER = """-- Small programs with the tallies of the independent peer, computed: the accepted programs of typing_rules' Cases, and the peer's cases by
 -- hand on equal types, on declarations and on nodes that are no expressions. One theorem for each: the program is that of a file, the
 -- definition of the check accepts it, and the definitions of the tallies give the peer's numbers (`tests/rules/cases.py` writes this file).
 -- Assumes nothing.
-use mathlib.Core.Path.{_≡_, refl}
-use mathlib.Core.List.{List, [], _∷_}
+use mathlib.Core.Path.{◌≡◌, refl}
+use mathlib.Core.List.{List, [], ◌∷◌}
 use Prim.Native.Nat.{ℕ}
-use Rattle·oat.specs.Basics.{sumBelow, tabulate}
-use Rattle·oat.specs.Tables.{fileOf}
-use Rattle·oat.specs.Syntax.{""" + SYNTAX + """}
-use Rattle·oat.specs.Nodes.{isExpressionKind, isExpression}
-use Rattle·oat.specs.ProgramFile.{widest, Program, IsFile}
-use Rattle·type_index.specs.Index.{firstBelow}
-use Rattle·typing_rules.specs.Check.{checkOf}
-use Rattle·typing_rules.proofs.LawsComputed.{computed, isFile, is-file}
-use Rattle·typing_rules.proofs.Cases.{ty, fd, st, bi, nd%s}
-use Rattle·tallies·specs.specs.Tallies.{countBelow, expressionCount, byType, byDeclaration}
+use Rattle.oat.specs.Basics.{sum_below, tabulate}
+use Rattle.oat.specs.Tables.{file_of}
+use Rattle.oat.specs.Syntax.{""" + SYNTAX + """}
+use Rattle.oat.specs.Nodes.{is_expression_kind, is_expression}
+use Rattle.oat.specs.ProgramFile.{widest, Program, IsFile}
+use Rattle.type_index.specs.Index.{first_below}
+use Rattle.typing_rules.specs.Check.{check_of}
+use Rattle.typing_rules.proofs.LawsComputed.{computed, is_file, is-file}
+use Rattle.typing_rules.proofs.Cases.{ty, fd, st, bi, nd%s}
+use Rattle.tallies.specs.Tallies.{count_below, expression_count, by_type, by_declaration}
 
 -- the program is that of a file, the check accepts it after these steps, and these are the tallies of the rows as the check leaves them, and
 -- the count of expressions
 pub record Tallies (p : Program) (steps : ℕ) (types declarations : List ℕ) (expressions : ℕ) : Type 0 where
-  pub file : IsFile widest (fileOf (p .tables)) p
-  pub number : checkOf p .number ≡ 0
-  pub step : checkOf p .step ≡ steps
-  pub place : checkOf p .place ≡ 0
-  pub by-type : byType (p .tables) (checkOf p .rows) ≡ types
-  pub by-declaration : byDeclaration (p .tables) 0 (p .declarations) ≡ declarations
-  pub count : expressionCount (p .tables) ≡ expressions
+  pub file : IsFile widest (file_of p.tables) p
+  pub number : (check_of p).number ≡ 0
+  pub step : (check_of p).step ≡ steps
+  pub place : (check_of p).place ≡ 0
+  pub by-type : by_type p.tables (check_of p).rows ≡ types
+  pub by-declaration : by_declaration p.tables 0 p.declarations ≡ declarations
+  pub count : expression_count p.tables ≡ expressions
 
 -- to unfold this is to unfold all that a theorem computes with
 tallied : Program → List ℕ
-unfolding computed isFile byType byDeclaration countBelow sumBelow tabulate firstBelow isExpression isExpressionKind
-tallied p = byType (p .tables) (checkOf p .rows)
+unfolding computed is_file by_type by_declaration count_below sum_below tabulate first_below is_expression is_expression_kind
+tallied p = by_type p.tables (check_of p).rows
 """
 
 
@@ -170,18 +170,18 @@ class Trees:
         if kind == 15:
             return "(name %d)" % x
         if kind == 16:
-            return "(arrayLiteral %d %s)" % (t, self.expressions(count))
+            return "(array_literal %d %s)" % (t, self.expressions(count))
         if kind == 21:
-            return "(structLiteral %d %s)" % (t, self.named(count, "init", "noInit"))
+            return "(struct_literal %d %s)" % (t, self.named(count, "init", "no_init"))
         first = self.expression()
         if kind == 17:
-            return "(defaultArray %d %s)" % (t, first)
+            return "(default_array %d %s)" % (t, first)
         if kind == 18:
-            return "(arrayWith %d %d %s %s)" % (t, x, first, self.expression())
+            return "(array_with %d %d %s %s)" % (t, x, first, self.expression())
         if kind == 19:
             return "(index %s %s)" % (first, self.expression())
         if kind == 20:
-            return "(lengthOf %s)" % first
+            return "(length_of %s)" % first
         if kind == 23:
             return "(field %d %s)" % (x, first)
         if kind == 24:
@@ -193,10 +193,10 @@ class Trees:
     def target(self):
         kind, x, _, _ = self.take()
         if kind == 15:
-            return "(nameTarget %d)" % x
+            return "(name_target %d)" % x
         if kind == 19:
-            return "(indexTarget %s %s)" % (self.expression(), self.expression())
-        return "(fieldTarget %d %s)" % (x, self.expression())
+            return "(index_target %s %s)" % (self.expression(), self.expression())
+        return "(field_target %d %s)" % (x, self.expression())
 
     def step(self):
         self.steps.add(self.at)
@@ -215,18 +215,18 @@ class Trees:
         if kind == 31:
             return "(var %d %s)" % (x, self.expression())
         if kind == 32:
-            return "(returnValue %s)" % self.expression()
+            return "(return_value %s)" % self.expression()
         if kind == 33:
-            return "returnVoid"
+            return "return_void"
         if kind == 34:
-            return "(callStmt %s %s)" % (self.expression(), self.expressions(count - 1))
+            return "(call_stmt %s %s)" % (self.expression(), self.expressions(count - 1))
         if kind == 35:
-            return "(ifElse %s %s %s)" % (self.expression(), self.block(), self.block())
+            return "(if_else %s %s %s)" % (self.expression(), self.block(), self.block())
         if kind == 36:
-            return "(ifNull %d %d %s %s %s)" % (x, t, self.expression(), self.block(), self.block())
+            return "(if_null %d %d %s %s %s)" % (x, t, self.expression(), self.block(), self.block())
         if kind == 37:
-            parts = (self.named(count - 3, "nextVar", "noVar"), self.absent("condition", "noCondition", self.expression),
-                     self.absent("step", "noStep", self.step), self.block())
+            parts = (self.named(count - 3, "next_var", "no_var"), self.absent("condition", "no_condition", self.expression),
+                     self.absent("step", "no_step", self.step), self.block())
             return "(for %s %s %s %s)" % parts
         return "(while %s %s)" % (self.expression(), self.block())
 
@@ -276,18 +276,18 @@ class File:
         terms, self.kinds = trees.declarations()
         self.steps = trees.steps
         records = (("types", "ty %d %d %d %d", types), ("list", "%d", entries), ("fields", "fd %d %d", fields), ("structs", "st %d %d %d", structs),
-                   ("builtIns", "bi %d %d", given), ("nodes", "nd %d %d %d %d", nodes))
+                   ("built_ins", "bi %d %d", given), ("nodes", "nd %d %d %d %d", nodes))
         tables = ["%s = %s;" % (name, listed(form % r for r in section)) for name, form, section in records]
         self.program = "record {\n  tables = record {\n%s\n  };\n%s\n}" % (
             "\n".join(wrapped("    " + line, 8) for line in tables), wrapped("  declarations = %s;" % listed(terms), 6))
 
     def written(self, name):
         """The program, under its name."""
-        return "\nunfoldable pub program-%s : Program\nprogram-%s = %s\n" % (name, name, self.program)
+        return "\nunfoldable pub program_%s : Program\nprogram_%s = %s\n" % (name, name, self.program)
 
     def theorem(self, name, stated, unfolded, proof):
         """What is stated of the program, with the definitions that its proof unfolds."""
-        return "\n%s\nunfolding program-%s %s\n%s = %s\n" % (wrapped("pub %s : %s" % (name, stated), 4), name, unfolded, name, proof)
+        return "\n%s\nunfolding program_%s %s\n%s = %s\n" % (wrapped("pub %s : %s" % (name, stated), 4), name, unfolded, name, proof)
 
 
 class Case(File):
@@ -336,8 +336,8 @@ class Case(File):
         return {(self.number, group, kind, endless, around, self.pairs > 0)}
 
     def text(self, name):
-        stated = "Answers program-%s %d %d %d %d %s" % (name, self.number, self.step, self.place, self.pairs, listed(self.rows))
-        return self.written(name) + self.theorem(name, stated, "computed isFile", "record { file = is-file widest program-%s refl; answer = refl }" % name)
+        stated = "Answers program_%s %d %d %d %d %s" % (name, self.number, self.step, self.place, self.pairs, listed(self.rows))
+        return self.written(name) + self.theorem(name, stated, "computed is_file", "record { file = is-file widest program_%s refl; answer = refl }" % name)
 
 
 def front(line, count, painted):
@@ -417,8 +417,8 @@ class Tally(File):
         return "\n" + textwrap.fill(words, 138, initial_indent="-- ", subsequent_indent="-- ")
 
     def text(self, name):
-        stated = "Tallies program-%s %s %s %s %d" % (name, self.step, listed(self.by_type), listed(self.by_declaration), self.expressions)
-        parts = ["file = is-file widest program-%s refl" % name]
+        stated = "Tallies program_%s %s %s %s %d" % (name, self.step, listed(self.by_type), listed(self.by_declaration), self.expressions)
+        parts = ["file = is-file widest program_%s refl" % name]
         parts += [part + " = refl" for part in ("number", "step", "place", "by-type", "by-declaration", "count")]
         return self.theorem(name, stated, "tallied", "record { %s }" % "; ".join(parts))
 
@@ -447,12 +447,12 @@ def chosen(cases):
 
 
 def named(cases):
-    """Each case with its name, as accepted-1 or refused-7-2."""
+    """Each case with its name, as accepted_1 or refused_7_2."""
     counts = {}
     for case in cases:
         counts[case.number] = counts.get(case.number, 0) + 1
-        kind = "accepted" if case.number == 0 else "refused-%d" % case.number
-        yield "%s-%d" % (kind, counts[case.number]), case
+        kind = "accepted" if case.number == 0 else "refused_%d" % case.number
+        yield "%s_%d" % (kind, counts[case.number]), case
 
 
 def accepted(tallies, most):
@@ -472,9 +472,12 @@ def by_hand(tallies):
 
 
 def write(crate, header, texts):
+    """Writes a file of cases; of the names of Syntax it brings in those that it uses."""
+    text = "".join(texts)
+    used = set(re.findall(r"\b\w+\b(?! =)", re.sub(r"--.*", "", text)))
+    brought = ", ".join(name for name in SYNTAX.split(", ") if name in used)
     with open(os.path.join(ROOT, "crates", crate, "proofs", "Cases.antt"), "w") as out:
-        out.write(header)
-        out.writelines(texts)
+        out.write(header.replace(SYNTAX, brought) + text)
 
 
 def main():
@@ -482,7 +485,7 @@ def main():
     asked = [int(word) for word in sys.argv[1:] if word != "tallies"]
     if "tallies" in sys.argv:
         tried = list(enumerate(accepted(tallies, asked[0])))[asked[1]:asked[2]]
-        write("tallies", TALLIES_HEADER % "", (tally.written("tried-%d" % n) + tally.text("tried-%d" % n) for n, tally in tried))
+        write("tallies", TALLIES_HEADER % "", (tally.written("tried_%d" % n) + tally.text("tried_%d" % n) for n, tally in tried))
         return
     hand = len(tallies) - len(checks)  # the files of the checks follow those by hand
     # zero bytes are left out: their program is that of the 44 bytes, which are among the files
@@ -495,9 +498,9 @@ def main():
     picked = list(named(chosen([case for case in cases if len(case.sections[0]) <= 80])))
     write("typing_rules", HEADER, (case.text(name) for name, case in picked))
     cited = [(name, Tally(*case.tally)) for name, case in picked if case.number == 0]
-    own = [("by-hand-%d" % n, tally) for n, tally in enumerate(by_hand(tallies[:hand]), 1)]
+    own = [("by_hand_%d" % n, tally) for n, tally in enumerate(by_hand(tallies[:hand]), 1)]
     texts = [tally.text(name) for name, tally in cited] + [tally.shown() + tally.written(name) + tally.text(name) for name, tally in own]
-    write("tallies", TALLIES_HEADER % "".join(", program-" + name for name, _ in cited), texts)
+    write("tallies", TALLIES_HEADER % "".join(", program_" + name for name, _ in cited), texts)
 
 
 if __name__ == "__main__":

@@ -1,5 +1,5 @@
 #!/usr/bin/env bash
-# Answers every stored vector with the static library, and compares (driver.rs). The program stays in target/tests for tests/compare.
+# Answers every stored vector with the static library, and compares (driver.rs).
 set -eu
 cd "$(dirname "$0")/../.."
 tests/link/library.sh
