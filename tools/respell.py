@@ -16,12 +16,12 @@ DECLARED = re.compile(r"(?m)^[ \t]*(?:(?:pattern|unfoldable|abbrev|pub|axiom|mut
 GOALS = re.compile(r"(?m)^[ \t]*(?:(?:abbrev|pub) )*(\S+) : (?:tie|goal)\.")
 # names that begin or end as those of goals do, whose dashes the rule below leaves
 GOAL_LIKE = """
-    after-init agree-index and-true at-index at-init below-init each-init entry-few entry-is entry-low entry-run entry-there if-case if-ends
+    after-init agree-index at-index at-init below-init each-init entry-few entry-is entry-low entry-run entry-there if-case if-ends
     if-first if-found if-marked if-no-2 if-null-case if-null-found if-null-ok if-second if-sort if-type in-arguments in-assigned in-at
     in-called in-callee in-condition in-elements in-else in-fields in-first in-for-body in-for-condition in-for-step in-for-vars in-indexed
     in-initial in-later in-length in-measured in-null in-nullable in-operand in-others in-passed in-position in-range-not-25 in-record
     in-returned in-role in-stmt in-stmts in-target in-test in-value in-var in-vars in-while-body in-while-test in-with-length in-with-value
-    loop-done loop-fails loop-goes on-index or-false or-true returns-are returns-at returns-entered returns-in returns-lower returns-marked
+    loop-done loop-fails loop-goes on-index returns-are returns-at returns-entered returns-in returns-lower returns-marked
     returns-next returns-up run-init typ-index typed-init
 """
 LAST = {n: n.replace("-", "_") for n in GOAL_LIKE.split()} | {"from_aTo_b": "from_a_to_b", "from_bTo_a": "from_b_to_a"}

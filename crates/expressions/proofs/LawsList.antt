@@ -41,9 +41,9 @@ abbrev pub expected_in : List ℕ → Sections → List ℕ → ℕ → List ℕ
 expected_in F S W base ts x = expected_asked (tables_of F S) (context_of (tables_of F S) W base) ts x
 
 -- questions one after another
-and_true : (a : Bool) → (a && true) ≡ a
-and_true true = refl
-and_true false = refl
+and-true : (a : Bool) → (a && true) ≡ a
+and-true true = refl
+and-true false = refl
 
 and_assoc : (a b c : Bool) → (a && (b && c)) ≡ ((a && b) && c)
 and_assoc true b c = refl
@@ -61,7 +61,7 @@ pub none_next : (c : Compared) → and_next (plainly true) c ≡ c
 none_next c = ap (λ k. record { holds = c.holds; pairs = k }) (zero-add c.pairs)
 
 pub next_none : (c : Compared) → and_next c (plainly true) ≡ c
-next_none c = ap₂ (λ f k. record { holds = f; pairs = k }) (and_true c.holds) (sum_none c.holds c.pairs)
+next_none c = ap₂ (λ f k. record { holds = f; pairs = k }) (and-true c.holds) (sum_none c.holds c.pairs)
 
 pub next_assoc : (a b c : Compared) → and_next a (and_next b c) ≡ and_next (and_next a b) c
 next_assoc a b c =

@@ -1,6 +1,6 @@
 -- Every program that stands in the node section within the depth is accepted by the recursive descent. Assumes nothing.
 use mathlib.Core.Path.{◌≡◌, refl, ap}
-use mathlib.Core.Bool.{Bool, true, false, ◌&&◌, ◌||◌, or_false, or_true, false≢true}
+use mathlib.Core.Bool.{Bool, true, false, ◌&&◌, ◌||◌, or-false, or-true, false≢true}
 use mathlib.Core.List.{List, [], ◌∷◌}
 use Prim.Native.Nat.{ℕ, zero, suc, ◌+◌, ◌-◌, ◌≤◌, ◌<◌}
 use native.Mathlib.Numerals.{sub-one}
@@ -70,7 +70,7 @@ module _ {T : Tables} {n k x t count : ℕ} (h : Node T n k x t count) where
   -- below a global all is in its tree, and below any other node what the node itself is in
   inner : {c : Bool} {role : Role} {d m : ℕ} → eqb k 1 ≡ false → admits c role k ≡ true → x_fits k x ≡ true → t_fits T k t ≡ true
       → count_fits k (params_of T k t) count ≡ true → 1 ≤ d → Run T (d - 1) c (child_role k count) count 0 (n + 1) m → Ends T d c role n m
-  inner e a p q r l s = node a p q r l (rw (e, or_false) s)
+  inner e a p q r l s = node a p q r l (rw (e, or-false) s)
 
 free : {b : Bool} → false ≡ true → b ≡ true
 free e = absurd (false≢true e)
@@ -167,7 +167,7 @@ test : {T : Tables} {n d : ℕ} (q : Condition) → ConditionStands T n q → de
     → Ends T d false Role.Condition n (n + size_condition q)
 unfolding admits is_expression x_fits t_fits count_fits
 test no_condition h l = inner h refl refl refl refl refl l (done refl)
-test (condition a) h l = in_role (expr a h l free) (λ e. rw (e, or_true))
+test (condition a) h l = in_role (expr a h l free) (λ e. rw (e, or-true))
 
 -- the vars of a for, and then its other children
 vars : {T : Tables} {n d i left p : ℕ} {role : ℕ → Role} (vs : Vars) → VarsStand T n vs → depth_vars vs ≤ d
@@ -231,7 +231,7 @@ mutual
 
   stepping : {T : Tables} {n d : ℕ} (s : Step) → StepStands T n s → depth_step s ≤ d → Ends T d false Role.Step n (n + size_step s)
   stepping no_step h l = inner h refl refl refl refl refl l (done refl)
-  stepping (step s) h l = in_role (stmt s h l) (λ e. rw (e, or_true))
+  stepping (step s) h l = in_role (stmt s h l) (λ e. rw (e, or-true))
 
   body : {T : Tables} {n d : ℕ} (b : Block) → BlockStands T n b → depth_block b ≤ d → Ends T d false Role.Block n (n + size_block b)
   body (block ss) h l =

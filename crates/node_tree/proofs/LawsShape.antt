@@ -1,6 +1,6 @@
 -- The shape of a node by its kind: what each arm of a `match` on the kind answers. Assumes nothing.
 use mathlib.Core.Path.{◌≡◌, refl, sym, ◌∙◌, ap}
-use mathlib.Core.Bool.{Bool, true, false, not, ◌&&◌, ◌||◌, and_true, and-false}
+use mathlib.Core.Bool.{Bool, true, false, not, ◌&&◌, ◌||◌, and-true, and-false}
 use mathlib.Core.List.{List, [], ◌∷◌, map}
 use mathlib.Core.Logic.{⊎_elim}
 use Prim.Native.Nat.{ℕ, zero, suc, ◌+◌, ◌<◌, ◌≤◌}
@@ -67,11 +67,11 @@ module _ (constant : Bool) (k : ℕ) where
 
   pub expression_17 : 17 ≤ k → k < 21 → not constant ≡ is_expression constant k
   unfolding is_expression
-  expression_17 a b = sym (and_true (not constant)) ∙ at_range (λ i. is_expression constant i) (not constant && true) 17 4 refl k a b
+  expression_17 a b = sym (and-true (not constant)) ∙ at_range (λ i. is_expression constant i) (not constant && true) 17 4 refl k a b
 
   pub expression_23 : 23 ≤ k → k < 27 → not constant ≡ is_expression constant k
   unfolding is_expression
-  expression_23 a b = sym (and_true (not constant)) ∙ at_range (λ i. is_expression constant i) (not constant && true) 23 4 refl k a b
+  expression_23 a b = sym (and-true (not constant)) ∙ at_range (λ i. is_expression constant i) (not constant && true) 23 4 refl k a b
 
   pub expression_not : (10 ≤ k → 16 < k) × (k ≡ 21 → ⊥) × (17 ≤ k → 20 < k) × (23 ≤ k → 26 < k) → false ≡ is_expression constant k
   unfolding is_expression

@@ -22,9 +22,9 @@ fails : {a : Bool} {A : Type 0} → (a ≡ true) ↔ A → (A → ⊥) → a ≡
 fails {a = true} f n = absurd (n (f.0 refl))
 fails {a = false} f n = refl
 
-or_false : (a : Bool) → (a || false) ≡ a
-or_false true = refl
-or_false false = refl
+or-false : (a : Bool) → (a || false) ≡ a
+or-false true = refl
+or-false false = refl
 
 pub parts_some : (t : Ty) → 1 ≤ parts_ty t
 unfolding parts_ty
@@ -140,7 +140,7 @@ says_same r e = record { says = r.says ∙ sym e; few = r.few }
 -- a reference: no test of one passes against a nullable type
 module _ (s : Ty) (g : Ty → Bool) (f : Ty → Compared) (no : (u : Ty) → g (nullable u) ≡ false) (h : (t : Ty) → Right (parts_ty s) (parts_ty t) (g t) (f t)) where
   as_ref : (t : Ty) → Right (parts_ty s) (parts_ty t) (g t || false) (f t)
-  as_ref t = says_same (h t) (or_false (g t))
+  as_ref t = says_same (h t) (or-false (g t))
 
   reached_right : (down : Bool) (t : Ty) → Right (parts_ty s) (parts_ty t) (or_nullable down g t) (reached down f t)
   unfolding parts_ty
@@ -175,7 +175,7 @@ module _ (s : Ty) (g : Ty → Bool) (f : Ty → Compared) (no : (t : Ty) → is_
   opened_right (struct x) = turned down (struct x)
   opened_right (array u) = turned down (array u)
   opened_right (function us u) = turned down (function us u)
-  opened_right (nullable u) = says_same (more (h u)) (ap (λ a. g u || a) (and_right (not down) (g (nullable u)) (no (nullable u) refl)) ∙ or_false (g u))
+  opened_right (nullable u) = says_same (more (h u)) (ap (λ a. g u || a) (and_right (not down) (g (nullable u)) (no (nullable u) refl)) ∙ or-false (g u))
 
   nullable_agrees : Agrees (nullable s) (nullable_tests down g) (nullable_pair down f)
   unfolding parts_ty

@@ -51,9 +51,9 @@ module _ (T : Tables) (p q : ℕ) where
     fields_more a f = all_more j _ a (sym et ∙ not-false t f)
 
 -- the test at 0, then at the others
-and_true : (a : Bool) → (a && true) ≡ a
-and_true true = refl
-and_true false = refl
+and-true : (a : Bool) → (a && true) ≡ a
+and-true true = refl
+and-true false = refl
 
 and_assoc : (a b c : Bool) → (a && b && c) ≡ (a && (b && c))
 and_assoc true b c = refl
@@ -61,7 +61,7 @@ and_assoc false b c = refl
 
 all_first : (n : ℕ) (p : ℕ → Bool) → all_below (suc n) p ≡ (p 0 && all_below n (λ j. p (suc j)))
 unfolding all_below
-all_first zero p = sym (and_true (p 0))
+all_first zero p = sym (and-true (p 0))
 all_first (suc n) p = ap (λ a. a && p (suc n)) (all_first n p) ∙ and_assoc (p 0) (all_below n (λ j. p (suc j))) (p (suc n))
 
 -- fields begin others: not where there are fewer, else where they are the same one by one

@@ -98,11 +98,11 @@ module _ {A : Type 0} {P : A → Type 0} {Z : ℕ → Type 0} {d : Bool} where
 
   -- the last part
   all_of : {o : Out A} → Tells P Z (d && true) o → Tells P Z d o
-  all_of {o} t = subst (λ b. Tells P Z b o) (and_true d) t
+  all_of {o} t = subst (λ b. Tells P Z b o) (and-true d) t
     where
-      and_true : (b : Bool) → (b && true) ≡ b
-      and_true true = refl
-      and_true false = refl
+      and-true : (b : Bool) → (b && true) ≡ b
+      and-true true = refl
+      and-true false = refl
 
 abbrev Any : {A : Type 0} → A → Type 0
 Any a = Unit {0}

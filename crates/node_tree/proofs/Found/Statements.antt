@@ -50,9 +50,9 @@ for_deep v q s b d h =
     let k = rw e at h in
     omega arith
 
-or_true : (b : Bool) → (b || true) ≡ true
-or_true true = refl
-or_true false = refl
+or-true : (b : Bool) → (b || true) ≡ true
+or-true true = refl
+or-true false = refl
 
 -- the children of a for and of a function
 module _ {T : Tables} {d : ℕ} (levels : Levels T d) (b : Bool) (left n j : ℕ) where
@@ -219,7 +219,7 @@ module _ {T : Tables} {d : ℕ} (levels : Levels T d) (constant : Bool) (n j x t
   global_found f =
       node_found levels (fits_as f refl (zero_is f.t-fits) (eqb-true c 1 f.count_fit))
       (λ p. global x p.0)
-      (λ node p s. (node, s.0.1 (or_true constant), s.0.0))
+      (λ node p s. (node, s.0.1 (or-true constant), s.0.0))
       (λ p. omega arith)
 
   pub function_declaration : Gives Declaration 2
