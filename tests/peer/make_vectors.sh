@@ -6,16 +6,9 @@ cargo run --offline --release --quiet -- vectors ../vectors
 cd ../..
 tests/reading/vectors.py tests/vectors
 tests/buffers/pack.py
-cp tests/vectors/check.bin crates/check_vectors/stdin
-cp tests/vectors/check.txt crates/check_vectors/stdout
-cp tests/vectors/sub.bin crates/subtype_vectors/stdin
-cp tests/vectors/sub.txt crates/subtype_vectors/stdout
-cp tests/vectors/limits.bin crates/limit_vectors/stdin
-cp tests/vectors/limits.txt crates/limit_vectors/stdout
-cp tests/vectors/tallies.bin crates/tally_vectors/stdin
-cp tests/vectors/tallies.txt crates/tally_vectors/stdout
-cp tests/vectors/pages.bin crates/page_vectors/stdin
-cp tests/vectors/pages.txt crates/page_vectors/stdout
-cp tests/vectors/buffers.bin crates/buffer_vectors/stdin
-cp tests/vectors/buffers.txt crates/buffer_vectors/stdout
+for set in check:check sub:subtype limits:limit tallies:tally pages:page buffers:buffer; do
+    crate=crates/${set#*:}_vectors
+    cp "tests/vectors/${set%:*}.bin" "$crate/stdin"
+    cp "tests/vectors/${set%:*}.txt" "$crate/stdout"
+done
 tests/reading/pack.sh
