@@ -4,7 +4,7 @@ ghost use Rattle.oat.specs.Types.{struct_of};
 ghost use Rattle.typing_rules.specs.Steps.{distinct_fields};
 ghost use Rattle.file_sections.specs.Layout.{tables_of, GoodTables};
 
-use crate::lookup::{FieldType, field_among};
+use crate::lookup::field_among;
 use file_sections::Sections;
 use file_sections::records::{field_name, struct_count, struct_first};
 
@@ -14,20 +14,14 @@ pub fn are_distinct(file: &[u8], sections: Sections, owner: usize) -> bool
     ensures { result ≡ distinct_fields (struct_of (tables_of file.now sections) owner).fields }
 {
     let first = struct_first(file, sections, owner);
-    let count = struct_count(file, sections, owner);
     let mut above = 0;
-    let mut i = 0;
-    while i < count {
+    for i in 0..struct_count(file, sections, owner) {
         let name = field_name(file, sections, first + i);
         if above <= name {
             above = name + 1;
-        } else {
-            let before = field_among(file, sections, name, first, i);
-            let FieldType::Unknown = before else {
-                return false;
-            };
+        } else if field_among(file, sections, name, first, i).is_some() {
+            return false;
         }
-        i += 1;
     }
     true
 }

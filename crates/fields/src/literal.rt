@@ -18,13 +18,11 @@ fn is_named(file: &[u8], sections: Sections, node: usize, count: usize, name: us
     ensures { OfInitializers file.now sections node count (λ is. result ≡ is_named name is) }
 {
     let mut at = node;
-    let mut passed = 0;
-    while passed < count {
+    for _passed in 0..count {
         if node_x(file, sections, at) == name {
             return true;
         }
         at = past(file, sections, at + 1);
-        passed += 1;
     }
     false
 }
@@ -37,14 +35,12 @@ fn all_named(file: &[u8], sections: Sections, node: usize, count: usize, owner: 
 {
     let first = struct_first(file, sections, owner);
     let mut at = node;
-    let mut i = 0;
-    while i < count {
+    for i in 0..count {
         let name = field_name(file, sections, first + i);
         if node_x(file, sections, at) != name && !is_named(file, sections, node, count, name) {
             return false;
         }
         at = past(file, sections, at + 1);
-        i += 1;
     }
     true
 }
@@ -55,11 +51,7 @@ pub fn names_fit(file: &[u8], sections: Sections, node: usize, owner: usize) -> 
     ensures { OfInitializers file.now sections (node + 1) (node_at (tables_of file.now sections) node).children (λ is. result ≡ names_fit (struct_of (tables_of file.now sections) owner).fields is) }
 {
     let count = node_children(file, sections, node);
-    if count != struct_count(file, sections, owner) {
-        return false;
-    }
-    if !are_distinct(file, sections, owner) {
-        return false;
-    }
-    all_named(file, sections, node + 1, count, owner)
+    count == struct_count(file, sections, owner)
+        && are_distinct(file, sections, owner)
+        && all_named(file, sections, node + 1, count, owner)
 }
