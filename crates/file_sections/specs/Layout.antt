@@ -1,36 +1,28 @@
 -- Document 01, 'Rows and answers': counts are tested section by section (missing 1, too large 2, records cut 1), leftover
 -- bytes 1. Positions are counted in numbers. Assumes nothing.
-use Rattle.std.specs.Prelude.{◌≡◌, true, List, ℕ, ◌+◌, ◌*◌, ◌≤◌, ◌<◌, length, eqb, ltb}
+use Rattle.std.specs.Prelude.{◌≡◌, true, List, ℕ, ◌+◌, ◌*◌, ◌≤◌, ◌<◌, length, eqb, ltb, Result, Ok, Err}
 use Rattle.oat.specs.Basics.{pick, tabulate}
 use Rattle.oat.specs.Tables.{Tables, TypeRecord, FieldRecord, StructRecord, BuiltInRecord, NodeRecord}
 use Rattle.oat.specs.TypeRules.{types_right}
 use Rattle.oat.specs.TableRules.{tables_right}
 use Rattle.file_sections.specs.Numbers.{number_at}
 use Rattle.file_sections.specs.declared.Sections.{Sections}
-use Rattle.file_sections.specs.declared.Reading.{Reading}
-use Rattle.file_sections.specs.declared.Reading.TheVariants.{Refused, Good}
+use Rattle.file_sections.specs.declared.Unreadable.{Unreadable}
+use Rattle.file_sections.specs.declared.Unreadable.TheVariants.{Length, Count}
 use Rattle.file_sections.specs.declared.layout.Section.{Section}
-use Rattle.file_sections.specs.declared.layout.Section.TheVariants.{Bad, Counted}
 
 -- the section whose count is the number `at`, of at most `most` records of `size` numbers: its count, and what comes after it
-unfoldable pub section_of : List ℕ → ℕ → ℕ → ℕ → Section
+unfoldable pub section_of : List ℕ → ℕ → ℕ → ℕ → Result Section Unreadable
 section_of s at most size =
-    pick (ltb (length s) (at * 2 + 2)) (Bad 1)
-    (pick (ltb most (number_at s at)) (Bad 2)
-    (pick (ltb (length s) ((at + 1 + number_at s at * size) * 2)) (Bad 1)
-    (Counted (number_at s at) (at + 1 + number_at s at * size))))
+    pick (ltb (length s) (at * 2 + 2)) (Err Length)
+    (pick (ltb most (number_at s at)) (Err Count)
+    (pick (ltb (length s) ((at + 1 + number_at s at * size) * 2)) (Err Length)
+    (Ok (record { count = number_at s at; next = at + 1 + number_at s at * size }))))
 
-abbrev pub then_section : Section → (ℕ → ℕ → Reading) → Reading
-then_section (Bad n) k = Refused n
-then_section (Counted count next) k = k count next
-
-abbrev pub then_reading : Reading → (Sections → Reading) → Reading
-then_reading (Refused n) k = Refused n
-then_reading (Good S) k = k S
-
--- a section's refusal
-abbrev pub refusal_of : Section → Reading
-refusal_of r = then_section r (λ count next. Refused 0)
+-- a refusal is passed on, and what is read goes on
+abbrev pub then_reading : {A B : Type 0} → Result A Unreadable → (A → Result B Unreadable) → Result B Unreadable
+then_reading (Err e) k = Err e
+then_reading (Ok x) k = k x
 
 -- the first three sections, laid; `structs_at` is the number after them
 abbrev pub front_sections : ℕ → ℕ → ℕ → ℕ → ℕ → ℕ → Sections
@@ -48,12 +40,12 @@ front_sections types entries list members fields structs = record {
   nodes_at = 0;
 }
 
-unfoldable pub front_of : List ℕ → Reading
+unfoldable pub front_of : List ℕ → Result Sections Unreadable
 front_of s =
-    then_section (section_of s 0 512 4) λ types list.
-    then_section (section_of s list 1024 1) λ entries fields.
-    then_section (section_of s fields 1024 2) λ members structs.
-    Good (front_sections types entries list members fields structs)
+    then_reading (section_of s 0 512 4) λ types.
+    then_reading (section_of s types.next 1024 1) λ list.
+    then_reading (section_of s list.next 1024 2) λ fields.
+    Ok (front_sections types.count list.count types.next fields.count list.next fields.next)
 
 -- all six sections, laid
 abbrev pub all_sections : Sections → ℕ → ℕ → ℕ → ℕ → ℕ → Sections
@@ -72,13 +64,13 @@ all_sections F records built_ins given nodes count = record {
 }
 
 -- the six sections, in a fixed order, with nothing left over
-unfoldable pub sections_of : List ℕ → Reading
+unfoldable pub sections_of : List ℕ → Result Sections Unreadable
 sections_of s =
     then_reading (front_of s) λ F.
-    then_section (section_of s F.structs_at 256 3) λ records built_ins.
-    then_section (section_of s built_ins 128 2) λ given nodes.
-    then_section (section_of s nodes 4096 4) λ count end.
-    pick (eqb (length s) (end * 2)) (Good (all_sections F records built_ins given nodes count)) (Refused 1)
+    then_reading (section_of s F.structs_at 256 3) λ structs.
+    then_reading (section_of s structs.next 128 2) λ built_ins.
+    then_reading (section_of s built_ins.next 4096 4) λ nodes.
+    pick (eqb (length s) (nodes.next * 2)) (Ok (all_sections F structs.count structs.next built_ins.count built_ins.next nodes.count)) (Err Length)
 
 -- the sections stand end to end in the file, and none is larger than its most
 pub record Laid (s : List ℕ) (S : Sections) : Type 0 where

@@ -1,3 +1,4 @@
+pub mod Unreadable
 pub mod Numbers
 pub mod Layout
 pub mod Trees

@@ -28,31 +28,19 @@ pub fn category_of(kind: usize) -> Category
 pub fn is_declaration(kind: usize) -> bool
     ensures { result ≡ is_declaration_kind kind }
 {
-    let category = category_of(kind);
-    match category {
-        Category::Declaration => true,
-        _ => false,
-    }
+    matches!(category_of(kind), Category::Declaration)
 }
 
 // A node of this kind is an expression.
 pub fn is_expression(kind: usize) -> bool
     ensures { result ≡ is_expression_kind kind }
 {
-    let category = category_of(kind);
-    match category {
-        Category::Expression => true,
-        _ => false,
-    }
+    matches!(category_of(kind), Category::Expression)
 }
 
 // A node of this kind is a statement.
 pub fn is_statement(kind: usize) -> bool
     ensures { result ≡ is_statement_kind kind }
 {
-    let category = category_of(kind);
-    match category {
-        Category::Statement => true,
-        _ => false,
-    }
+    matches!(category_of(kind), Category::Statement)
 }

@@ -2,6 +2,9 @@
 // 1 and 2), readers of single records, the category of a node, and where a tree of nodes ends.
 #![tactic(auto)]
 
+ghost use Rattle.std.specs.Prelude.{◌≡◌};
+ghost use Rattle.file_sections.specs.Unreadable.{unreadable_number};
+
 pub mod categories;
 pub mod layout;
 pub mod numbers;
@@ -24,9 +27,30 @@ pub struct Sections {
     pub nodes_at: usize,
 }
 
-// The answer of reading: refused under its number, or where the sections stand.
-#[derive(Clone, Copy)]
-pub enum Reading {
-    Refused(u16),
-    Good(Sections),
+// Why bytes cannot be read: a section is missing, cut or followed by bytes (1), a count is too large (2), a rule on types is
+// broken (3), one on fields, structs and built-ins (4), one on nodes (5), or a limit is out of its range (25).
+#[derive(Clone, Copy, PartialEq, Eq)]
+pub enum Unreadable {
+    Length,
+    Count,
+    Types,
+    Tables,
+    Nodes,
+    Limits,
+}
+
+impl Unreadable {
+    // The number that the documents give it.
+    pub fn number(self) -> u16
+        ensures { result ≡ unreadable_number self }
+    {
+        match self {
+            Unreadable::Length => 1,
+            Unreadable::Count => 2,
+            Unreadable::Types => 3,
+            Unreadable::Tables => 4,
+            Unreadable::Nodes => 5,
+            Unreadable::Limits => 25,
+        }
+    }
 }
