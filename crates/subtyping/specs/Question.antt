@@ -1,7 +1,7 @@
 -- The subtype question (document 01, 'Rows and answers'; document 02, (xi)): 25, then 1 to 5, then 17, then yes or no, of the types in the bytes
 -- that are meant (document 02, (v)), with the count of the pairs of types compared (document 02, (viii)); and what its number, its yes and its
 -- count say of the limits, the file and the rules. Assumes nothing.
-use Rattle.std.specs.Prelude.{◌≡◌, true, false, List, ◌↔◌, ◌⊎◌, ℕ, ◌+◌, ◌≤◌, ◌<◌, length, leb}
+use Rattle.std.specs.Prelude.{◌≡◌, Bool, true, false, List, ◌↔◌, ◌⊎◌, Result, Ok, Err, ℕ, ◌+◌, ◌≤◌, ◌<◌, length, leb}
 use Rattle.oat.specs.Basics.{pick}
 use Rattle.oat.specs.Tables.{Tables}
 use Rattle.oat.specs.TypeRules.{parts_at}
@@ -10,49 +10,55 @@ use Rattle.oat.specs.Subtyping.{SubRet}
 use Rattle.oat.specs.Decide.{is_formed}
 use Rattle.oat.specs.ProgramFile.{Limits, in_range, Program, meant, IsFile}
 use Rattle.file_sections.specs.declared.Sections.{Sections}
-use Rattle.file_sections.specs.declared.Reading.{Reading}
-use Rattle.file_sections.specs.declared.Reading.TheVariants.{Good}
-use Rattle.file_sections.specs.declared.Reading.TheVariants
+use Rattle.file_sections.specs.declared.Unreadable as Files
+use Rattle.file_sections.specs.Unreadable.{unreadable_number}
 use Rattle.file_sections.specs.Layout.{tables_of}
 use Rattle.program_file.specs.Reading.{reading_of, number_of, IsProgramFile}
 use Rattle.type_index.specs.Index.{declared}
 use Rattle.subtyping.specs.Numbered.{below_at, pairs_at}
 use Rattle.subtyping.specs.declared.question.Answer.{Answer}
-use Rattle.subtyping.specs.declared.question.Answer.TheVariants.{Refused, Yes, No}
+use Rattle.subtyping.specs.declared.question.Refusal.{Refusal}
+use Rattle.subtyping.specs.declared.question.Refusal.TheVariants.{Unreadable, NoType}
+
+-- document 01's number for a refusal: that of the reading, or 17
+abbrev pub refused_number : Refusal → ℕ
+refused_number (Unreadable e) = unreadable_number e
+refused_number NoType = 17
+
+-- yes or no, after k pairs
+abbrev pub answered : Bool → ℕ → Result Answer Refusal
+answered yes k = Ok (record { holds = yes; pairs = k })
 
 -- the question on the tables of a file: 17 for a type that the file lacks
-unfoldable pub ask_of : Tables → ℕ → ℕ → Answer
+unfoldable pub ask_of : Tables → ℕ → ℕ → Result Answer Refusal
 ask_of T a b =
-    pick (leb (length T.types) a) (Refused 17)
-    (pick (leb (length T.types) b) (Refused 17)
-    (pick (below_at T a b) (Yes (pairs_at T a b)) (No (pairs_at T a b))))
+    pick (leb (length T.types) a) (Err NoType)
+    (pick (leb (length T.types) b) (Err NoType)
+    (answered (below_at T a b) (pairs_at T a b)))
 
 -- the question on a file that was read
-abbrev pub on_reading : Reading → (Sections → Answer) → Answer
-on_reading (TheVariants.Refused n) k = Refused n
-on_reading (Good S) k = k S
+abbrev pub on_reading : Result Sections Files.Unreadable → (Sections → Result Answer Refusal) → Result Answer Refusal
+on_reading (Err e) k = Err (Unreadable e)
+on_reading (Ok S) k = k S
 
 -- is the type a below the type b?
-unfoldable pub subtype_of : Limits → List ℕ → ℕ → ℕ → Answer
+unfoldable pub subtype_of : Limits → List ℕ → ℕ → ℕ → Result Answer Refusal
 subtype_of limits s a b = on_reading (reading_of limits s) λ S. ask_of (tables_of (meant s) S) a b
 
 -- document 01's number for an answer; yes and no are no refusals
-abbrev pub refusal_number : Answer → ℕ
-refusal_number (Refused n) = n
-refusal_number (Yes k) = 0
-refusal_number (No k) = 0
+abbrev pub refusal_number : Result Answer Refusal → ℕ
+refusal_number (Err e) = refused_number e
+refusal_number (Ok r) = 0
 
 -- 1 for yes, 0 for no; a refusal leaves what was there
-abbrev pub yes_after : ℕ → Answer → ℕ
-yes_after old (Refused n) = old
-yes_after old (Yes k) = 1
-yes_after old (No k) = 0
+abbrev pub yes_after : ℕ → Result Answer Refusal → ℕ
+yes_after old (Err e) = old
+yes_after old (Ok r) = pick r.holds 1 0
 
 -- how many pairs of types were compared; a refused question counts 0
-abbrev pub pairs_of : Answer → ℕ
-pairs_of (Refused n) = 0
-pairs_of (Yes k) = k
-pairs_of (No k) = k
+abbrev pub pairs_of : Result Answer Refusal → ℕ
+pairs_of (Err e) = 0
+pairs_of (Ok r) = r.pairs
 
 -- the program has both types
 abbrev pub HasBoth : Program → ℕ → ℕ → Type 0

@@ -27,25 +27,24 @@ pub struct Compared {
     pub pairs: usize,
 }
 
+impl Compared {
+    // The comparison, with the `pairs` pairs before it.
+    fn after(self, pairs: usize) -> Compared
+        requires { pairs + self.pairs ≤ usize.MAX }
+        ensures { result ≡ record { holds = self.holds; pairs = pairs + self.pairs } }
+    {
+        Compared {
+            holds: self.holds,
+            pairs: pairs + self.pairs,
+        }
+    }
+}
+
 // A pair that leads to no other.
 fn one_pair(holds: bool) -> Compared
     ensures { result ≡ record { holds = holds; pairs = 1 } }
 {
-    Compared {
-        holds: holds,
-        pairs: 1,
-    }
-}
-
-// A pair, and what it leads to.
-fn pair(c: Compared) -> Compared
-    requires { c.pairs < 400 }
-    ensures { result ≡ record { holds = c.holds; pairs = 1 + c.pairs } }
-{
-    Compared {
-        holds: c.holds,
-        pairs: 1 + c.pairs,
-    }
+    Compared { holds, pairs: 1 }
 }
 
 // The fields i and j have the same name and the same type.
@@ -53,14 +52,12 @@ fn same_field(file: &[u8], sections: Sections, index: &[u16], i: usize, j: usize
     requires { GoodTables file.now sections × Indexed index.now (tables_of file.now sections) sections.types × (i < sections.fields) × (j < sections.fields) }
     ensures { result ≡ same_field (tables_of file.now sections) i j }
 {
-    if field_name(file, sections, i) != field_name(file, sections, j) {
-        return false;
-    }
-    same(
-        index,
-        field_type(file, sections, i),
-        field_type(file, sections, j),
-    )
+    field_name(file, sections, i) == field_name(file, sections, j)
+        && same(
+            index,
+            field_type(file, sections, i),
+            field_type(file, sections, j),
+        )
 }
 
 // `count` fields from p on are those from q on.
@@ -75,12 +72,10 @@ fn same_fields(
     requires { GoodTables file.now sections × Indexed index.now (tables_of file.now sections) sections.types × (p + count ≤ sections.fields) × (q + count ≤ sections.fields) }
     ensures { result ≡ same_fields (tables_of file.now sections) p q count }
 {
-    let mut j = 0;
-    while j < count {
+    for j in 0..count {
         if !same_field(file, sections, index, p + j, q + j) {
             return false;
         }
-        j += 1;
     }
     true
 }
@@ -91,17 +86,15 @@ fn begins(file: &[u8], sections: Sections, index: &[u16], i: usize, j: usize) ->
     ensures { result ≡ Decide.begins_with (struct_of (tables_of file.now sections) i).fields (struct_of (tables_of file.now sections) j).fields }
 {
     let count = struct_count(file, sections, j);
-    if struct_count(file, sections, i) < count {
-        return false;
-    }
-    same_fields(
-        file,
-        sections,
-        index,
-        struct_first(file, sections, i),
-        struct_first(file, sections, j),
-        count,
-    )
+    count <= struct_count(file, sections, i)
+        && same_fields(
+            file,
+            sections,
+            index,
+            struct_first(file, sections, i),
+            struct_first(file, sections, j),
+            count,
+        )
 }
 
 // Both structs are declared, and the fields of the second begin those of the first.
@@ -111,13 +104,9 @@ fn struct_below(file: &[u8], sections: Sections, index: &[u16], a: usize, b: usi
 {
     let first = struct_record(index, a);
     let second = struct_record(index, b);
-    if sections.structs <= first {
-        return false;
-    }
-    if sections.structs <= second {
-        return false;
-    }
-    begins(file, sections, index, first, second)
+    first < sections.structs
+        && second < sections.structs
+        && begins(file, sections, index, first, second)
 }
 
 // The equality test of the types a and b: of equal ones it compares all parts.
@@ -158,10 +147,7 @@ fn function_below(file: &[u8], sections: Sections, index: &[u16], a: usize, b: u
         count,
     );
     if !params.holds {
-        return Compared {
-            holds: false,
-            pairs: 1 + params.pairs,
-        };
+        return params.after(1);
     }
     let returns = below(
         file,
@@ -170,10 +156,7 @@ fn function_below(file: &[u8], sections: Sections, index: &[u16], a: usize, b: u
         type_a(file, sections, a),
         type_a(file, sections, b),
     );
-    Compared {
-        holds: returns.holds,
-        pairs: 1 + params.pairs + returns.pairs,
-    }
+    returns.after(1 + params.pairs)
 }
 
 // `count` parameters of a, from the entry p on, against those of b, from q on, one by one, up to the first that is not below.
@@ -208,10 +191,7 @@ fn params_below(
         return first;
     }
     let others = params_below(file, sections, index, a, b, p + 1, q + 1, count - 1);
-    Compared {
-        holds: others.holds,
-        pairs: first.pairs + others.pairs,
-    }
+    others.after(first.pairs)
 }
 
 // Two types of one kind.
@@ -229,21 +209,27 @@ fn kind_below(
 {
     match kind {
         4 => one_pair(struct_below(file, sections, index, a, b)),
-        5 => pair(equal(
-            file,
-            sections,
-            index,
-            type_a(file, sections, a),
-            type_a(file, sections, b),
-        )),
+        5 => {
+            let elements = equal(
+                file,
+                sections,
+                index,
+                type_a(file, sections, a),
+                type_a(file, sections, b),
+            );
+            elements.after(1)
+        }
         6 => function_below(file, sections, index, a, b),
-        7 => pair(below(
-            file,
-            sections,
-            index,
-            type_a(file, sections, a),
-            type_a(file, sections, b),
-        )),
+        7 => {
+            let references = below(
+                file,
+                sections,
+                index,
+                type_a(file, sections, a),
+                type_a(file, sections, b),
+            );
+            references.after(1)
+        }
         _ => one_pair(true),
     }
 }
@@ -263,7 +249,7 @@ fn by_kinds(file: &[u8], sections: Sections, index: &[u16], a: usize, b: usize) 
         return one_pair(false);
     }
     match kind {
-        2 | 4..=6 => pair(below(file, sections, index, a, type_a(file, sections, b))),
+        2 | 4..=6 => below(file, sections, index, a, type_a(file, sections, b)).after(1),
         _ => one_pair(false),
     }
 }

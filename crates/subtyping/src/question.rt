@@ -2,51 +2,72 @@
 ghost use Rattle.std.specs.Prelude.{◌≡◌, ℕ, ◌<◌};
 ghost use Rattle.file_sections.specs.Layout.{tables_of, GoodTables};
 ghost use Rattle.program_file.specs.Reading.{setting_of};
-ghost use Rattle.subtyping.specs.Question.{ask_of, subtype_of, refusal_number, yes_after, pairs_of, Answers};
+ghost use Rattle.subtyping.specs.Numbered.{below_at, pairs_at};
+ghost use Rattle.subtyping.specs.Question.{refused_number, subtype_of, refusal_number, yes_after, pairs_of, Answers};
 
 use crate::below::below;
-use file_sections::{Reading, Sections};
+use file_sections::{Sections, Unreadable};
 use program_file::{Limits, blank_file, meant};
 use type_index::index::index_types;
 
-#[derive(Clone, Copy)]
-pub enum Answer {
-    Refused(u16),
-    Yes(u16),
-    No(u16),
+// Yes or no, and how many pairs of types were compared.
+#[derive(Clone, Copy, PartialEq, Eq)]
+pub struct Answer {
+    pub holds: bool,
+    pub pairs: u16,
+}
+
+// Why the question has no answer: the file cannot be read, or it lacks one of the types (17).
+#[derive(Clone, Copy, PartialEq, Eq)]
+pub enum Refusal {
+    Unreadable(Unreadable),
+    NoType,
+}
+
+impl From<Unreadable> for Refusal {
+    ghost from_gives = { λ error refusal. refusal ≡ Refusal.Unreadable error };
+
+    fn from(error: Unreadable) -> Refusal {
+        Refusal::Unreadable(error)
+    }
+}
+
+impl Refusal {
+    // The number that the documents give it.
+    pub fn number(self) -> u16
+        ensures { result ≡ refused_number self }
+    {
+        match self {
+            Refusal::Unreadable(error) => error.number(),
+            Refusal::NoType => 17,
+        }
+    }
 }
 
 // The question on a file that was read and has both types.
 fn ask(file: &[u8], sections: Sections, a: usize, b: usize) -> Answer
     requires { GoodTables file.now sections × (a < sections.types) × (b < sections.types) }
-    ensures { result ≡ ask_of (tables_of file.now sections) a b }
+    ensures { result ≡ record { holds = below_at (tables_of file.now sections) a b; pairs = pairs_at (tables_of file.now sections) a b } }
 {
     let mut index = [0u16; 2624];
     index_types(file, sections, &mut index);
     let compared = below(file, sections, &index, a, b);
-    let pairs = compared.pairs as u16;
-    if compared.holds {
-        return Answer::Yes(pairs);
+    Answer {
+        holds: compared.holds,
+        pairs: compared.pairs as u16,
     }
-    Answer::No(pairs)
 }
 
 // Is the type a below the type b? Whatever value a caller holds before, the answer's number, `yes_after` and its count give what `Answers`
 // says.
-pub fn subtype(file: &[u8], limits: Limits, a: usize, b: usize) -> Answer
+pub fn subtype(file: &[u8], limits: Limits, a: usize, b: usize) -> Result<Answer, Refusal>
     ensures value { result ≡ subtype_of (setting_of limits) file.now a b }
     ensures by_index { (old : ℕ) → Answers (setting_of limits) file.now a b (refusal_number result) old (yes_after old result) (pairs_of result) }
 {
-    let read = program_file::read(file, limits);
-    let Reading::Good(sections) = read else {
-        return Answer::Refused(program_file::number(read));
-    };
-    if sections.types <= a {
-        return Answer::Refused(17);
-    }
-    if sections.types <= b {
-        return Answer::Refused(17);
+    let sections = program_file::read(file, limits)?;
+    if sections.types <= a || sections.types <= b {
+        return Err(Refusal::NoType);
     }
     let blank = blank_file();
-    ask(meant(file, &blank), sections, a, b)
+    Ok(ask(meant(file, &blank), sections, a, b))
 }

@@ -26,18 +26,14 @@ fn first_unequal(
     requires { Listed file.now sections p count × Listed file.now sections q count × (2624 ≤ length index.now) }
     ensures { Differ index.now (tables_of file.now sections) p q count result }
 {
-    let mut j = 0;
-    while j < count {
-        if !same(
-            index,
-            list_entry(file, sections, p + j),
-            list_entry(file, sections, q + j),
-        ) {
+    for j in 0..count {
+        let x = list_entry(file, sections, p + j);
+        let y = list_entry(file, sections, q + j);
+        if !same(index, x, y) {
             return j;
         }
-        j += 1;
     }
-    j
+    count
 }
 
 // The parameter j of the function type i, or its return type, which comes after them.
