@@ -1,6 +1,6 @@
 -- Scopes and contexts as the buffers hold them. A position is a built-in's number, or the number of built-ins plus that of an entry of
 -- the stack W, two numbers each: binder and type. A scope is a height. Assumes nothing.
-use Rattle.std.specs.Prelude.{◌≡◌, Bool, true, false, not, List, [], ◌∷◌, ℕ, zero, suc, ◌+◌, ◌-◌, ◌*◌, ◌%◌, ◌≤◌, ◌<◌, length, get_or, eqb, ltb}
+use Rattle.std.specs.Prelude.{◌≡◌, Bool, true, false, not, List, [], ◌∷◌, ℕ, zero, suc, ◌+◌, ◌-◌, ◌*◌, ◌%◌, ◌≤◌, ◌<◌, length, get_or, eqb, ltb, Option, Some as At, None as Nothing}
 use Rattle.oat.specs.Basics.{pick}
 use Rattle.oat.specs.Tables.{Tables, built_in_at, node_at}
 use Rattle.chains.specs.Chains.{highest, Chains}
@@ -8,8 +8,6 @@ use Rattle.typing_rules.specs.Contexts.{Scope, empty, binds, Entry, find, is_unb
 use Rattle.file_sections.specs.declared.Sections.{Sections}
 use Rattle.file_sections.specs.Layout.{Laid, tables_of}
 use Rattle.file_sections.specs.Frames.{Same}
-use Rattle.bindings.specs.declared.Found.{Found}
-use Rattle.bindings.specs.declared.Found.TheVariants.{At, Nothing}
 
 -- where the entry of the position j stands in the stack
 abbrev pub entry_of : Tables → ℕ → ℕ

@@ -6,7 +6,7 @@
 
 ghost use Rattle.std.specs.Prelude.{◌≡◌, ◌+◌, ◌*◌, ◌%◌, ◌≤◌, ◌<◌, length, get_or, set};
 ghost use Rattle.file_sections.specs.Layout.{tables_of};
-ghost use Rattle.bindings.specs.Bindings.{binder_of, type_bound, name_bound, Position, Scoped, Some, SomeFrom, Finds, Freshness, Assignability, Bindable, Bound};
+ghost use Rattle.bindings.specs.Bindings.{binder_of, type_bound, name_bound, Position, Scoped, Some as Holding, SomeFrom, Finds, Freshness, Assignability, Bindable, Bound};
 
 use file_sections::Sections;
 use file_sections::records::{built_in_name, built_in_type, node_kind, node_x};
@@ -14,166 +14,133 @@ use file_sections::records::{built_in_name, built_in_type, node_kind, node_x};
 // The chains: 512 heads, and a link for each of 128 built-ins and 4,096 nodes.
 pub type Chains = [u16; 4736];
 
-// The position that binds a name.
-#[derive(Clone, Copy)]
-pub enum Found {
-    At(usize),
-    Nothing,
+// The stack and the chains of its positions.
+#[derive(Drop)]
+pub struct Bindings<'a> {
+    pub work: &'a mut [u16],
+    pub chains: Chains,
 }
 
-fn wide(x: u16) -> usize
-    ensures { (result ≡ x) × (result < 65536) }
-{
-    x as usize
-}
-
-// The binder of a position: 40,000 plus the built-in's number, or a node.
-pub fn binder_at(file: &[u8], sections: Sections, work: &[u16], position: usize) -> usize
-    requires { Position file.now sections work.now position }
-    ensures { (result ≡ binder_of (tables_of file.now sections) work.now position) × (result < 65536) }
-{
-    if position < sections.built_ins {
-        return 40000 + position;
-    }
-    wide(work[(position - sections.built_ins) * 2])
-}
-
-// The type of a position.
-pub fn type_at(file: &[u8], sections: Sections, work: &[u16], position: usize) -> usize
-    requires { Position file.now sections work.now position }
-    ensures { (result ≡ type_bound (tables_of file.now sections) work.now position) × (result < 65536) }
-{
-    if position < sections.built_ins {
-        return built_in_type(file, sections, position);
-    }
-    wide(work[(position - sections.built_ins) * 2 + 1])
-}
-
-// The name of a position.
-pub fn name_at(file: &[u8], sections: Sections, work: &[u16], position: usize) -> usize
-    requires { Position file.now sections work.now position }
-    ensures { (result ≡ name_bound (tables_of file.now sections) work.now position) × (result < 65536) }
-{
-    if position < sections.built_ins {
-        return built_in_name(file, sections, position);
-    }
-    node_x(
-        file,
-        sections,
-        wide(work[(position - sections.built_ins) * 2]),
-    )
-}
-
-// Puts the position, which has the name, first in its chain.
-pub fn link(chains: &mut [u16], position: usize, name: usize)
-    requires { (4736 ≤ length chains.old) × (position < 4224) }
-    ensures { chains.new ≡ set (set chains.old (512 + position) (get_or chains.old (name % 512) 0)) (name % 512) (position + 1) }
-{
-    chains::link(chains, name % 512, 512 + position, position + 1);
-}
-
-// Takes the position, which has the name and is first in its chain, out of it.
-fn unlink(chains: &mut [u16], position: usize, name: usize)
-    requires { (4736 ≤ length chains.old) × (position < 4224) }
-    ensures { chains.new ≡ set chains.old (name % 512) (get_or chains.old (512 + position) 0) }
-{
-    chains[name % 512] = chains[512 + position];
-}
-
-// The latest position of the name.
-pub fn find(file: &[u8], sections: Sections, work: &[u16], chains: &[u16], name: usize) -> Found
-    requires { Some file.now sections work.now chains.now }
-    ensures { Finds file.now sections work.now chains.now name result }
-{
-    let mut after = wide(chains[name % 512]);
-    while 0 < after {
-        let position = after - 1;
-        if name_at(file, sections, work, position) == name {
-            return Found::At(position);
+impl Bindings<'_> {
+    // The binder of a position: 40,000 plus the built-in's number, or a node.
+    pub fn binder_at(&self, file: &[u8], sections: Sections, position: usize) -> usize
+        requires { Position file.now sections self.now.work.now position }
+        ensures { (result ≡ binder_of (tables_of file.now sections) self.now.work.now position) × (result < 65536) }
+    {
+        if position < sections.built_ins {
+            return 40000 + position;
         }
-        after = wide(chains[512 + position]);
+        usize::from(self.work[(position - sections.built_ins) * 2])
     }
-    Found::Nothing
-}
 
-// The block whose bindings stand from the position `start` on has not bound the name.
-pub fn is_fresh(
-    file: &[u8],
-    sections: Sections,
-    work: &[u16],
-    chains: &[u16],
-    start: usize,
-    name: usize,
-) -> bool
-    requires { Some file.now sections work.now chains.now }
-    ensures { Freshness file.now sections work.now chains.now start name result }
-{
-    let found = find(file, sections, work, chains, name);
-    let Found::At(position) = found else {
-        return true;
-    };
-    position < start
-}
-
-// The name is not that of a function or of a built-in, or a local hides it.
-pub fn is_assignable(
-    file: &[u8],
-    sections: Sections,
-    work: &[u16],
-    chains: &[u16],
-    base: usize,
-    name: usize,
-) -> bool
-    requires { SomeFrom file.now sections work.now chains.now base }
-    ensures { Assignability file.now sections work.now chains.now base name result }
-{
-    let found = find(file, sections, work, chains, name);
-    let Found::At(position) = found else {
-        return true;
-    };
-    if base <= position {
-        return true;
+    // The type of a position.
+    pub fn type_at(&self, file: &[u8], sections: Sections, position: usize) -> usize
+        requires { Position file.now sections self.now.work.now position }
+        ensures { (result ≡ type_bound (tables_of file.now sections) self.now.work.now position) × (result < 65536) }
+    {
+        if position < sections.built_ins {
+            return built_in_type(file, sections, position);
+        }
+        usize::from(self.work[(position - sections.built_ins) * 2 + 1])
     }
-    if position < sections.built_ins {
-        return false;
+
+    // The name of a position.
+    pub fn name_at(&self, file: &[u8], sections: Sections, position: usize) -> usize
+        requires { Position file.now sections self.now.work.now position }
+        ensures { (result ≡ name_bound (tables_of file.now sections) self.now.work.now position) × (result < 65536) }
+    {
+        if position < sections.built_ins {
+            return built_in_name(file, sections, position);
+        }
+        let binder = usize::from(self.work[(position - sections.built_ins) * 2]);
+        node_x(file, sections, binder)
     }
-    node_kind(file, sections, binder_at(file, sections, work, position)) == 1
-}
 
-// Binds the name of the node, with the type t, at the position `scope`.
-pub fn bind(
-    file: &[u8],
-    sections: Sections,
-    work: &mut [u16],
-    chains: &mut [u16],
-    scope: usize,
-    node: usize,
-    t: usize,
-)
-    requires { Bindable file.now sections work.old chains.old scope node t }
-    ensures { Bound file.now sections work.old chains.old scope node t work.new chains.new }
-{
-    let entry = (scope - sections.built_ins) * 2;
-    work[entry] = node as u16;
-    work[entry + 1] = t as u16;
-    link(chains, scope, node_x(file, sections, node));
-}
+    // Puts the position, which has the name, first in its chain.
+    pub fn link(&mut self, position: usize, name: usize)
+        requires { position < 4224 }
+        ensures chains_after { self.new.chains ≡ set (set self.old.chains (512 + position) (get_or self.old.chains (name % 512) 0)) (name % 512) (position + 1) }
+        ensures work_unchanged { self.new.work ≡ self.old.work }
+    {
+        chains::link(&mut self.chains, name % 512, 512 + position, position + 1);
+    }
 
-// Goes back from the scope `from` to the scope `to`.
-pub fn leave(
-    file: &[u8],
-    sections: Sections,
-    work: &[u16],
-    chains: &mut [u16],
-    from: usize,
-    to: usize,
-)
-    requires { Scoped file.now sections work.now chains.old from × (to ≤ from) }
-    ensures { Scoped file.now sections work.now chains.new to }
-{
-    let mut position = from;
-    while to < position {
-        position -= 1;
-        unlink(chains, position, name_at(file, sections, work, position));
+    // Takes the position, which has the name and is first in its chain, out of it.
+    fn unlink(&mut self, position: usize, name: usize)
+        requires { position < 4224 }
+        ensures chains_after { self.new.chains ≡ set self.old.chains (name % 512) (get_or self.old.chains (512 + position) 0) }
+        ensures work_unchanged { self.new.work ≡ self.old.work }
+    {
+        self.chains[name % 512] = self.chains[512 + position];
+    }
+
+    // The latest position of the name.
+    pub fn find(&self, file: &[u8], sections: Sections, name: usize) -> Option<usize>
+        requires { Holding file.now sections self.now.work.now self.now.chains }
+        ensures { Finds file.now sections self.now.work.now self.now.chains name result }
+    {
+        let mut after = usize::from(self.chains[name % 512]);
+        while 0 < after {
+            let position = after - 1;
+            if self.name_at(file, sections, position) == name {
+                return Some(position);
+            }
+            after = usize::from(self.chains[512 + position]);
+        }
+        None
+    }
+
+    // The block whose bindings stand from the position `start` on has not bound the name.
+    pub fn is_fresh(&self, file: &[u8], sections: Sections, start: usize, name: usize) -> bool
+        requires { Holding file.now sections self.now.work.now self.now.chains }
+        ensures { Freshness file.now sections self.now.work.now self.now.chains start name result }
+    {
+        let Some(position) = self.find(file, sections, name) else {
+            return true;
+        };
+        position < start
+    }
+
+    // The name is not that of a function or of a built-in, or a local hides it.
+    pub fn is_assignable(&self, file: &[u8], sections: Sections, base: usize, name: usize) -> bool
+        requires { SomeFrom file.now sections self.now.work.now self.now.chains base }
+        ensures { Assignability file.now sections self.now.work.now self.now.chains base name result }
+    {
+        let Some(position) = self.find(file, sections, name) else {
+            return true;
+        };
+        if base <= position {
+            return true;
+        }
+        if position < sections.built_ins {
+            return false;
+        }
+        node_kind(file, sections, self.binder_at(file, sections, position)) == 1
+    }
+
+    // Binds the name of the node, with the type t, at the position `scope`.
+    pub fn bind(&mut self, file: &[u8], sections: Sections, scope: usize, node: usize, t: usize)
+        requires { Bindable file.now sections self.old.work.now self.old.chains scope node t }
+        ensures bound { Bound file.now sections self.old.work.now self.old.chains scope node t self.new.work.now self.new.chains }
+        ensures same_work { self.new.work.ghost_name ≡ self.old.work.ghost_name }
+    {
+        let entry = (scope - sections.built_ins) * 2;
+        self.work[entry] = node as u16;
+        self.work[entry + 1] = t as u16;
+        self.link(scope, node_x(file, sections, node));
+    }
+
+    // Goes back from the scope `from` to the scope `to`.
+    pub fn leave(&mut self, file: &[u8], sections: Sections, from: usize, to: usize)
+        requires { Scoped file.now sections self.old.work.now self.old.chains from × (to ≤ from) }
+        ensures left { Scoped file.now sections self.old.work.now self.new.chains to }
+        ensures work_unchanged { self.new.work ≡ self.old.work }
+    {
+        let mut position = from;
+        while to < position {
+            position -= 1;
+            let name = self.name_at(file, sections, position);
+            self.unlink(position, name);
+        }
     }
 }
