@@ -13,19 +13,12 @@ fn fields_right(file: &[u8], sections: Sections) -> bool
     requires { Laid file.now sections }
     ensures { result ≡ all_below sections.fields (field_rule (tables_of file.now sections)) }
 {
-    let mut i = 0;
-    while i < sections.fields {
-        if !lower_value(
-            file,
-            sections,
-            sections.types,
-            field_type(file, sections, i),
-        ) {
-            return false;
-        }
-        i += 1;
-    }
-    true
+    (0..sections.fields).all(|i| lower_value(
+        file,
+        sections,
+        sections.types,
+        field_type(file, sections, i),
+    ))
 }
 
 // Every struct begins where the one before ends, and the fields are used up.
@@ -34,13 +27,11 @@ fn structs_right(file: &[u8], sections: Sections) -> bool
     ensures { result ≡ structs_right (tables_of file.now sections) }
 {
     let mut taken = 0;
-    let mut i = 0;
-    while i < sections.structs {
+    for i in 0..sections.structs {
         if struct_first(file, sections, i) != taken {
             return false;
         }
         taken += struct_count(file, sections, i);
-        i += 1;
     }
     taken == sections.fields
 }
@@ -50,10 +41,7 @@ pub fn has_kind(file: &[u8], sections: Sections, t: usize, k: usize) -> bool
     requires { Laid file.now sections }
     ensures { result ≡ has_kind (tables_of file.now sections) t k }
 {
-    if sections.types <= t {
-        return false;
-    }
-    type_kind(file, sections, t) == k
+    t < sections.types && type_kind(file, sections, t) == k
 }
 
 // Every built-in has a function type.
@@ -61,14 +49,7 @@ fn built_ins_right(file: &[u8], sections: Sections) -> bool
     requires { Laid file.now sections }
     ensures { result ≡ all_below sections.built_ins (built_in_rule (tables_of file.now sections)) }
 {
-    let mut i = 0;
-    while i < sections.built_ins {
-        if !has_kind(file, sections, built_in_type(file, sections, i), 6) {
-            return false;
-        }
-        i += 1;
-    }
-    true
+    (0..sections.built_ins).all(|i| has_kind(file, sections, built_in_type(file, sections, i), 6))
 }
 
 // The rules on fields, structs and built-ins.
@@ -76,11 +57,5 @@ pub fn tables_right(file: &[u8], sections: Sections) -> bool
     requires { Laid file.now sections }
     ensures { result ≡ tables_right (tables_of file.now sections) }
 {
-    if !fields_right(file, sections) {
-        return false;
-    }
-    if !structs_right(file, sections) {
-        return false;
-    }
-    built_ins_right(file, sections)
+    fields_right(file, sections) && structs_right(file, sections) && built_ins_right(file, sections)
 }
