@@ -1,10 +1,9 @@
 -- A file that was read: its program, and its declarations one after another. Assumes nothing.
-use Rattle.std.specs.Prelude.{◌≡◌, true, List, ◌++◌, ℕ}
+use Rattle.std.specs.Prelude.{◌≡◌, true, List, ◌++◌, ℕ, Ok}
 use Rattle.oat.specs.Syntax.{Decl, size_decls}
 use Rattle.oat.specs.Nodes.{DeclsStand}
 use Rattle.oat.specs.ProgramFile.{Limits, in_range, widest, Program, meant, IsFile}
 use Rattle.file_sections.specs.declared.Sections.{Sections}
-use Rattle.file_sections.specs.declared.Reading.TheVariants.{Good}
 use Rattle.file_sections.specs.Layout.{tables_of}
 use Rattle.program_file.specs.Reading.{reading_within}
 
@@ -14,7 +13,7 @@ pub record Opened (l : Limits) (F : List ℕ) (S : Sections) : Type 0 where
   pub program : Program
   pub file : IsFile l F program
   pub wide : IsFile widest (meant F) program
-  pub reads : reading_within widest (meant F) ≡ Good S
+  pub reads : reading_within widest (meant F) ≡ Ok S
 
 -- the declarations of the file
 pub record Declares (F : List ℕ) (S : Sections) (ds : List Decl) : Type 0 where

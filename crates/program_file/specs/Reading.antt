@@ -1,13 +1,14 @@
 -- Document 01, 'Rows and answers': 1 and 2 by section, leftover bytes 1, then 3, 4, 5; before them 25 (document 02, (xi)); zero bytes are read
 -- as the bytes that they mean (document 02, (v)); and demand 1, on the number of an answer. Assumes nothing.
-use Rattle.std.specs.Prelude.{◌≡◌, true, false, List, ◌↔◌, ℕ, ◌≤◌}
+use Rattle.std.specs.Prelude.{◌≡◌, true, false, List, ◌↔◌, ℕ, ◌≤◌, Result, Ok, Err}
 use Rattle.oat.specs.Basics.{pick}
 use Rattle.oat.specs.TypeRules.{types_right}
 use Rattle.oat.specs.TableRules.{tables_right}
 use Rattle.oat.specs.ProgramFile.{Limits, limits_of, in_range, Program, meant, IsFile}
 use Rattle.file_sections.specs.declared.Sections.{Sections}
-use Rattle.file_sections.specs.declared.Reading.{Reading}
-use Rattle.file_sections.specs.declared.Reading.TheVariants.{Refused, Good}
+use Rattle.file_sections.specs.declared.Unreadable.{Unreadable}
+use Rattle.file_sections.specs.declared.Unreadable.TheVariants.{Types, Tables, Nodes}
+use Rattle.file_sections.specs.Unreadable.{unreadable_number}
 use Rattle.file_sections.specs.Layout.{then_reading, sections_of, tables_of}
 use Rattle.node_tree.specs.Tree.{trees_right}
 use Rattle.program_file.specs.declared.Limits.{Limits as Given}
@@ -17,23 +18,23 @@ abbrev pub setting_of : Given → Limits
 setting_of limits = limits_of limits.parts limits.depth
 
 -- the reading of bytes that are there, within limits
-unfoldable pub reading_within : Limits → List ℕ → Reading
+unfoldable pub reading_within : Limits → List ℕ → Result Sections Unreadable
 reading_within limits s =
     then_reading (sections_of s) λ S.
     pick (types_right limits.parts (tables_of s S))
     (pick (tables_right (tables_of s S))
-    (pick (trees_right limits.depth (tables_of s S)) (Good S) (Refused 5))
-    (Refused 4))
-    (Refused 3)
+    (pick (trees_right limits.depth (tables_of s S)) (Ok S) (Err Nodes))
+    (Err Tables))
+    (Err Types)
 
 -- the reading of a file: a limit out of its range comes before everything else; then the bytes that are meant are read
-unfoldable pub reading_of : Limits → List ℕ → Reading
-reading_of limits s = pick (in_range limits) (reading_within limits (meant s)) (Refused 25)
+unfoldable pub reading_of : Limits → List ℕ → Result Sections Unreadable
+reading_of limits s = pick (in_range limits) (reading_within limits (meant s)) (Err Unreadable.Limits)
 
 -- document 01's number for a reading: 0 where the file is readable
-abbrev pub number_of : Reading → ℕ
-number_of (Refused n) = n
-number_of (Good S) = 0
+abbrev pub number_of : Result Sections Unreadable → ℕ
+number_of (Ok S) = 0
+number_of (Err unreadable) = unreadable_number unreadable
 
 -- the bytes are a program file within the limits
 pub record IsProgramFile (limits : Limits) (F : List ℕ) : Type 0 where
@@ -52,6 +53,6 @@ pub record Reads (limits : Limits) (F : List ℕ) (n : ℕ) : Type 0 where
   pub one_program : (p q : Program) → IsFile limits F p → IsFile limits F q → p ≡ q
 
 -- the same of an answer, whose sections give the tables of the program, in the bytes that are meant
-pub record ReadsTables (limits : Limits) (F : List ℕ) (r : Reading) : Type 0 where
+pub record ReadsTables (limits : Limits) (F : List ℕ) (r : Result Sections Unreadable) : Type 0 where
   pub reads : Reads limits F (number_of r)
-  pub tables : (S : Sections) → r ≡ Good S → (p : Program) → IsFile limits F p → p.tables ≡ tables_of (meant F) S
+  pub tables : (S : Sections) → r ≡ Ok S → (p : Program) → IsFile limits F p → p.tables ≡ tables_of (meant F) S

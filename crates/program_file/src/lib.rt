@@ -6,7 +6,7 @@ ghost use Rattle.std.specs.Prelude.{◌≡◌, ◌≤◌};
 ghost use Rattle.oat.specs.ProgramFile.{from_one_to, in_range, blank_file, or_else};
 ghost use Rattle.program_file.specs.Reading.{setting_of, reading_within, reading_of, number_of, ReadsTables};
 
-use file_sections::Reading;
+use file_sections::{Sections, Unreadable};
 
 // The two limits: how many parts a type has at most, from 1 to 200, and how deep nodes are at most, from 1 to 100.
 #[derive(Clone, Copy)]
@@ -29,7 +29,7 @@ pub fn widest() -> Limits
 fn from_one_to(most: usize, limit: usize) -> bool
     ensures { result ≡ from_one_to most limit }
 {
-    1 <= limit && limit <= most
+    (1..=most).contains(&limit)
 }
 
 // Whether both limits are in range.
@@ -63,44 +63,41 @@ pub fn meant<'a>(file: &'a [u8], blank: &'a [u8; 44]) -> &'a [u8]
 
 // Reads a file; a limit out of its range is refused under 25, before everything else. The sections say where the records stand in the bytes that
 // are meant.
-pub fn read(file: &[u8], limits: Limits) -> Reading
+pub fn read(file: &[u8], limits: Limits) -> Result<Sections, Unreadable>
     ensures value { result ≡ reading_of (setting_of limits) file.now }
     ensures reads_tables { ReadsTables (setting_of limits) file.now result }
 {
     if !in_range(limits) {
-        return Reading::Refused(25);
+        return Err(Unreadable::Limits);
     }
     let blank = blank_file();
     read_within(meant(file, &blank), limits)
 }
 
 // Reads bytes that are there, within the limits.
-fn read_within(file: &[u8], limits: Limits) -> Reading
+fn read_within(file: &[u8], limits: Limits) -> Result<Sections, Unreadable>
     requires { limits.parts ≤ 200 }
     ensures { result ≡ reading_within (setting_of limits) file.now }
 {
-    let found = file_sections::layout::sections(file);
-    let Reading::Good(sections) = found else {
-        return found;
-    };
+    let sections = file_sections::layout::sections(file)?;
     if !type_tables::types::types_right(file, sections, limits.parts) {
-        return Reading::Refused(3);
+        return Err(Unreadable::Types);
     }
     if !type_tables::tables::tables_right(file, sections) {
-        return Reading::Refused(4);
+        return Err(Unreadable::Tables);
     }
     if !node_tree::tree::trees_right(file, sections, limits.depth) {
-        return Reading::Refused(5);
+        return Err(Unreadable::Nodes);
     }
-    Reading::Good(sections)
+    Ok(sections)
 }
 
 // Document 01's number for an answer: 0 where the file is readable.
-pub fn number(reading: Reading) -> u16
+pub fn number(reading: Result<Sections, Unreadable>) -> u16
     ensures { result ≡ number_of reading }
 {
     match reading {
-        Reading::Refused(number) => number,
-        Reading::Good(_) => 0,
+        Ok(_) => 0,
+        Err(unreadable) => unreadable.number(),
     }
 }
