@@ -1,6 +1,6 @@
 -- What the contracts of answers and of expressions without children cite. F is the file, S its sections, X the index of types, R the
 -- rows, W the stack, K the chains; a prime marks a buffer after the call. Assumes nothing.
-use Rattle.std.specs.Prelude.{◌≡◌, true, false, ◌&&◌, ◌||◌, List, [], ℕ, ◌+◌, ◌*◌, ◌≤◌, ◌<◌, set, eqb}
+use Rattle.std.specs.Prelude.{◌≡◌, true, false, ◌&&◌, ◌||◌, List, [], ℕ, ◌+◌, ◌*◌, ◌≤◌, ◌<◌, set, eqb, Some as Position, None as Nothing}
 use Rattle.oat.specs.Basics.{pick}
 use Rattle.oat.specs.Tables.{Tables, entry_at, node_at}
 use Rattle.oat.specs.Types.{type_of}
@@ -11,17 +11,23 @@ use Rattle.typing_rules.specs.Operators.{is_equality, operand_type, result_type}
 use Rattle.type_index.specs.Index.{declared, formed_entry}
 use Rattle.file_sections.specs.declared.Sections.{Sections}
 use Rattle.file_sections.specs.Layout.{tables_of}
-use Rattle.bindings.specs.declared.Found.TheVariants.{At as Position, Nothing}
 use Rattle.bindings.specs.Bindings.{binder_of, type_bound, latest, Scoped}
 use Rattle.subtyping.specs.declared.below.Compared.{Compared}
+use Rattle.answers.specs.declared.answer.Broken.{Broken}
+use Rattle.answers.specs.declared.answer.Broken.TheVariants.{BoundTwice, Unknown, Undeclared, WrongSort, NotSubtype, Mismatch, VoidOrValue, WrongMark, FunctionAssigned, NoDefault}
 use Rattle.answers.specs.declared.answer.Judgement.{Judgement}
 use Rattle.answers.specs.declared.answer.Judgement.TheVariants.{Typed, Refused}
 use Rattle.answers.specs.declared.answer.At.{At}
 use Rattle.answers.specs.declared.answer.Judged.{Judged}
+use Rattle.answers.specs.declared.file.IndexedFile.{IndexedFile}
 use Rattle.answers.specs.declared.leaves.Operator.{Operator}
 use Rattle.answers.specs.declared.leaves.Operator.TheVariants.{Fixed, Equality}
 use Rattle.answers.specs.declared.leaves.Expected.{Expected}
 use Rattle.answers.specs.declared.leaves.Expected.TheVariants.{Each, Run}
+
+-- the records of a file
+abbrev pub tables : IndexedFile → Tables
+tables f = tables_of f.bytes.now f.sections
 
 -- the context of the file's structs and no names
 abbrev pub structs_alone : Tables → Context ℕ
@@ -31,9 +37,24 @@ structs_alone T = record { structs = declared T; names = [] }
 abbrev pub with_row : List ℕ → (n result binder : ℕ) → List ℕ
 with_row R n result binder = set (set R (n * 2) result) (n * 2 + 1) binder
 
+-- document 01's number of a broken premise
+abbrev pub broken_number : Broken → ℕ
+broken_number BoundTwice = 7
+broken_number Unknown = 8
+broken_number Undeclared = 9
+broken_number WrongSort = 10
+broken_number NotSubtype = 11
+broken_number Mismatch = 12
+broken_number VoidOrValue = 13
+broken_number WrongMark = 14
+broken_number FunctionAssigned = 15
+broken_number NoDefault = 16
+
 -- r refuses under the number p at the place q, where k pairs have been compared
 pub record Refuses (r : Judged) (p q k : ℕ) : Type 0 where
-  pub judged : r.judgement ≡ Refused p q
+  pub broken : Broken
+  pub numbered : broken_number broken ≡ p
+  pub judged : r.judgement ≡ Refused broken q
   pub sum : r.at.pairs ≡ k
 
 -- r is the judgement j, and the walk stands at the node n in a scope of the height s, where k pairs have been compared

@@ -1,25 +1,68 @@
 // What judging a part of a program comes to, and rows.
 ghost use Rattle.std.specs.Prelude.{◌≡◌, ◌+◌, ◌*◌, ◌≤◌, ◌<◌, length};
-ghost use Rattle.answers.specs.Answers.{with_row, with_pairs, Refuses};
+ghost use Rattle.answers.specs.Answers.{broken_number, with_row, with_pairs, Refuses};
 
-use file_sections::Sections;
+use crate::file::IndexedFile;
+use bindings::Bindings;
 use subtyping::below::Compared;
 
-// A type, a mark (goes on, returns), or the number and the place of a refusal. A list of expressions goes on.
+// The premise that is broken: why a file that can be read is refused.
+#[derive(Clone, Copy, PartialEq, Eq)]
+pub enum Broken {
+    BoundTwice,
+    Unknown,
+    Undeclared,
+    WrongSort,
+    NotSubtype,
+    Mismatch,
+    VoidOrValue,
+    WrongMark,
+    FunctionAssigned,
+    NoDefault,
+}
+
+impl Broken {
+    // Document 01's number.
+    pub fn number(self) -> u16
+        ensures { result ≡ broken_number self }
+    {
+        match self {
+            Broken::BoundTwice => 7,
+            Broken::Unknown => 8,
+            Broken::Undeclared => 9,
+            Broken::WrongSort => 10,
+            Broken::NotSubtype => 11,
+            Broken::Mismatch => 12,
+            Broken::VoidOrValue => 13,
+            Broken::WrongMark => 14,
+            Broken::FunctionAssigned => 15,
+            Broken::NoDefault => 16,
+        }
+    }
+}
+
+// A type, a mark (goes on, returns), or the premise and the place of a refusal. A list of expressions goes on.
 #[derive(Clone, Copy)]
 pub enum Judgement {
     Typed(usize),
     GoesOn,
     Returns,
-    Refused(usize, usize),
+    Refused(Broken, usize),
 }
 
-// What is fixed within a declaration: the file's sections, the height at which its locals begin, and the type that it returns.
+// What is fixed within a declaration: the file, the height at which its locals begin, and the type that it returns.
 #[derive(Clone, Copy)]
-pub struct Frame {
-    pub sections: Sections,
+pub struct Frame<'a> {
+    pub file: IndexedFile<'a>,
     pub base: usize,
     pub result: usize,
+}
+
+// What the walk writes: the rows, and the names that are bound.
+#[derive(Drop)]
+pub struct Walk<'a> {
+    pub rows: &'a mut [u16],
+    pub bindings: Bindings<'a>,
 }
 
 // Where the walk stands: a node, the height of the scope, and how many pairs of types were compared so far.
@@ -30,6 +73,19 @@ pub struct At {
     pub pairs: usize,
 }
 
+impl At {
+    // The same place, with the pairs of a comparison.
+    pub fn counting(self, compared: Compared) -> At
+        requires { (self.pairs ≤ 4294967295) × (compared.pairs ≤ 4294967295) }
+        ensures { result ≡ with_pairs self compared }
+    {
+        At {
+            pairs: self.pairs + compared.pairs,
+            ..self
+        }
+    }
+}
+
 // A judgement, and where the walk stands after the part.
 #[derive(Clone, Copy)]
 pub struct Judged {
@@ -37,34 +93,25 @@ pub struct Judged {
     pub at: At,
 }
 
-// The same place, with the pairs of a comparison.
-pub fn counting(at: At, compared: Compared) -> At
-    requires { (at.pairs ≤ 4294967295) × (compared.pairs ≤ 4294967295) }
-    ensures { result ≡ with_pairs at compared }
-{
-    At {
-        pairs: at.pairs + compared.pairs,
-        ..at
+impl Judged {
+    // A refusal, found where the walk stands.
+    pub fn refused(broken: Broken, place: usize, found: At) -> Judged
+        ensures { Refuses result (broken_number broken) place found.pairs × (result.at ≡ found) }
+    {
+        Judged {
+            judgement: Judgement::Refused(broken, place),
+            at: found,
+        }
     }
-}
 
-// A refusal, found where the walk stands.
-pub fn refused(number: usize, place: usize, found: At) -> Judged
-    ensures { Refuses result number place found.pairs × (result.at ≡ found) }
-{
-    Judged {
-        judgement: Judgement::Refused(number, place),
-        at: found,
-    }
-}
-
-// A list of expressions, or a part that adds no mark: the walk goes on.
-pub fn goes_on(at: At) -> Judged
-    ensures { result ≡ record { judgement = Judgement.GoesOn; at = at } }
-{
-    Judged {
-        judgement: Judgement::GoesOn,
-        at: at,
+    // A list of expressions, or a part that adds no mark: the walk goes on.
+    pub fn goes_on(at: At) -> Judged
+        ensures { result ≡ record { judgement = Judgement.GoesOn; at = at } }
+    {
+        Judged {
+            judgement: Judgement::GoesOn,
+            at,
+        }
     }
 }
 

@@ -7,13 +7,13 @@ ghost use Rattle.typing_rules.specs.Rules.{member};
 ghost use Rattle.typing_rules.specs.Judge.{has_default, asked, member_asked};
 ghost use Rattle.file_sections.specs.Layout.{Laid, Has, tables_of, GoodTables};
 ghost use Rattle.type_index.specs.Index.{Entered, Indexed};
-ghost use Rattle.bindings.specs.Bindings.{Some};
+ghost use Rattle.bindings.specs.Bindings.{Some as Holding};
 ghost use Rattle.answers.specs.Answers.{structs_alone, with_row, LeafAnswer, AndAsked, operator_of, literal_kind, Expecting, expected_at, NullAnswer, NameAnswer};
 
-use crate::answer::{At, Judged, Judgement, refused, row, typed};
-use bindings::{Found, binder_at, find, type_at};
-use fields::lookup::{FieldType, field_of};
-use file_sections::Sections;
+use crate::answer::{At, Broken, Judged, Judgement, row, typed};
+use crate::file::IndexedFile;
+use bindings::Bindings;
+use fields::lookup::field_of;
 use file_sections::records::{list_entry, node_kind, node_t, node_x, type_kind};
 use subtyping::below::{Compared, below};
 use type_index::formed::is_formed;
@@ -33,13 +33,13 @@ pub enum Expected {
 }
 
 // The type that the expression i of a list is to be below.
-fn expected_at(file: &[u8], sections: Sections, expected: Expected, i: usize) -> usize
-    requires { Laid file.now sections × Expecting (tables_of file.now sections) sections expected (i + 1) }
-    ensures { (result ≡ expected_at (tables_of file.now sections) expected i) × (result < 65536) }
+fn expected_at(file: &IndexedFile<'_>, expected: Expected, i: usize) -> usize
+    requires { Expecting (tables file.now) file.now.sections expected (i + 1) }
+    ensures { (result ≡ expected_at (tables file.now) expected i) × (result < 65536) }
 {
     match expected {
         Expected::Each(t) => t,
-        Expected::Run(first) => list_entry(file, sections, first + i),
+        Expected::Run(first) => list_entry(file.bytes, file.sections, first + i),
     }
 }
 
@@ -56,69 +56,53 @@ fn and_next(before: Compared, next: Compared) -> Compared
 
 // Those before are below what is expected, and so is the type t of the expression i.
 pub fn still_below(
-    file: &[u8],
-    sections: Sections,
-    index: &[u16],
+    file: &IndexedFile<'_>,
     before: Compared,
     t: usize,
     expected: Expected,
     i: usize,
 ) -> Compared
-    requires good_tables { GoodTables file.now sections × Indexed index.now (tables_of file.now sections) sections.types × (t < sections.types) × Expecting (tables_of file.now sections) sections expected (i + 1) }
+    requires type_there { (t < file.now.sections.types) × Expecting (tables file.now) file.now.sections expected (i + 1) }
     requires pairs_bound { before.pairs ≤ 4294967295 }
-    ensures { AndAsked before (asked (tables_of file.now sections) (structs_alone (tables_of file.now sections)) t (expected_at (tables_of file.now sections) expected i)) result }
+    ensures { AndAsked before (asked (tables file.now) (structs_alone (tables file.now)) t (expected_at (tables file.now) expected i)) result }
 {
     if !before.holds {
         return before;
     }
-    and_next(
-        before,
-        below(
-            file,
-            sections,
-            index,
-            t,
-            expected_at(file, sections, expected, i),
-        ),
-    )
+    let u = expected_at(file, expected, i);
+    and_next(before, below(file.bytes, file.sections, file.index, t, u))
 }
 
 // Those before are below their fields' types, and so is the type t of the value of the field `name` of the struct record `owner`.
 pub fn still_fits(
-    file: &[u8],
-    sections: Sections,
-    index: &[u16],
+    file: &IndexedFile<'_>,
     before: Compared,
     t: usize,
     owner: usize,
     name: usize,
 ) -> Compared
-    requires good_tables { GoodTables file.now sections × Indexed index.now (tables_of file.now sections) sections.types × (t < sections.types) × (owner < sections.structs) }
+    requires type_there { (t < file.now.sections.types) × (owner < file.now.sections.structs) }
     requires pairs_bound { before.pairs ≤ 4294967295 }
-    ensures { AndAsked before (member_asked (tables_of file.now sections) (structs_alone (tables_of file.now sections)) t (member name (struct_of (tables_of file.now sections) owner).fields)) result }
+    ensures { AndAsked before (member_asked (tables file.now) (structs_alone (tables file.now)) t (member name (struct_of (tables file.now) owner).fields)) result }
 {
     if !before.holds {
         return before;
     }
-    let found = field_of(file, sections, owner, name);
-    let FieldType::Of(u) = found else {
+    let Some(u) = field_of(file.bytes, file.sections, owner, name) else {
         return Compared {
             holds: false,
             ..before
         };
     };
-    and_next(before, below(file, sections, index, t, u))
+    and_next(before, below(file.bytes, file.sections, file.index, t, u))
 }
 
 // An element with a default: int, bool or nullable.
-pub fn has_default(file: &[u8], sections: Sections, t: usize) -> bool
-    requires { Has file.now sections t sections.types }
-    ensures { result ≡ has_default (tables_of file.now sections) t }
+pub fn has_default(file: &IndexedFile<'_>, t: usize) -> bool
+    requires { t < file.now.sections.types }
+    ensures { result ≡ has_default (tables file.now) t }
 {
-    match type_kind(file, sections, t) {
-        0..=1 | 7 => true,
-        _ => false,
-    }
+    matches!(type_kind(file.bytes, file.sections, t), 0..=1 | 7)
 }
 
 // What a unary operator takes and gives: 0 - and 2 ~ ints, 1 ! bools.
@@ -144,13 +128,14 @@ pub fn operator_of(operator: usize) -> Operator
     }
 }
 
-pub fn null(file: &[u8], sections: Sections, index: &[u16], rows: &mut [u16], at: At) -> Judged
-    requires { Has file.now sections at.node sections.nodes × Entered index.now (node_at (tables_of file.now sections) at.node).t × (sections.nodes * 2 ≤ length rows.old) }
-    ensures { NullAnswer index.now rows.old (node_at (tables_of file.now sections) at.node).t at.node at.scope at.pairs rows.new result }
+// The expression `null` at `at`.
+pub fn null(file: &IndexedFile<'_>, rows: &mut [u16], at: At) -> Judged
+    requires { (at.node < file.now.sections.nodes) × Entered file.now.index.now (node_at (tables file.now) at.node).t × (file.now.sections.nodes * 2 ≤ length rows.old) }
+    ensures { NullAnswer file.now.index.now rows.old (node_at (tables file.now) at.node).t at.node at.scope at.pairs rows.new result }
 {
-    let t = node_t(file, sections, at.node);
-    if !is_formed(index, t) {
-        return refused(9, at.node, at);
+    let t = node_t(file.bytes, file.sections, at.node);
+    if !is_formed(file.index, t) {
+        return Judged::refused(Broken::Undeclared, at.node, at);
     }
     typed(
         rows,
@@ -174,12 +159,13 @@ fn literal_type(kind: usize) -> usize
     }
 }
 
-pub fn literal(file: &[u8], sections: Sections, rows: &mut [u16], at: At) -> Judged
-    requires { Has file.now sections at.node sections.nodes × (sections.nodes * 2 ≤ length rows.old) }
-    ensures leaf_answer { LeafAnswer (literal_kind (node_at (tables_of file.now sections) at.node).kind) at.node at.scope at.pairs result }
-    ensures rows_after { rows.new ≡ with_row rows.old at.node (literal_kind (node_at (tables_of file.now sections) at.node).kind) 65535 }
+// The literal at `at`.
+pub fn literal(file: &IndexedFile<'_>, rows: &mut [u16], at: At) -> Judged
+    requires { (at.node < file.now.sections.nodes) × (file.now.sections.nodes * 2 ≤ length rows.old) }
+    ensures leaf_answer { LeafAnswer (literal_kind (node_at (tables file.now) at.node).kind) at.node at.scope at.pairs result }
+    ensures rows_after { rows.new ≡ with_row rows.old at.node (literal_kind (node_at (tables file.now) at.node).kind) 65535 }
 {
-    let t = literal_type(node_kind(file, sections, at.node));
+    let t = literal_type(node_kind(file.bytes, file.sections, at.node));
     typed(
         rows,
         at.node,
@@ -191,29 +177,18 @@ pub fn literal(file: &[u8], sections: Sections, rows: &mut [u16], at: At) -> Jud
     )
 }
 
-pub fn name(
-    file: &[u8],
-    sections: Sections,
-    rows: &mut [u16],
-    work: &[u16],
-    chains: &[u16],
-    at: At,
-) -> Judged
-    requires { Some file.now sections work.now chains.now × (at.node < sections.nodes) × (sections.nodes * 2 ≤ length rows.old) }
-    ensures { NameAnswer file.now sections rows.old work.now chains.now at.node at.scope at.pairs rows.new result }
+// The name at `at`.
+pub fn name(file: &IndexedFile<'_>, rows: &mut [u16], bindings: &Bindings<'_>, at: At) -> Judged
+    requires { Holding file.now.bytes.now file.now.sections bindings.now.work.now bindings.now.chains × (at.node < file.now.sections.nodes) × (file.now.sections.nodes * 2 ≤ length rows.old) }
+    ensures { NameAnswer file.now.bytes.now file.now.sections rows.old bindings.now.work.now bindings.now.chains at.node at.scope at.pairs rows.new result }
 {
-    let found = find(
-        file,
-        sections,
-        work,
-        chains,
-        node_x(file, sections, at.node),
-    );
-    let Found::At(position) = found else {
-        return refused(8, at.node, at);
+    let x = node_x(file.bytes, file.sections, at.node);
+    let Some(position) = bindings.find(file.bytes, file.sections, x) else {
+        return Judged::refused(Broken::Unknown, at.node, at);
     };
-    let t = type_at(file, sections, work, position);
-    row(rows, at.node, t, binder_at(file, sections, work, position));
+    let t = bindings.type_at(file.bytes, file.sections, position);
+    let binder = bindings.binder_at(file.bytes, file.sections, position);
+    row(rows, at.node, t, binder);
     Judged {
         judgement: Judgement::Typed(t),
         at: At {
