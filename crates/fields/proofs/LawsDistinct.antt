@@ -8,14 +8,14 @@ use native.Mathlib.Omega.{arith}
 use lib.Dec.{eqb}
 use borrow.Author.Tests.{eq-eqb, ne_eqb, eqb-true}
 use borrow.Author.Count.{below_more}
+use Rattle.std.specs.Prelude.{Option, Some, None}
+use Rattle.std.specs.Option.{is_some}
 use Rattle.oat.specs.Basics.{pick, tabulate}
 use Rattle.oat.specs.Tables.{Tables, field_at, struct_at}
 use Rattle.oat.specs.Types.{Field, struct_of}
 use Rattle.oat.proofs.LawsBasics.{below_or_last}
 use Rattle.typing_rules.specs.Steps.{has_field, distinct_fields}
 use Rattle.typing_rules.specs.Judge.{number, unknown, field_among}
-use Rattle.fields.specs.declared.lookup.FieldType.{FieldType}
-use Rattle.fields.specs.declared.lookup.FieldType.TheVariants.{Of, Unknown}
 use Rattle.fields.specs.Lookup.{number_of}
 
 -- fields without a name, and with distinct names
@@ -113,22 +113,24 @@ module _ (T : Tables) (first : ℕ) where
       below = below_more (λ j. (field_at T (first + j)).name < a) i (λ j l. omega (arith, A.below j l)) (omega arith);
     }
 
-    pub apart_new : (a : ℕ) (f : FieldType) → x < above → number_of f ≡ field_among T x first i → f ≡ Unknown → a ≡ above → Apart T first a (i + 1)
-    apart_new a f h e eu ea = record {
-      apart = rw (add-one i) (more_apart (among_absent T x i first (sym e ∙ ap number_of eu)));
+    pub apart_new : (a : ℕ) (f : Option ℕ) → x < above → number_of f ≡ field_among T x first i → is_some f ≡ false → a ≡ above → Apart T first a (i + 1)
+    apart_new a None h e n ea = record {
+      apart = rw (add-one i) (more_apart (among_absent T x i first (sym e)));
       below = below_more (λ j. (field_at T (first + j)).name < a) i (λ j l. omega (arith, A.below j l)) (omega arith);
     }
+    apart_new a (Some t) h e n ea = absurd (false≢true (sym n))
 
 -- the fields of a record
 module _ (T : Tables) (r first count : ℕ) (ef : first ≡ (struct_at T r).first) (ec : count ≡ (struct_at T r).count) where
-  pub name_again : (i x t : ℕ) (f : FieldType) → i < count → x ≡ (field_at T (first + i)).name → number_of f ≡ field_among T x first i → f ≡ Of t → false ≡ distinct_fields (struct_of T r).fields
+  pub name_again : (i x : ℕ) (f : Option ℕ) → i < count → x ≡ (field_at T (first + i)).name → number_of f ≡ field_among T x first i → is_some f ≡ true → false ≡ distinct_fields (struct_of T r).fields
   unfolding struct_of
-  name_again i x t f h ex e et = go (distinct_fields (struct_of T r).fields) refl
+  name_again i x None h ex e n = absurd (false≢true n)
+  name_again i x (Some t) h ex e n = go (distinct_fields (struct_of T r).fields) refl
     where
       go : (b : Bool) → distinct_fields (struct_of T r).fields ≡ b → false ≡ b
       go false d = refl
       go true d =
-          let found = among_present T x i first t (sym e ∙ ap number_of et) in
+          let found = among_present T x i first t (sym e) in
           absurd
           (distinct_apart
           (struct_at T r).count

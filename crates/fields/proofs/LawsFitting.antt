@@ -1,13 +1,13 @@
 -- What a struct literal's names are tested for is what the rules ask of them: with as many initializers as fields, fields that are
 -- distinct and each named are named once each. Assumes nothing.
 use mathlib.Core.Path.{◌≡◌, refl, ap, sym, ◌∙◌}
-use mathlib.Core.Bool.{Bool, true, false, not, ◌&&◌, false≢true}
+use mathlib.Core.Bool.{Bool, true, false, ◌&&◌, false≢true}
 use mathlib.Core.List.{List, [], ◌∷◌}
 use Prim.Native.Nat.{ℕ, ◌+◌, ◌≤◌, ◌<◌}
 use native.Mathlib.Omega.{arith}
 use lib.ListN.{length}
 use lib.Dec.{eqb, ltb}
-use borrow.Author.Tests.{eq-eqb, ne_eqb, eqb-true, ltb-true, lt-ltb, not-true, not-false}
+use borrow.Author.Tests.{eq-eqb, ne_eqb, eqb-true, ltb-true, lt-ltb}
 use Rattle.oat.specs.Basics.{pick}
 use Rattle.oat.specs.Tables.{Tables, node_at, struct_at}
 use Rattle.oat.specs.Types.{Field, struct_of}
@@ -155,28 +155,28 @@ fields_counted : (T : Tables) (r : ℕ) → length (struct_of T r).fields ≡ (s
 unfolding struct_of
 fields_counted T r = tabulate_long (struct_at T r).count _
 
--- the literal at the node n, whose struct is the record r
-module _ (F : List ℕ) (S : Sections) (n r count m : ℕ) (ec : count ≡ (node_at (tables_of F S) n).children) (em : m ≡ (struct_at (tables_of F S) r).count) where
-  pub count_differs : (count ≡ m → ⊥) → OfInitializers F S (n + 1) (node_at (tables_of F S) n).children (λ is. false ≡ names_fit (struct_of (tables_of F S) r).fields is)
-  count_differs f = record {
-    holds = λ is d e. sym (fit_not _ is (λ q. f (ec ∙ sym e ∙ q ∙ fields_counted (tables_of F S) r ∙ sym em)));
+-- the literal at the node n, whose struct is the record r; `v` is what the tests before the last one say
+module _ (F : List ℕ) (S : Sections) (n r count m : ℕ) (ec : count ≡ (node_at (tables_of F S) n).children) (em : m ≡ (struct_at (tables_of F S) r).count) (v : Bool) where
+  pub same_count : (count ≡ m → ⊥) → v ≡ eqb count m → v ≡ true → ⊥
+  same_count f ev e = f (eqb-true count m (sym ev ∙ e))
+
+  pub count_differs : (count ≡ m → ⊥) → v ≡ eqb count m → OfInitializers F S (n + 1) (node_at (tables_of F S) n).children (λ is. v ≡ names_fit (struct_of (tables_of F S) r).fields is)
+  count_differs f ev = record {
+    holds = λ is d e. ev ∙ ne_eqb count m f ∙ sym (fit_not _ is (λ q. f (ec ∙ sym e ∙ q ∙ fields_counted (tables_of F S) r ∙ sym em)));
   }
 
-  pub inits_there : Initializers F S (n + 1) (node_at (tables_of F S) n).children → Initializers F S (n + 1) count
-  inits_there I = rw ec I
-
-  module _ (same : count ≡ m) (b : Bool) (eb : b ≡ distinct_fields (struct_of (tables_of F S) r).fields) where
-    pub not_distinct : not b ≡ true → OfInitializers F S (n + 1) (node_at (tables_of F S) n).children (λ is. false ≡ names_fit (struct_of (tables_of F S) r).fields is)
+  module _ (same : count ≡ m) (b : Bool) (eb : b ≡ distinct_fields (struct_of (tables_of F S) r).fields) (ev : v ≡ b) where
+    pub not_distinct : v ≡ false → OfInitializers F S (n + 1) (node_at (tables_of F S) n).children (λ is. v ≡ names_fit (struct_of (tables_of F S) r).fields is)
     not_distinct f = record {
-      holds = λ is d e. sym
-          (sym (fit_is _ is (e ∙ sym ec ∙ same ∙ em ∙ sym (fields_counted (tables_of F S) r)))
-          ∙ and_left _ (all_named (struct_of (tables_of F S) r).fields is) (sym eb ∙ not-true b f));
+      holds = λ is d e. f
+          ∙ sym (and_left _ (all_named (struct_of (tables_of F S) r).fields is) (sym (ev ∙ eb) ∙ f))
+          ∙ fit_is _ is (e ∙ sym ec ∙ same ∙ em ∙ sym (fields_counted (tables_of F S) r));
     }
 
-    pub names_told : not b ≡ false → (t : Bool) → OfInitializers F S (n + 1) count (λ is. t ≡ all_named (struct_of (tables_of F S) r).fields is)
+    pub names_told : v ≡ true → (t : Bool) → OfInitializers F S (n + 1) count (λ is. t ≡ all_named (struct_of (tables_of F S) r).fields is)
         → OfInitializers F S (n + 1) (node_at (tables_of F S) n).children (λ is. t ≡ names_fit (struct_of (tables_of F S) r).fields is)
     names_told f t A = record {
       holds = λ is d e. A.holds is d (e ∙ sym ec)
-          ∙ sym (ap (λ c. c && all_named (struct_of (tables_of F S) r).fields is) (sym eb ∙ not-false b f))
+          ∙ sym (ap (λ c. c && all_named (struct_of (tables_of F S) r).fields is) (sym (ev ∙ eb) ∙ f))
           ∙ fit_is _ is (e ∙ sym ec ∙ same ∙ em ∙ sym (fields_counted (tables_of F S) r));
     }

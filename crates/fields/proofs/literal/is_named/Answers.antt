@@ -6,7 +6,7 @@ use Rattle.fields.proofs.LawsInitializers.{reached_first, reached_within, reache
 use Rattle.fields.proofs.literal.is_named.Goals as goal
 
 pub loop-passed-init : goal.loop-passed-init
-loop-passed-init c = (search (reached_first, rules), search (none_passed, rules), search rules)
+loop-passed-init c = (search (reached_first, rules), search (none_passed, rules))
 
 pub node_x-requires : goal.node_x-requires
 node_x-requires c = search (reached_within, rules)
@@ -21,7 +21,7 @@ pub past-at-requires : goal.past-at-requires
 past-at-requires c = search (reached_tree, rules)
 
 pub loop-passed-preserved : goal.loop-passed-preserved
-loop-passed-preserved c = (search (reached_next, rules), search (name_passed, rules), search rules)
+loop-passed-preserved c = (search (reached_next, rules), search (name_passed, rules))
 
 pub returns : goal.returns
-returns c = no_name _ _ _ _ _ _ c.loop-passed.invariant.1 c.loop-passed.invariant.2 c.loop-passed-test.false
+returns c = no_name _ _ _ _ _ _ c.loop-passed.invariant.1 (omega arith) c.loop-passed-test.false

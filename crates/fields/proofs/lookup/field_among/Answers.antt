@@ -4,13 +4,13 @@ use Rattle.fields.proofs.LawsLookup.{among_start, among_hit, among_miss, among_n
 use Rattle.fields.proofs.lookup.field_among.Goals as goal
 
 pub loop-i-init : goal.loop-i-init
-loop-i-init c = (search rules, search (among_start, rules))
+loop-i-init c = search (among_start, rules)
 
 pub returns-then-field_name-name : goal.returns-then-field_name-name
 returns-then-field_name-name c = search (among_hit, rules)
 
 pub loop-i-preserved : goal.loop-i-preserved
-loop-i-preserved c = (search rules, search (among_miss, rules))
+loop-i-preserved c = search (among_miss, rules)
 
 pub returns : goal.returns
 returns c = search (among_none, rules)
