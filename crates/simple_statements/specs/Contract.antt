@@ -11,6 +11,9 @@ use Rattle.typing_rules.specs.Judge.{Done, Counted, assigns_to, executing_vars, 
 use Rattle.file_sections.specs.declared.Sections.{Sections}
 use Rattle.file_sections.specs.Layout.{tables_of}
 use Rattle.bindings.specs.Bindings.{Scoped, Holds}
+use Rattle.answers.specs.declared.answer.Frame.{Frame}
+use Rattle.answers.specs.declared.answer.Walk.{Walk}
+use Rattle.answers.specs.declared.answer.At.{At}
 use Rattle.answers.specs.declared.answer.Judgement.{Judgement}
 use Rattle.answers.specs.declared.answer.Judgement.TheVariants.{Typed, GoesOn, Returns, Refused}
 use Rattle.answers.specs.declared.answer.Judged.{Judged}
@@ -85,6 +88,30 @@ pub record ToldAnywhere (F : List ℕ) (S : Sections) (X R W : List ℕ) (base r
 pub record ToldAny (F : List ℕ) (S : Sections) (X R W : List ℕ) (base n s π : ℕ) (R' W' K' : List ℕ) (r : Judged) : Type 0 where
   pub tells : (rt : ℕ) → ToldAnywhere F S X R W base rt n s π R' W' K' r
 
+-- these of a walk: f is its frame, w and v the walk before and after, a the place where it stands
+abbrev pub ReadyStmtAt : Frame → Walk → At → Type 0
+ReadyStmtAt f w a = ReadyStmt f.file.bytes.now f.file.sections f.file.index.now w.rows.now w.bindings.work.now w.bindings.chains f.base a.node a.scope a.pairs
+
+abbrev pub ToldStmtAt : Frame → Walk → (start : ℕ) → (last : Bool) → At → Walk → Judged → Type 0
+ToldStmtAt f w start last a v r =
+    ToldStmt f.file.bytes.now f.file.sections f.file.index.now w.rows.now w.bindings.work.now f.base start f.result last a.node a.scope a.pairs v.rows.now v.bindings.work.now v.bindings.chains r
+
+abbrev pub ToldVarAt : Frame → Walk → (start : ℕ) → At → Walk → Judged → Type 0
+ToldVarAt f w start a v r =
+    ToldVar f.file.bytes.now f.file.sections f.file.index.now w.rows.now w.bindings.work.now f.base start a.node a.scope a.pairs v.rows.now v.bindings.work.now v.bindings.chains r
+
+abbrev pub ToldWhileAt : Frame → Walk → (last : Bool) → At → Walk → Judged → Type 0
+ToldWhileAt f w last a v r =
+    ToldWhile f.file.bytes.now f.file.sections f.file.index.now w.rows.now w.bindings.work.now f.base f.result last a.node a.scope a.pairs v.rows.now v.bindings.work.now v.bindings.chains r
+
+abbrev pub ToldAnywhereAt : Frame → Walk → At → Walk → Judged → Type 0
+ToldAnywhereAt f w a v r =
+    ToldAnywhere f.file.bytes.now f.file.sections f.file.index.now w.rows.now w.bindings.work.now f.base f.result a.node a.scope a.pairs v.rows.now v.bindings.work.now v.bindings.chains r
+
+abbrev pub ToldAnyAt : Frame → Walk → At → Walk → Judged → Type 0
+ToldAnyAt f w a v r =
+    ToldAny f.file.bytes.now f.file.sections f.file.index.now w.rows.now w.bindings.work.now f.base a.node a.scope a.pairs v.rows.now v.bindings.work.now v.bindings.chains r
+
 -- what the definition says of the vars of a for, at n
 abbrev pub vars_in : List ℕ → Sections → List ℕ → ℕ → Vars → ℕ → Scope ℕ → Counted (Scope ℕ)
 vars_in F S W base vs n Γ = executing_vars (tables_of F S) (context_of (tables_of F S) W base) vs n Γ
@@ -104,6 +131,14 @@ pub record ToldVars (F : List ℕ) (S : Sections) (X R W : List ℕ) (base start
   pub tells : (vs : Vars) → VarsStand (tables_of F S) n vs → count_vars vs ≡ left → (Γ : Scope ℕ) → Holds (tables_of F S) W base start s Γ
       → Meets (Declaring F S X base start n (size_vars vs) s R W R' W' K' r) r π (vars_in F S W base vs n Γ).out (vars_in F S W base vs n Γ).pairs
 
+abbrev pub ReadyVarsAt : Frame → Walk → (start : ℕ) → At → (left : ℕ) → Type 0
+ReadyVarsAt f w start a left =
+    ReadyVars f.file.bytes.now f.file.sections f.file.index.now w.rows.now w.bindings.work.now w.bindings.chains f.base start a.node a.scope a.pairs left
+
+abbrev pub ToldVarsAt : Frame → Walk → (start : ℕ) → At → (left : ℕ) → Walk → Judged → Type 0
+ToldVarsAt f w start a left v r =
+    ToldVars f.file.bytes.now f.file.sections f.file.index.now w.rows.now w.bindings.work.now f.base start a.node a.scope a.pairs left v.rows.now v.bindings.work.now v.bindings.chains r
+
 -- what the definition says of the condition at n of the for at `parent`
 abbrev pub condition_in : List ℕ → Sections → List ℕ → ℕ → Condition → (n parent : ℕ) → Scope ℕ → Counted (Scope ℕ)
 condition_in F S W base q n parent Γ = judging_condition (tables_of F S) (context_of (tables_of F S) W base) q n parent Γ
@@ -120,6 +155,14 @@ pub record ReadyCondition (F : List ℕ) (S : Sections) (X R W K : List ℕ) (ba
 pub record ToldCondition (F : List ℕ) (S : Sections) (X R W : List ℕ) (base n s π parent : ℕ) (R' W' K' : List ℕ) (r : Judged) : Type 0 where
   pub tells : (q : Condition) → ConditionStands (tables_of F S) n q → (start : ℕ) (Γ : Scope ℕ) → Holds (tables_of F S) W base start s Γ
       → Meets (Listing F S X base n (size_condition q) s R W R' W' K' r) r π (condition_in F S W base q n parent Γ).out (condition_in F S W base q n parent Γ).pairs
+
+abbrev pub ReadyConditionAt : Frame → Walk → At → Type 0
+ReadyConditionAt f w a =
+    ReadyCondition f.file.bytes.now f.file.sections f.file.index.now w.rows.now w.bindings.work.now w.bindings.chains f.base a.node a.scope a.pairs
+
+abbrev pub ToldConditionAt : Frame → Walk → At → (parent : ℕ) → Walk → Judged → Type 0
+ToldConditionAt f w a parent v r =
+    ToldCondition f.file.bytes.now f.file.sections f.file.index.now w.rows.now w.bindings.work.now f.base a.node a.scope a.pairs parent v.rows.now v.bindings.work.now v.bindings.chains r
 
 -- the left side of the assignment at n is tested as the definition has it
 pub record Assigns (F : List ℕ) (S : Sections) (W K : List ℕ) (base n : ℕ) (r : Bool) : Type 0 where

@@ -5,33 +5,22 @@ ghost use Rattle.answers.specs.Answers.{with_row};
 ghost use Rattle.simple_statements.specs.Contract.{mark_of, marked, MarksWhile};
 
 use answers::answer::{At, Judged, Judgement, row};
-use file_sections::Sections;
+use answers::file::IndexedFile;
 use file_sections::records::node_kind;
 
 // 1 where it returns, else 0.
 pub fn mark_of(judgement: Judgement) -> usize
     ensures { (result ≡ mark_of judgement) × (result ≤ 1) }
 {
-    match judgement {
-        Judgement::Typed(_) => 0,
-        Judgement::GoesOn => 0,
-        Judgement::Returns => 1,
-        Judgement::Refused(_, _) => 0,
-    }
+    usize::from(matches!(judgement, Judgement::Returns))
 }
 
 // The mark of a while whose condition stands at `test`: 1 where it is the last of its block and its condition is the node `true`.
-pub fn while_mark(file: &[u8], sections: Sections, test: usize, last: bool) -> usize
-    requires { Has file.now sections test sections.nodes }
-    ensures { MarksWhile file.now sections test last result × (result ≤ 1) }
+pub fn while_mark(file: &IndexedFile<'_>, test: usize, last: bool) -> usize
+    requires { Has file.now.bytes.now file.now.sections test file.now.sections.nodes }
+    ensures { MarksWhile file.now.bytes.now file.now.sections test last result × (result ≤ 1) }
 {
-    if !last {
-        return 0;
-    }
-    if node_kind(file, sections, test) != 11 {
-        return 0;
-    }
-    1
+    usize::from(last && node_kind(file.bytes, file.sections, test) == 11)
 }
 
 // The judgement of a mark.
@@ -50,7 +39,7 @@ pub fn with_mark(mark: usize, at: At) -> Judged
 {
     Judged {
         judgement: judgement_of(mark),
-        at: at,
+        at,
     }
 }
 

@@ -1,377 +1,235 @@
 // Statements without statements in them, and a for's vars and condition.
-ghost use Rattle.std.specs.Prelude.{◌≡◌, ◌+◌, ◌*◌, ◌<◌};
+ghost use Rattle.std.specs.Prelude.{◌≡◌, ◌<◌};
 ghost use Rattle.oat.specs.Tables.{node_at};
-ghost use Rattle.file_sections.specs.Layout.{tables_of};
 ghost use Rattle.bindings.specs.Bindings.{SomeFrom};
-ghost use Rattle.simple_statements.specs.Contract.{ReadyStmt, ToldVar, ToldAnywhere, ToldAny, ReadyVars, ToldVars, ReadyCondition, ToldCondition, Assigns};
+ghost use Rattle.answers.specs.Answers.{tables};
+ghost use Rattle.answers.specs.Walks.{SameBuffers};
+ghost use Rattle.simple_statements.specs.Contract.{ReadyStmtAt, ToldVarAt, ToldAnywhereAt, ToldAnyAt, ReadyVarsAt, ToldVarsAt, ReadyConditionAt, ToldConditionAt, Assigns};
 
 use crate::marks::ends;
-use answers::answer::{At, Frame, Judged, Judgement, counting, goes_on, refused};
+use answers::answer::{At, Broken, Frame, Judged, Judgement, Walk};
+use answers::file::IndexedFile;
 use answers::leaves::Expected;
-use bindings::{Chains, bind, is_assignable, is_fresh};
+use bindings::Bindings;
 use expressions::cycle::{expression, list};
-use file_sections::Sections;
 use file_sections::records::{node_children, node_kind, node_x, type_a, type_b, type_c, type_kind};
 use subtyping::below::below;
 
 // The left side at `node` is not the name of a function or of a built-in, or a local hides it.
-fn assigns(
-    file: &[u8],
-    sections: Sections,
-    work: &[u16],
-    chains: &Chains,
-    base: usize,
-    node: usize,
-) -> bool
-    requires { SomeFrom file.now sections work.now chains.now base × (node < sections.nodes) }
-    ensures { Assigns file.now sections work.now chains.now base node result }
+fn assigns(file: &IndexedFile<'_>, bindings: &Bindings<'_>, base: usize, node: usize) -> bool
+    requires { SomeFrom file.now.bytes.now file.now.sections bindings.now.work.now bindings.now.chains base × (node < file.now.sections.nodes) }
+    ensures { Assigns file.now.bytes.now file.now.sections bindings.now.work.now bindings.now.chains base node result }
 {
-    if node_kind(file, sections, node) != 15 {
+    if node_kind(file.bytes, file.sections, node) != 15 {
         return true;
     }
-    is_assignable(
-        file,
-        sections,
-        work,
-        chains,
-        base,
-        node_x(file, sections, node),
-    )
+    let name = node_x(file.bytes, file.sections, node);
+    bindings.is_assignable(file.bytes, file.sections, base, name)
 }
 
 // Assignment: not to a function, left, right, subtype.
-pub fn assignment(
-    file: &[u8],
-    frame: Frame,
-    index: &[u16],
-    rows: &mut [u16],
-    work: &mut [u16],
-    chains: &mut Chains,
-    at: At,
-) -> Judged
-    requires ready_stmt { ReadyStmt file.now frame.sections index.now rows.old work.old chains.old frame.base at.node at.scope at.pairs }
-    requires node_value { (node_at (tables_of file.now frame.sections) at.node).kind ≡ 30 }
-    ensures { ToldAny file.now frame.sections index.now rows.old work.old frame.base at.node at.scope at.pairs rows.new work.new chains.new result }
+pub fn assignment(frame: &Frame<'_>, walk: &mut Walk<'_>, at: At) -> Judged
+    requires ready_stmt { ReadyStmtAt frame.now walk.old at }
+    requires node_value { (node_at (tables frame.now.file) at.node).kind ≡ 30 }
+    ensures told { ToldAnyAt frame.now walk.old at walk.new result }
+    ensures same_buffers { SameBuffers walk.old walk.new }
 {
-    if !assigns(
-        file,
-        frame.sections,
-        &*work,
-        &*chains,
-        frame.base,
-        at.node + 1,
-    ) {
-        return refused(15, at.node, at);
+    let file = &frame.file;
+    if !assigns(file, &walk.bindings, frame.base, at.node + 1) {
+        return Judged::refused(Broken::FunctionAssigned, at.node, at);
     }
-    let one = expression(
-        file,
-        frame,
-        index,
-        rows,
-        work,
-        chains,
-        At {
-            node: at.node + 1,
-            ..at
-        },
-    );
-    let first = one.judgement;
-    let Judgement::Typed(t) = first else {
+    let left = At {
+        node: at.node + 1,
+        ..at
+    };
+    let one = expression(frame, walk, left);
+    let Judgement::Typed(t) = one.judgement else {
         return one;
     };
-    let two = expression(
-        file,
-        frame,
-        index,
-        rows,
-        work,
-        chains,
-        At {
-            scope: at.scope,
-            ..one.at
-        },
-    );
-    let second = two.judgement;
-    let Judgement::Typed(u) = second else {
+    let right = At {
+        scope: at.scope,
+        ..one.at
+    };
+    let two = expression(frame, walk, right);
+    let Judgement::Typed(u) = two.judgement else {
         return two;
     };
-    let asked = below(file, frame.sections, index, u, t);
-    let end = counting(two.at, asked);
+    let asked = below(file.bytes, file.sections, file.index, u, t);
+    let end = two.at.counting(asked);
     if !asked.holds {
-        return refused(11, at.node, end);
+        return Judged::refused(Broken::NotSubtype, at.node, end);
     }
-    ends(
-        rows,
-        at.node,
-        0,
-        At {
-            scope: at.scope,
-            ..end
-        },
-    )
+    let after = At {
+        scope: at.scope,
+        ..end
+    };
+    ends(walk.rows, at.node, 0, after)
 }
 
 // Var: value, fresh name. The bindings of its block stand from the position `start` on.
-pub fn variable(
-    file: &[u8],
-    frame: Frame,
-    index: &[u16],
-    rows: &mut [u16],
-    work: &mut [u16],
-    chains: &mut Chains,
-    at: At,
-    start: usize,
-) -> Judged
-    requires ready_stmt { ReadyStmt file.now frame.sections index.now rows.old work.old chains.old frame.base at.node at.scope at.pairs }
-    requires node_value { (node_at (tables_of file.now frame.sections) at.node).kind ≡ 31 }
-    ensures { ToldVar file.now frame.sections index.now rows.old work.old frame.base start at.node at.scope at.pairs rows.new work.new chains.new result }
+pub fn variable(frame: &Frame<'_>, walk: &mut Walk<'_>, at: At, start: usize) -> Judged
+    requires ready_stmt { ReadyStmtAt frame.now walk.old at }
+    requires node_value { (node_at (tables frame.now.file) at.node).kind ≡ 31 }
+    ensures told { ToldVarAt frame.now walk.old start at walk.new result }
+    ensures same_buffers { SameBuffers walk.old walk.new }
 {
-    let one = expression(
-        file,
-        frame,
-        index,
-        rows,
-        work,
-        chains,
-        At {
-            node: at.node + 1,
-            ..at
-        },
-    );
-    let judgement = one.judgement;
-    let Judgement::Typed(t) = judgement else {
+    let file = &frame.file;
+    let value = At {
+        node: at.node + 1,
+        ..at
+    };
+    let one = expression(frame, walk, value);
+    let Judgement::Typed(t) = one.judgement else {
         return one;
     };
-    if !is_fresh(
-        file,
-        frame.sections,
-        &*work,
-        &*chains,
-        start,
-        node_x(file, frame.sections, at.node),
-    ) {
-        return refused(7, at.node, one.at);
+    let name = node_x(file.bytes, file.sections, at.node);
+    let bindings = &mut walk.bindings;
+    if !bindings.is_fresh(file.bytes, file.sections, start, name) {
+        return Judged::refused(Broken::BoundTwice, at.node, one.at);
     }
-    bind(file, frame.sections, work, chains, at.scope, at.node, t);
-    ends(
-        rows,
-        at.node,
-        0,
-        At {
-            scope: at.scope + 1,
-            ..one.at
-        },
-    )
+    bindings.bind(file.bytes, file.sections, at.scope, at.node, t);
+    let after = At {
+        scope: at.scope + 1,
+        ..one.at
+    };
+    ends(walk.rows, at.node, 0, after)
 }
 
 // `count` vars of a for, from `node` on, in the block whose bindings stand from the position `start` on.
 pub fn variables(
-    file: &[u8],
-    frame: Frame,
-    index: &[u16],
-    rows: &mut [u16],
-    work: &mut [u16],
-    chains: &mut Chains,
+    frame: &Frame<'_>,
+    walk: &mut Walk<'_>,
     at: At,
     count: usize,
     start: usize,
 ) -> Judged
-    requires { ReadyVars file.now frame.sections index.now rows.old work.old chains.old frame.base start at.node at.scope at.pairs count }
-    ensures { ToldVars file.now frame.sections index.now rows.old work.old frame.base start at.node at.scope at.pairs count rows.new work.new chains.new result }
+    requires { ReadyVarsAt frame.now walk.old start at count }
+    ensures told { ToldVarsAt frame.now walk.old start at count walk.new result }
+    ensures same_buffers { SameBuffers walk.old walk.new }
 {
     let mut here = at;
-    let mut i = 0;
-    while i < count {
-        let one = variable(file, frame, index, rows, work, chains, here, start);
-        let judgement = one.judgement;
-        let Judgement::GoesOn = judgement else {
+    for _ in 0..count {
+        let one = variable(frame, walk, here, start);
+        let Judgement::GoesOn = one.judgement else {
             return one;
         };
         here = one.at;
-        i += 1;
     }
-    goes_on(here)
+    Judged::goes_on(here)
 }
 
 // The condition at `node` of the for at `parent`, or 40.
-pub fn condition(
-    file: &[u8],
-    frame: Frame,
-    index: &[u16],
-    rows: &mut [u16],
-    work: &mut [u16],
-    chains: &mut Chains,
-    at: At,
-    parent: usize,
-) -> Judged
-    requires { ReadyCondition file.now frame.sections index.now rows.old work.old chains.old frame.base at.node at.scope at.pairs }
-    ensures { ToldCondition file.now frame.sections index.now rows.old work.old frame.base at.node at.scope at.pairs parent rows.new work.new chains.new result }
+pub fn condition(frame: &Frame<'_>, walk: &mut Walk<'_>, at: At, parent: usize) -> Judged
+    requires { ReadyConditionAt frame.now walk.old at }
+    ensures told { ToldConditionAt frame.now walk.old at parent walk.new result }
+    ensures same_buffers { SameBuffers walk.old walk.new }
 {
-    if node_kind(file, frame.sections, at.node) == 40 {
-        return ends(
-            rows,
-            at.node,
-            0,
-            At {
-                node: at.node + 1,
-                ..at
-            },
-        );
+    let file = &frame.file;
+    if node_kind(file.bytes, file.sections, at.node) == 40 {
+        let after = At {
+            node: at.node + 1,
+            ..at
+        };
+        return ends(walk.rows, at.node, 0, after);
     }
-    let one = expression(file, frame, index, rows, work, chains, at);
-    let judgement = one.judgement;
-    let Judgement::Typed(t) = judgement else {
+    let one = expression(frame, walk, at);
+    let Judgement::Typed(t) = one.judgement else {
         return one;
     };
-    if type_kind(file, frame.sections, t) != 1 {
-        return refused(10, parent, one.at);
+    if type_kind(file.bytes, file.sections, t) != 1 {
+        return Judged::refused(Broken::WrongSort, parent, one.at);
     }
-    goes_on(one.at)
+    Judged::goes_on(one.at)
 }
 
 // Return with value: not void, value, subtype.
-pub fn return_value(
-    file: &[u8],
-    frame: Frame,
-    index: &[u16],
-    rows: &mut [u16],
-    work: &mut [u16],
-    chains: &mut Chains,
-    at: At,
-) -> Judged
-    requires ready_stmt { ReadyStmt file.now frame.sections index.now rows.old work.old chains.old frame.base at.node at.scope at.pairs × (frame.result < frame.sections.types) }
-    requires node_value { (node_at (tables_of file.now frame.sections) at.node).kind ≡ 32 }
-    ensures { ToldAnywhere file.now frame.sections index.now rows.old work.old frame.base frame.result at.node at.scope at.pairs rows.new work.new chains.new result }
+pub fn return_value(frame: &Frame<'_>, walk: &mut Walk<'_>, at: At) -> Judged
+    requires ready_stmt { ReadyStmtAt frame.now walk.old at × (frame.now.result < frame.now.file.sections.types) }
+    requires node_value { (node_at (tables frame.now.file) at.node).kind ≡ 32 }
+    ensures told { ToldAnywhereAt frame.now walk.old at walk.new result }
+    ensures same_buffers { SameBuffers walk.old walk.new }
 {
-    if type_kind(file, frame.sections, frame.result) == 3 {
-        return refused(13, at.node, at);
+    let file = &frame.file;
+    if type_kind(file.bytes, file.sections, frame.result) == 3 {
+        return Judged::refused(Broken::VoidOrValue, at.node, at);
     }
-    let one = expression(
-        file,
-        frame,
-        index,
-        rows,
-        work,
-        chains,
-        At {
-            node: at.node + 1,
-            ..at
-        },
-    );
-    let judgement = one.judgement;
-    let Judgement::Typed(t) = judgement else {
+    let value = At {
+        node: at.node + 1,
+        ..at
+    };
+    let one = expression(frame, walk, value);
+    let Judgement::Typed(t) = one.judgement else {
         return one;
     };
-    let asked = below(file, frame.sections, index, t, frame.result);
-    let end = counting(one.at, asked);
+    let asked = below(file.bytes, file.sections, file.index, t, frame.result);
+    let end = one.at.counting(asked);
     if !asked.holds {
-        return refused(11, at.node, end);
+        return Judged::refused(Broken::NotSubtype, at.node, end);
     }
-    ends(
-        rows,
-        at.node,
-        1,
-        At {
-            scope: at.scope,
-            ..end
-        },
-    )
+    let after = At {
+        scope: at.scope,
+        ..end
+    };
+    ends(walk.rows, at.node, 1, after)
 }
 
 // Return: void.
-pub fn return_void(
-    file: &[u8],
-    frame: Frame,
-    index: &[u16],
-    rows: &mut [u16],
-    work: &mut [u16],
-    chains: &mut Chains,
-    at: At,
-) -> Judged
-    requires ready_stmt { ReadyStmt file.now frame.sections index.now rows.old work.old chains.old frame.base at.node at.scope at.pairs × (frame.result < frame.sections.types) }
-    requires node_value { (node_at (tables_of file.now frame.sections) at.node).kind ≡ 33 }
-    ensures { ToldAnywhere file.now frame.sections index.now rows.old work.old frame.base frame.result at.node at.scope at.pairs rows.new work.new chains.new result }
+pub fn return_void(frame: &Frame<'_>, walk: &mut Walk<'_>, at: At) -> Judged
+    requires ready_stmt { ReadyStmtAt frame.now walk.old at × (frame.now.result < frame.now.file.sections.types) }
+    requires node_value { (node_at (tables frame.now.file) at.node).kind ≡ 33 }
+    ensures told { ToldAnywhereAt frame.now walk.old at walk.new result }
+    ensures same_buffers { SameBuffers walk.old walk.new }
 {
-    if type_kind(file, frame.sections, frame.result) != 3 {
-        return refused(13, at.node, at);
+    let file = &frame.file;
+    if type_kind(file.bytes, file.sections, frame.result) != 3 {
+        return Judged::refused(Broken::VoidOrValue, at.node, at);
     }
-    ends(
-        rows,
-        at.node,
-        1,
-        At {
-            node: at.node + 1,
-            ..at
-        },
-    )
+    let after = At {
+        node: at.node + 1,
+        ..at
+    };
+    ends(walk.rows, at.node, 1, after)
 }
 
 // Call statement: callee, sort, void, count, arguments, subtypes.
-pub fn call_statement(
-    file: &[u8],
-    frame: Frame,
-    index: &[u16],
-    rows: &mut [u16],
-    work: &mut [u16],
-    chains: &mut Chains,
-    at: At,
-) -> Judged
-    requires ready_stmt { ReadyStmt file.now frame.sections index.now rows.old work.old chains.old frame.base at.node at.scope at.pairs }
-    requires node_value { (node_at (tables_of file.now frame.sections) at.node).kind ≡ 34 }
-    ensures { ToldAny file.now frame.sections index.now rows.old work.old frame.base at.node at.scope at.pairs rows.new work.new chains.new result }
+pub fn call_statement(frame: &Frame<'_>, walk: &mut Walk<'_>, at: At) -> Judged
+    requires ready_stmt { ReadyStmtAt frame.now walk.old at }
+    requires node_value { (node_at (tables frame.now.file) at.node).kind ≡ 34 }
+    ensures told { ToldAnyAt frame.now walk.old at walk.new result }
+    ensures same_buffers { SameBuffers walk.old walk.new }
 {
-    let one = expression(
-        file,
-        frame,
-        index,
-        rows,
-        work,
-        chains,
-        At {
-            node: at.node + 1,
-            ..at
-        },
-    );
-    let first = one.judgement;
-    let Judgement::Typed(f) = first else {
+    let file = &frame.file;
+    let callee = At {
+        node: at.node + 1,
+        ..at
+    };
+    let one = expression(frame, walk, callee);
+    let Judgement::Typed(f) = one.judgement else {
         return one;
     };
-    if type_kind(file, frame.sections, f) != 6 {
-        return refused(10, at.node, one.at);
+    if type_kind(file.bytes, file.sections, f) != 6 {
+        return Judged::refused(Broken::WrongSort, at.node, one.at);
     }
-    if type_kind(file, frame.sections, type_a(file, frame.sections, f)) != 3 {
-        return refused(13, at.node, one.at);
+    let returned = type_a(file.bytes, file.sections, f);
+    if type_kind(file.bytes, file.sections, returned) != 3 {
+        return Judged::refused(Broken::VoidOrValue, at.node, one.at);
     }
-    let count = type_c(file, frame.sections, f);
-    if node_children(file, frame.sections, at.node) != 1 + count {
-        return refused(12, at.node, one.at);
+    let count = type_c(file.bytes, file.sections, f);
+    if node_children(file.bytes, file.sections, at.node) != 1 + count {
+        return Judged::refused(Broken::Mismatch, at.node, one.at);
     }
-    let all = list(
-        file,
-        frame,
-        index,
-        rows,
-        work,
-        chains,
-        At {
-            scope: at.scope,
-            ..one.at
-        },
-        count,
-        Expected::Run(type_b(file, frame.sections, f)),
-        at.node,
-    );
-    let second = all.judgement;
-    let Judgement::GoesOn = second else {
+    let arguments = At {
+        scope: at.scope,
+        ..one.at
+    };
+    let expected = Expected::Run(type_b(file.bytes, file.sections, f));
+    let all = list(frame, walk, arguments, count, expected, at.node);
+    let Judgement::GoesOn = all.judgement else {
         return all;
     };
-    ends(
-        rows,
-        at.node,
-        0,
-        At {
-            scope: at.scope,
-            ..all.at
-        },
-    )
+    let after = At {
+        scope: at.scope,
+        ..all.at
+    };
+    ends(walk.rows, at.node, 0, after)
 }

@@ -11,6 +11,9 @@ use Rattle.typing_rules.specs.Judge.{ok, Counted, giving, and_counting, executin
 use Rattle.file_sections.specs.declared.Sections.{Sections}
 use Rattle.file_sections.specs.Layout.{tables_of}
 use Rattle.bindings.specs.Bindings.{Holds}
+use Rattle.answers.specs.declared.answer.Frame.{Frame}
+use Rattle.answers.specs.declared.answer.Walk.{Walk}
+use Rattle.answers.specs.declared.answer.At.{At}
 use Rattle.answers.specs.declared.answer.Judged.{Judged}
 use Rattle.expressions.specs.Contract.{context_of, Fine, After, Meets, Few}
 use Rattle.simple_statements.specs.Contract.{marked}
@@ -55,6 +58,15 @@ pub record ToldBlock (F : List ℕ) (S : Sections) (X R W : List ℕ) (base star
   pub tells : (b : Block) → BlockStands (tables_of F S) n b → (Γ : Scope ℕ) → Holds (tables_of F S) W base start s Γ
       → Meets (Blocking F S X base n (size_block b) s R W R' W' K' r) r π (block_in F S W base rt b n Γ).out (block_in F S W base rt b n Γ).pairs
 
+-- these of a walk: f is its frame, w and v the walk before and after, a the place where it stands
+abbrev pub ReadyBlockAt : Frame → Walk → (start : ℕ) → At → Type 0
+ReadyBlockAt f w start a =
+    ReadyBlock f.file.bytes.now f.file.sections f.file.index.now w.rows.now w.bindings.work.now w.bindings.chains f.base start f.result a.node a.scope a.pairs
+
+abbrev pub ToldBlockAt : Frame → Walk → (start : ℕ) → At → Walk → Judged → Type 0
+ToldBlockAt f w start a v r =
+    ToldBlock f.file.bytes.now f.file.sections f.file.index.now w.rows.now w.bindings.work.now f.base start f.result a.node a.scope a.pairs v.rows.now v.bindings.work.now v.bindings.chains r
+
 -- `left` statements of the block at `parent` stand at n
 pub record ReadyStmts (F : List ℕ) (S : Sections) (X R W K : List ℕ) (base start rt n s π left : ℕ) : Type 0 where
   pub fine : Fine F S X R W K base s
@@ -70,6 +82,14 @@ pub record ReadyStmts (F : List ℕ) (S : Sections) (X R W K : List ℕ) (base s
 pub record ToldStmts (F : List ℕ) (S : Sections) (X R W : List ℕ) (base start rt n s π left parent : ℕ) (R' W' K' : List ℕ) (r : Judged) : Type 0 where
   pub tells : (ss : Stmts) → StmtsStand (tables_of F S) n ss → count_stmts ss ≡ left → (Γ : Scope ℕ) → Holds (tables_of F S) W base start s Γ
       → Meets (Running F S X base n (size_stmts ss) s R W R' W' K' r) r π (stmts_in F S W base rt ss n parent Γ).out (stmts_in F S W base rt ss n parent Γ).pairs
+
+abbrev pub ReadyStmtsAt : Frame → Walk → (start : ℕ) → At → (left : ℕ) → Type 0
+ReadyStmtsAt f w start a left =
+    ReadyStmts f.file.bytes.now f.file.sections f.file.index.now w.rows.now w.bindings.work.now w.bindings.chains f.base start f.result a.node a.scope a.pairs left
+
+abbrev pub ToldStmtsAt : Frame → Walk → (start : ℕ) → At → (left parent : ℕ) → Walk → Judged → Type 0
+ToldStmtsAt f w start a left parent v r =
+    ToldStmts f.file.bytes.now f.file.sections f.file.index.now w.rows.now w.bindings.work.now f.base start f.result a.node a.scope a.pairs left parent v.rows.now v.bindings.work.now v.bindings.chains r
 
 -- two blocks, the first in the scope Γ, the second in Δ
 abbrev pub either_of : Tables → Context ℕ → ℕ → (b c : Block) → ℕ → (Γ Δ : Scope ℕ) → Counted ℕ
@@ -100,6 +120,14 @@ pub record ToldArms (F : List ℕ) (S : Sections) (X R W : List ℕ) (base rt n 
       → (Γ Δ : Scope ℕ) → Holds (tables_of F S) W base top top Γ → Holds (tables_of F S) W base s s Δ
       → Meets (Blocking F S X base n (size_block b + size_block c) s R W R' W' K' r) r π (either_in F S W base rt b c n Γ Δ).out (either_in F S W base rt b c n Γ Δ).pairs
 
+abbrev pub ReadyArmsAt : Frame → Walk → At → (top : ℕ) → Type 0
+ReadyArmsAt f w a top =
+    ReadyArms f.file.bytes.now f.file.sections f.file.index.now w.rows.now w.bindings.work.now w.bindings.chains f.base f.result a.node a.scope top a.pairs
+
+abbrev pub ToldArmsAt : Frame → Walk → At → (top : ℕ) → Walk → Judged → Type 0
+ToldArmsAt f w a top v r =
+    ToldArms f.file.bytes.now f.file.sections f.file.index.now w.rows.now w.bindings.work.now f.base f.result a.node a.scope top a.pairs v.rows.now v.bindings.work.now v.bindings.chains r
+
 -- the step of a for, or 40, stands at n, in the block of its vars, whose bindings stand from `start` on
 pub record ReadyStep (F : List ℕ) (S : Sections) (X R W K : List ℕ) (base start rt n s π : ℕ) : Type 0 where
   pub fine : Fine F S X R W K base s
@@ -114,6 +142,14 @@ pub record ReadyStep (F : List ℕ) (S : Sections) (X R W K : List ℕ) (base st
 pub record ToldStep (F : List ℕ) (S : Sections) (X R W : List ℕ) (base start rt n s π : ℕ) (R' W' K' : List ℕ) (r : Judged) : Type 0 where
   pub tells : (z : Step) → StepStands (tables_of F S) n z → (Γ : Scope ℕ) → Holds (tables_of F S) W base start s Γ
       → Meets (Blocking F S X base n (size_step z) s R W R' W' K' r) r π (step_in F S W base rt z n Γ).out (step_in F S W base rt z n Γ).pairs
+
+abbrev pub ReadyStepAt : Frame → Walk → (start : ℕ) → At → Type 0
+ReadyStepAt f w start a =
+    ReadyStep f.file.bytes.now f.file.sections f.file.index.now w.rows.now w.bindings.work.now w.bindings.chains f.base start f.result a.node a.scope a.pairs
+
+abbrev pub ToldStepAt : Frame → Walk → (start : ℕ) → At → Walk → Judged → Type 0
+ToldStepAt f w start a v r =
+    ToldStep f.file.bytes.now f.file.sections f.file.index.now w.rows.now w.bindings.work.now f.base start f.result a.node a.scope a.pairs v.rows.now v.bindings.work.now v.bindings.chains r
 
 -- a step, and the block after it, an inner one
 abbrev pub turn_of : Tables → Context ℕ → ℕ → Step → Block → ℕ → Scope ℕ → Counted ℕ
@@ -141,3 +177,11 @@ pub record ToldTurn (F : List ℕ) (S : Sections) (X R W : List ℕ) (base start
   pub tells : (z : Step) (b : Block) → StepStands (tables_of F S) n z → BlockStands (tables_of F S) (n + size_step z) b
       → (Γ : Scope ℕ) → Holds (tables_of F S) W base start s Γ
       → Meets (Blocking F S X base n (size_step z + size_block b) s R W R' W' K' r) r π (turn_in F S W base rt z b n Γ).out (turn_in F S W base rt z b n Γ).pairs
+
+abbrev pub ReadyTurnAt : Frame → Walk → (start : ℕ) → At → Type 0
+ReadyTurnAt f w start a =
+    ReadyTurn f.file.bytes.now f.file.sections f.file.index.now w.rows.now w.bindings.work.now w.bindings.chains f.base start f.result a.node a.scope a.pairs
+
+abbrev pub ToldTurnAt : Frame → Walk → (start : ℕ) → At → Walk → Judged → Type 0
+ToldTurnAt f w start a v r =
+    ToldTurn f.file.bytes.now f.file.sections f.file.index.now w.rows.now w.bindings.work.now f.base start f.result a.node a.scope a.pairs v.rows.now v.bindings.work.now v.bindings.chains r
