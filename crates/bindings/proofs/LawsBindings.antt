@@ -12,6 +12,7 @@ use lib.Seq.{get_or-set_same, get_or-set_other}
 use lib.Dec.{eqb, ltb}
 use borrow.Author.Count.{below_more}
 use borrow.Author.Tests.{ltb-true, ltb-false, lt-ltb, le-ltb}
+use Rattle.std.specs.Prelude.{Option, Some as At, None as Nothing}
 use Rattle.oat.specs.Basics.{pick}
 use Rattle.oat.specs.Tables.{Tables, built_in_at, node_at}
 use Rattle.chains.specs.Chains.{highest, Chains}
@@ -23,8 +24,6 @@ use Rattle.file_sections.specs.Layout.{Laid, Has, tables_of}
 use Rattle.file_sections.specs.Frames.{Same}
 use Rattle.file_sections.proofs.LawsRecords.{built_ins_long}
 use Rattle.file_sections.proofs.LawsFrames.{same_refl}
-use Rattle.bindings.specs.declared.Found.{Found}
-use Rattle.bindings.specs.declared.Found.TheVariants.{At, Nothing}
 use Rattle.bindings.specs.Bindings.{entry_of, binder_of, type_bound, name_bound, is_global, names_of, scope_of, found_below, latest, Chained, Holds, Position, Scoped, Some, SomeFrom, Finds, Freshness, Assignability, Bindable, Bound}
 
 -- a position of a built-in
@@ -165,15 +164,15 @@ unfolding scope_of
 scope_more T W base n h = rw (le-ltb n base h)
 
 -- what a position says of a name: what the name means, whether no position from `start` on binds it, whether it can be assigned
-abbrev meant : Tables → List ℕ → Found → Hit ℕ
+abbrev meant : Tables → List ℕ → Option ℕ → Hit ℕ
 meant T W (At j) = hit (type_bound T W j) (binder_of T W j)
 meant T W Nothing = miss
 
-abbrev fresh_from : ℕ → Found → Bool
+abbrev fresh_from : ℕ → Option ℕ → Bool
 fresh_from start (At j) = ltb j start
 fresh_from start Nothing = true
 
-abbrev assign_from : Tables → List ℕ → ℕ → Found → Bool
+abbrev assign_from : Tables → List ℕ → ℕ → Option ℕ → Bool
 assign_from T W base (At j) = pick (ltb j base) (is_global T W j) true
 assign_from T W base Nothing = true
 
@@ -334,14 +333,14 @@ from_low : {F : List ℕ} {S : Sections} {W K : List ℕ} {base : ℕ} → SomeF
 from_low o s c = omega (arith, o.low, scoped_highest o.some.height c o.some.scoped)
 
 -- whether a name is fresh, and whether it can be assigned
-module _ {F : List ℕ} {S : Sections} {W K : List ℕ} {x : ℕ} (r : Found) (found : Finds F S W K x r) (j : ℕ) (e : r ≡ At j) (o : Some F S W K) where
+module _ {F : List ℕ} {S : Sections} {W K : List ℕ} {x : ℕ} (r : Option ℕ) (found : Finds F S W K x r) (j : ℕ) (e : r ≡ At j) (o : Some F S W K) where
   pub found_position : Position F S W j
   found_position = position_of j o.scoped (latest_low (tables_of F S) W x o.height j (sym (found.found o.height o.scoped) ∙ e))
 
   pub found_there : (b : ℕ) → S.built_ins ≤ j → b ≡ binder_of (tables_of F S) W j → Has F S b S.nodes
   found_there b h eb = binder_there F S W j h found_position b eb
 
-module _ {F : List ℕ} {S : Sections} {W K : List ℕ} {x : ℕ} (start : ℕ) (r : Found) (found : Finds F S W K x r) where
+module _ {F : List ℕ} {S : Sections} {W K : List ℕ} {x : ℕ} (start : ℕ) (r : Option ℕ) (found : Finds F S W K x r) where
   fresh_is : (t : Bool) → fresh_from start r ≡ t → Freshness F S W K start x t
   fresh_is t e = record {
     tells = λ s c. sym (fresh-from (tables_of F S) W x start s ∙ ap (fresh_from start) (sym (found.found s c)) ∙ e);
@@ -353,7 +352,7 @@ module _ {F : List ℕ} {S : Sections} {W K : List ℕ} {x : ℕ} (start : ℕ) 
   pub fresh_at : (j : ℕ) → r ≡ At j → Freshness F S W K start x (ltb j start)
   fresh_at j e = fresh_is (ltb j start) (ap (fresh_from start) e)
 
-module _ {F : List ℕ} {S : Sections} {W K : List ℕ} {x : ℕ} (base : ℕ) (r : Found) (found : Finds F S W K x r) where
+module _ {F : List ℕ} {S : Sections} {W K : List ℕ} {x : ℕ} (base : ℕ) (r : Option ℕ) (found : Finds F S W K x r) where
   module _ (o : SomeFrom F S W K base) where
     assign_is : (t : Bool) → assign_from (tables_of F S) W base r ≡ t → Assignability F S W K base x t
     assign_is t e = record {

@@ -38,12 +38,12 @@ scope_of T W base zero = empty
 scope_of T W base (suc j) = pick (ltb j base) empty (binds (scope_of T W base j) (name_bound T W j) (type_bound T W j) (binder_of T W j))
 
 -- the position one below the number; none below 0
-abbrev pub found_below : ℕ → Found
+abbrev pub found_below : ℕ → Option ℕ
 found_below zero = Nothing
 found_below (suc j) = At j
 
 -- the latest position of the name x below s
-unfoldable pub latest : Tables → List ℕ → ℕ → ℕ → Found
+unfoldable pub latest : Tables → List ℕ → ℕ → ℕ → Option ℕ
 latest T W x s = found_below (highest (name_bound T W) x s)
 
 -- the chains K lead through the positions below s, by the remainders of their names by 512
@@ -85,7 +85,7 @@ pub record Holds (T : Tables) (W : List ℕ) (base start s : ℕ) (Γ : Scope �
   pub deepest : (l x : ℕ) → Γ.level < l → is_fresh_at l x Γ.bindings ≡ true
 
 -- what `find`, `is_fresh` and `is_assignable` answer, in the scope that the buffers hold
-pub record Finds (F : List ℕ) (S : Sections) (W K : List ℕ) (x : ℕ) (r : Found) : Type 0 where
+pub record Finds (F : List ℕ) (S : Sections) (W K : List ℕ) (x : ℕ) (r : Option ℕ) : Type 0 where
   pub found : (s : ℕ) → Scoped F S W K s → r ≡ latest (tables_of F S) W x s
 
 pub record Freshness (F : List ℕ) (S : Sections) (W K : List ℕ) (start x : ℕ) (r : Bool) : Type 0 where
