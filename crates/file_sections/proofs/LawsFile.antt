@@ -11,17 +11,17 @@ use lib.ListN.{length, get_or, drop, length-append, drop_of_length-le}
 use lib.Seq.{drop-cons, get_or-append-add}
 use lib.Dec.{eqb}
 use borrow.Author.Tests.{eqb-true}
+use Rattle.std.specs.Prelude.{Ok, Err}
 use Rattle.oat.specs.Basics.{pick, tabulate}
 use Rattle.oat.specs.Tables.{Tables, type_numbers, entry_numbers, field_numbers, struct_numbers, built_in_numbers, node_numbers, record_numbers, section_numbers, numbers_of, bytes_of, file_of}
 use Rattle.oat.specs.ProgramFile.{Counts}
 use Rattle.oat.proofs.LawsBasics.{tabulate_long}
 use Rattle.file_sections.specs.Numbers.{number_at}
-use Rattle.file_sections.specs.Layout.{section_of, then_reading, front_sections, front_of, all_sections, sections_of, Laid, type_from, entry_from, field_from, struct_from, built_in_from, node_from, records_at, tables_of}
+use Rattle.file_sections.specs.Layout.{section_of, front_sections, front_of, all_sections, sections_of, Laid, type_from, entry_from, field_from, struct_from, built_in_from, node_from, records_at, tables_of}
 use Rattle.file_sections.specs.declared.Sections.{Sections}
-use Rattle.file_sections.specs.declared.Reading.{Reading}
-use Rattle.file_sections.specs.declared.Reading.TheVariants.{Refused, Good}
-use Rattle.file_sections.specs.declared.layout.Section.TheVariants.{Counted}
-use Rattle.file_sections.proofs.LawsLayout.{Stood, stood, FrontStood, front_stood, then_good, counted, front_good, sections_good}
+use Rattle.file_sections.specs.declared.Unreadable.TheVariants.{Length}
+use Rattle.file_sections.specs.declared.layout.Section.{Section}
+use Rattle.file_sections.proofs.LawsLayout.{ok_same, then_ok, Stood, stood, FrontStood, front_stood, ok_is_no_err, counted, front_good, sections_good}
 
 -- f at n numbers from p on
 run : (ℕ → ℕ) → ℕ → ℕ → List ℕ
@@ -125,52 +125,52 @@ pub record AllStood (s : List ℕ) (S : Sections) : Type 0 where
   pub built-ins : number_at s (S.structs_at + S.structs * 3) ≡ S.built_ins
   pub nodes : number_at s (S.built_ins_at + S.built_ins * 2) ≡ S.nodes
 
-then_front : (r : Reading) (k : Sections → Reading) (S : Sections) → Good S ≡ then_reading r k → (F : Sections) × (r ≡ Good F) × (Good S ≡ k F)
-then_front (Refused n) k S e = absurd (let z : ◌≡◌ {A = ℕ} 0 1 = cc in omega arith)
-then_front (Good F) k S e = (F, refl, e)
+all_laid : (s : List ℕ) (F : Sections) (structs built_ins nodes : Section) → FrontStood s F → Stood s F.structs_at 256 3 structs → Stood s structs.next 128 2 built_ins → Stood s built_ins.next 4096 4 nodes → length s ≡ nodes.next * 2 → AllStood s (all_sections F structs.count structs.next built_ins.count built_ins.next nodes.count)
+all_laid s F structs built_ins nodes f d e g w =
+    let list_at : F.list_at ≡ f.types.next + 1 = rw f.is refl in
+    let fields_at : F.fields_at ≡ f.list.next + 1 = rw f.is refl in
+    record {
+      laid = record {
+        list_at = rw f.is (omega (arith, f.first));
+        fields_at = rw f.is (omega (arith, f.second));
+        structs_at = rw f.is (omega (arith, f.third));
+        built_ins_at = omega (arith, d);
+        nodes_at = omega (arith, e);
+        end = omega (arith, g, w);
+        types_most = rw f.is f.first.few;
+        list_most = rw f.is f.second.few;
+        fields_most = rw f.is f.third.few;
+        structs_most = d.few;
+        built_ins_most = e.few;
+        nodes_most = g.few;
+      };
+      types = rw f.is (sym f.first.count);
+      list = rw f.is (moved s _ _ _ (sym f.second.count) (omega (arith, f.first)));
+      fields = rw f.is (moved s _ _ _ (sym f.third.count) (omega (arith, f.second)));
+      structs = moved s _ _ _ (sym d.count) (rw f.is (omega (arith, f.third)));
+      built-ins = moved s _ _ _ (sym e.count) (omega (arith, d));
+      nodes = moved s _ _ _ (sym g.count) (omega (arith, e));
+    }
 
-whole : (n m : ℕ) (b : Bool) (S U : Sections) → eqb n m ≡ b → Good S ≡ pick b (Good U) (Refused 1) → (n ≡ m) × (S ≡ U)
-whole n m true S U h e = (eqb-true n m h, cc)
-whole n m false S U h e = absurd (let z : ◌≡◌ {A = ℕ} 0 1 = cc in omega arith)
+-- the last test, that nothing is left over
+used_up : (n m : ℕ) (b : Bool) (S U : Sections) → eqb n m ≡ b → Ok S ≡ pick b (Ok U) (Err Length) → (n ≡ m) × (S ≡ U)
+used_up n m true S U h e = (eqb-true n m h, ok_same e)
+used_up n m false S U h e = absurd (ok_is_no_err e)
 
-all_laid : (s : List ℕ) (F : Sections) (records built_ins given nodes count end : ℕ) → FrontStood s F → Stood s F.structs_at 256 3 records built_ins → Stood s built_ins 128 2 given nodes → Stood s nodes 4096 4 count end → length s ≡ end * 2 → AllStood s (all_sections F records built_ins given nodes count)
-all_laid s F records built_ins given nodes count end f d e g w = record {
-  laid = record {
-    list_at = omega (arith, f.first, f.list_at);
-    fields_at = omega (arith, f.second, f.list_at, f.fields_at);
-    structs_at = omega (arith, f.third, f.fields_at);
-    built_ins_at = omega (arith, d);
-    nodes_at = omega (arith, e);
-    end = omega (arith, g, w);
-    types_most = f.first.few;
-    list_most = f.second.few;
-    fields_most = f.third.few;
-    structs_most = d.few;
-    built_ins_most = e.few;
-    nodes_most = g.few;
-  };
-  types = sym f.first.count;
-  list = moved s _ _ _ (sym f.second.count) (omega (arith, f.first));
-  fields = moved s _ _ _ (sym f.third.count) (omega (arith, f.second, f.list_at));
-  structs = moved s _ _ _ (sym d.count) (omega (arith, f.third, f.fields_at));
-  built-ins = moved s _ _ _ (sym e.count) (omega (arith, d));
-  nodes = moved s _ _ _ (sym g.count) (omega (arith, e));
-}
-
-pub all_stood : (s : List ℕ) (S : Sections) → Good S ≡ sections_of s → AllStood s S
+pub all_stood : (s : List ℕ) (S : Sections) → Ok S ≡ sections_of s → AllStood s S
 unfolding sections_of
 all_stood s S e =
-    let (F, ef, kf) = then_front (front_of s) _ S e in
-    let (records, built_ins, ea, ka) = then_good (section_of s F.structs_at 256 3) _ S kf in
-    let (given, nodes, eb, kb) = then_good (section_of s built_ins 128 2) _ S ka in
-    let (count, end, ec, kc) = then_good (section_of s nodes 4096 4) _ S kb in
-    let (w, is) = whole (length s) (end * 2) _ S (all_sections F records built_ins given nodes count) refl kc in
+    let (F, ef, kf) = then_ok (front_of s) _ S e in
+    let (structs, ea, ka) = then_ok (section_of s F.structs_at 256 3) _ S kf in
+    let (built_ins, eb, kb) = then_ok (section_of s structs.next 128 2) _ S ka in
+    let (nodes, ec, kc) = then_ok (section_of s built_ins.next 4096 4) _ S kb in
+    let (w, is) = used_up (length s) (nodes.next * 2) _ S (all_sections F structs.count structs.next built_ins.count built_ins.next nodes.count) refl kc in
     subst (AllStood s) (sym is)
-    (all_laid s F records built_ins given nodes count end
+    (all_laid s F structs built_ins nodes
     (front_stood s _ F refl ef)
-    (stood s _ 256 3 records built_ins _ refl ea)
-    (stood s built_ins 128 2 given nodes _ refl eb)
-    (stood s nodes 4096 4 count end _ refl ec)
+    (stood s _ 256 3 structs _ refl ea)
+    (stood s structs.next 128 2 built_ins _ refl eb)
+    (stood s built_ins.next 4096 4 nodes _ refl ec)
     w)
 
 -- one run after another
@@ -271,10 +271,10 @@ module _ {A : Type 0} (from : (ℕ → ℕ) → A) (numbers : A → List ℕ) (s
   }
 
 -- one section is accepted
-accepted : (s : List ℕ) (at most size n next : ℕ) → n ≡ number_at s at → n ≤ most → next ≡ at + (1 + n * size) → next * 2 ≤ length s → Counted n next ≡ section_of s at most size
+accepted : (s : List ℕ) (at most size n next : ℕ) → n ≡ number_at s at → n ≤ most → next ≡ at + (1 + n * size) → next * 2 ≤ length s → Ok (record { count = n; next = next }) ≡ section_of s at most size
 accepted s at most size n next e h k l =
     let same : at + (1 + n * size) ≡ at + 1 + n * size = omega arith in
-    rw (k, same) (counted s at most size (omega arith) n e h (rw (← same, ← k) l))
+    rw (k, same) (counted s at most size n (omega arith) e h (rw (← same, ← k) l))
 
 -- where the sections of these tables stand
 unfoldable pub sections_for : Tables → Sections
@@ -343,13 +343,17 @@ module _ (s : List ℕ) (T : Tables) (list fields structs built_ins nodes : ℕ)
   }
 
   -- and accepted
-  six_accepted : Counts T → length s ≡ (nodes + (1 + length T.nodes * 4)) * 2 → Good (all_sections (front_sections (length T.types) (length T.list) list (length T.fields) fields structs) (length T.structs) built_ins (length T.built_ins) nodes (length T.nodes)) ≡ sections_of s
+  six_accepted : Counts T → length s ≡ (nodes + (1 + length T.nodes * 4)) * 2 → Ok (all_sections (front_sections (length T.types) (length T.list) list (length T.fields) fields structs) (length T.structs) built_ins (length T.built_ins) nodes (length T.nodes)) ≡ sections_of s
   six_accepted c w =
-      sections_good s _ (front_good s _ (accepted s 0 512 4 _ list a.types.count c.types a.list_at (omega arith)) _ _ refl _ (accepted s list 1024 1 _ fields a.entries.count c.list a.fields_at (omega arith)) _ _ refl _ (accepted s fields 1024 2 _ structs a.members.count c.fields a.structs_at (omega arith)) _ _ _ refl refl)
-      _ refl _ (accepted s structs 256 3 _ built_ins a.records.count c.structs a.built_ins-at (omega arith))
-      _ _ refl _ (accepted s built_ins 128 2 _ nodes a.given.count c.built_ins a.nodes_at (omega arith))
-      _ _ refl _ (accepted s nodes 4096 4 _ (nodes + (1 + length T.nodes * 4)) a.tree.count c.nodes refl (omega arith))
-      _ _ _ refl w refl
+      sections_good s _ _ _ _
+      (front_good s _ _ _
+      (accepted s 0 512 4 _ list a.types.count c.types a.list_at (omega arith))
+      (accepted s list 1024 1 _ fields a.entries.count c.list a.fields_at (omega arith))
+      (accepted s fields 1024 2 _ structs a.members.count c.fields a.structs_at (omega arith)))
+      (accepted s structs 256 3 _ built_ins a.records.count c.structs a.built_ins-at (omega arith))
+      (accepted s built_ins 128 2 _ nodes a.given.count c.built_ins a.nodes_at (omega arith))
+      (accepted s nodes 4096 4 _ (nodes + (1 + length T.nodes * 4)) a.tree.count c.nodes refl (omega arith))
+      w
 
 file_long : (T : Tables) → length (numbers_of T) ≡ (1 + length T.types * 4) + ((1 + length T.list * 1) + ((1 + length T.fields * 2) + ((1 + length T.structs * 3) + ((1 + length T.built_ins * 2) + (1 + length T.nodes * 4)))))
 unfolding numbers_of
@@ -366,7 +370,7 @@ file_long T =
     ))
 
 -- the bytes of tables within their counts are accepted, and these tables are read back
-pub file_accepted : (T : Tables) → Counts T → (Good (sections_for T) ≡ sections_of (file_of T)) × (tables_of (file_of T) (sections_for T) ≡ T)
+pub file_accepted : (T : Tables) → Counts T → (Ok (sections_for T) ≡ sections_of (file_of T)) × (tables_of (file_of T) (sections_for T) ≡ T)
 unfolding sections_for
 file_accepted T c =
     let a = all_found (file_of T) T _ _ _ _ _ refl refl refl refl refl (record { at = λ j. ap (number_at (file_of T)) (zero-add j) ∙ number_of (numbers_of T) j }) in

@@ -3,4 +3,3 @@ pub mod LawsLayout
 pub mod LawsRecords
 pub mod LawsTrees
 pub mod LawsFrames
-pub mod LawsCategories

@@ -1,4 +1,6 @@
 // The syntactic category of a node: a declaration, an expression or a statement, by its kind.
+#![tactic(auto, unfolding(crate::specs::Categories::category_of, oat::specs::Nodes::is_declaration_kind, oat::specs::Nodes::is_expression_kind, oat::specs::Nodes::is_statement_kind))]
+
 ghost use Rattle.std.specs.Prelude.{◌≡◌};
 ghost use Rattle.oat.specs.Nodes.{is_declaration_kind, is_expression_kind, is_statement_kind};
 ghost use Rattle.file_sections.specs.Categories.{category_of};

@@ -1,4 +1,6 @@
 // Readers of single records, of a file whose sections are laid. Each names the part of the record that it reads.
+#![tactic(auto, using(oat::proofs::LawsBasics::tabulate_at), unfolding(crate::specs::Layout::tables_of, crate::specs::Layout::records_at))]
+
 ghost use Rattle.std.specs.Prelude.{◌≡◌, ◌<◌};
 ghost use Rattle.oat.specs.Tables.{type_at, entry_at, field_at, struct_at, built_in_at, node_at};
 ghost use Rattle.file_sections.specs.Layout.{Has, tables_of};

@@ -4,7 +4,7 @@ ghost use Rattle.file_sections.specs.Trees.{Tree, Past};
 use crate::Sections;
 use crate::records::node_children;
 
-// The node after the tree at `node`.
+// The node after the tree at `node`. The loop goes by the trees still open, which is no index.
 pub fn past(file: &[u8], sections: Sections, node: usize) -> usize
     requires { Tree file.now sections node }
     ensures { Past file.now sections node result }
