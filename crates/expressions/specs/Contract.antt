@@ -18,10 +18,14 @@ use Rattle.file_sections.specs.Frames.{Same, Kept}
 use Rattle.type_index.specs.Index.{declared, Indexed}
 use Rattle.bindings.specs.Bindings.{entry_of, names_of, scope_of, Scoped}
 use Rattle.answers.specs.declared.answer.Judgement.TheVariants.{Typed, GoesOn, Refused}
+use Rattle.answers.specs.declared.answer.Frame.{Frame}
+use Rattle.answers.specs.declared.answer.Walk.{Walk}
+use Rattle.answers.specs.declared.answer.At.{At}
+use Rattle.answers.specs.declared.answer.Broken.{Broken}
 use Rattle.answers.specs.declared.answer.Judged.{Judged}
 use Rattle.answers.specs.declared.leaves.Expected.{Expected}
 use Rattle.answers.specs.declared.leaves.Expected.TheVariants.{Each, Run}
-use Rattle.answers.specs.Answers.{Expecting}
+use Rattle.answers.specs.Answers.{broken_number, Expecting}
 
 -- the context whose names are the positions below `base`
 abbrev pub context_of : Tables → List ℕ → ℕ → Context ℕ
@@ -67,7 +71,7 @@ pub record Listing {A : Type 0} (F : List ℕ) (S : Sections) (X : List ℕ) (ba
 -- its refusal where it refuses, and either way r has the sum of both
 pub data Meets {A : Type 0} (P : A → List (Label ℕ) → Type 0) (r : Judged) (π : ℕ) : Out A → ℕ → Type 0 where
   accepts : (a : A) (L : List (Label ℕ)) (k : ℕ) → P a L → r.at.pairs ≡ π + k → Meets P r π (ok a L) k
-  refuses : (p q k : ℕ) → r.judgement ≡ Refused p q → r.at.pairs ≡ π + k → Meets P r π (no p q) k
+  refuses : (p q k : ℕ) (broken : Broken) → broken_number broken ≡ p → r.judgement ≡ Refused broken q → r.at.pairs ≡ π + k → Meets P r π (no p q) k
 
 -- there is room for the sum: the k nodes ahead compare at most 1,200 pairs each
 abbrev pub Few : (π k : ℕ) → Type 0
@@ -165,3 +169,36 @@ pub record ReadyFilling (F : List ℕ) (S : Sections) (X R W K : List ℕ) (base
 pub record ToldFilling (F : List ℕ) (S : Sections) (X R W : List ℕ) (base n s m π : ℕ) (R' W' K' : List ℕ) (r : Judged) : Type 0 where
   pub tells : (b : Expr) → Stands (tables_of F S) m b
       → Meets (Typing F S X base m (size b) s R W R' W' K' r) r π (fills_in F S W base s b m n).out (fills_in F S W base s b m n).pairs
+
+-- the same of a frame, and of what the walk writes before, as w, and after, as v
+abbrev pub ReadyAt : Frame → Walk → At → Type 0
+ReadyAt f w a = Ready f.file.bytes.now f.file.sections f.file.index.now w.rows.now w.bindings.work.now w.bindings.chains f.base a.node a.scope a.pairs
+
+abbrev pub ToldAt : Frame → Walk → At → Walk → Judged → Type 0
+ToldAt f w a v r =
+    Told f.file.bytes.now f.file.sections f.file.index.now w.rows.now w.bindings.work.now f.base a.node a.scope a.pairs v.rows.now v.bindings.work.now v.bindings.chains r
+
+abbrev pub ReadyListAt : Frame → Walk → At → (left : ℕ) → Expected → Type 0
+ReadyListAt f w a left x =
+    ReadyList f.file.bytes.now f.file.sections f.file.index.now w.rows.now w.bindings.work.now w.bindings.chains f.base a.node a.scope a.pairs left x
+
+abbrev pub ToldListAt : Frame → Walk → At → (left : ℕ) → Expected → (parent : ℕ) → Walk → Judged → Type 0
+ToldListAt f w a left x parent v r =
+    ToldList f.file.bytes.now f.file.sections f.file.index.now w.rows.now w.bindings.work.now f.base a.node a.scope a.pairs left x parent v.rows.now v.bindings.work.now v.bindings.chains r
+
+abbrev pub ReadyInitsAt : Frame → Walk → At → (left owner : ℕ) → Type 0
+ReadyInitsAt f w a left owner =
+    ReadyInits f.file.bytes.now f.file.sections f.file.index.now w.rows.now w.bindings.work.now w.bindings.chains f.base a.node a.scope a.pairs left owner
+
+abbrev pub ToldInitsAt : Frame → Walk → At → (left owner parent : ℕ) → Walk → Judged → Type 0
+ToldInitsAt f w a left owner parent v r =
+    ToldInits f.file.bytes.now f.file.sections f.file.index.now w.rows.now w.bindings.work.now f.base a.node a.scope a.pairs left owner parent v.rows.now v.bindings.work.now v.bindings.chains r
+
+-- the value at b of the array with initializer at a
+abbrev pub ReadyFillingAt : Frame → Walk → (a b : At) → Type 0
+ReadyFillingAt f w a b =
+    ReadyFilling f.file.bytes.now f.file.sections f.file.index.now w.rows.now w.bindings.work.now w.bindings.chains f.base a.node a.scope b.node b.pairs
+
+abbrev pub ToldFillingAt : Frame → Walk → (a b : At) → Walk → Judged → Type 0
+ToldFillingAt f w a b v r =
+    ToldFilling f.file.bytes.now f.file.sections f.file.index.now w.rows.now w.bindings.work.now f.base a.node a.scope b.node b.pairs v.rows.now v.bindings.work.now v.bindings.chains r

@@ -3,17 +3,17 @@
 ghost use Rattle.std.specs.Prelude.{◌≡◌, true, false, ◌+◌, ◌<◌};
 ghost use Rattle.oat.specs.Tables.{node_at};
 ghost use Rattle.typing_rules.specs.Operators.{is_equality, operand_type, result_type};
-ghost use Rattle.file_sections.specs.Layout.{tables_of};
-ghost use Rattle.expressions.specs.Contract.{Ready, Told, ReadyList, ToldList, ReadyInits, ToldInits, ReadyFilling, ToldFilling};
+ghost use Rattle.answers.specs.Answers.{tables};
+ghost use Rattle.answers.specs.Walks.{SameBuffers};
+ghost use Rattle.expressions.specs.Contract.{ReadyAt, ToldAt, ReadyListAt, ToldListAt, ReadyInitsAt, ToldInitsAt, ReadyFillingAt, ToldFillingAt};
 
-use answers::answer::{At, Frame, Judged, Judgement, counting, goes_on, refused, row, typed};
+use answers::answer::{At, Broken, Frame, Judged, Judgement, Walk, row, typed};
 use answers::leaves::{
     Expected, Operator, has_default, literal, name, null, operator_of, still_below, still_fits,
     unary_type,
 };
-use bindings::{Chains, bind, leave};
 use fields::literal::names_fit;
-use fields::lookup::{FieldType, field_of};
+use fields::lookup::field_of;
 use file_sections::records::{
     node_children, node_kind, node_t, node_x, type_a, type_b, type_c, type_kind,
 };
@@ -22,310 +22,243 @@ use type_index::formed::{is_formed, struct_record};
 
 // The expression at `at`.
 #[cycle(expressions)]
-pub fn expression(
-    file: &[u8],
-    frame: Frame,
-    index: &[u16],
-    rows: &mut [u16],
-    work: &mut [u16],
-    chains: &mut Chains,
-    at: At,
-) -> Judged
-    requires { Ready file.now frame.sections index.now rows.old work.old chains.old frame.base at.node at.scope at.pairs }
-    ensures { Told file.now frame.sections index.now rows.old work.old frame.base at.node at.scope at.pairs rows.new work.new chains.new result }
+pub fn expression(frame: &Frame<'_>, walk: &mut Walk<'_>, at: At) -> Judged
+    requires { ReadyAt frame.now walk.old at }
+    ensures told { ToldAt frame.now walk.old at walk.new result }
+    ensures same_buffers { SameBuffers walk.old walk.new }
 {
-    match node_kind(file, frame.sections, at.node) {
-        10 => null(file, frame.sections, index, rows, at),
-        11..=14 => literal(file, frame.sections, rows, at),
-        15 => name(file, frame.sections, rows, &*work, &*chains, at),
-        16 => array_literal(file, frame, index, rows, work, chains, at),
-        17 => default_array(file, frame, index, rows, work, chains, at),
-        18 => array_with(file, frame, index, rows, work, chains, at),
-        19 => index_expression(file, frame, index, rows, work, chains, at),
-        20 => length_of(file, frame, index, rows, work, chains, at),
-        21 => struct_literal(file, frame, index, rows, work, chains, at),
-        23 => field(file, frame, index, rows, work, chains, at),
-        24 => call(file, frame, index, rows, work, chains, at),
-        25 => unary(file, frame, index, rows, work, chains, at),
-        _ => binary(file, frame, index, rows, work, chains, at),
+    let file = &frame.file;
+    match node_kind(file.bytes, file.sections, at.node) {
+        10 => null(file, walk.rows, at),
+        11..=14 => literal(file, walk.rows, at),
+        15 => name(file, walk.rows, &walk.bindings, at),
+        16 => array_literal(frame, walk, at),
+        17 => default_array(frame, walk, at),
+        18 => array_with(frame, walk, at),
+        19 => index_expression(frame, walk, at),
+        20 => length_of(frame, walk, at),
+        21 => struct_literal(frame, walk, at),
+        23 => field(frame, walk, at),
+        24 => call(frame, walk, at),
+        25 => unary(frame, walk, at),
+        _ => binary(frame, walk, at),
     }
 }
 
 // `count` expressions from `at` on, then their subtypes, which break at the parent.
 #[cycle(expressions)]
 pub fn list(
-    file: &[u8],
-    frame: Frame,
-    index: &[u16],
-    rows: &mut [u16],
-    work: &mut [u16],
-    chains: &mut Chains,
+    frame: &Frame<'_>,
+    walk: &mut Walk<'_>,
     at: At,
     count: usize,
     expected: Expected,
     parent: usize,
 ) -> Judged
-    requires { ReadyList file.now frame.sections index.now rows.old work.old chains.old frame.base at.node at.scope at.pairs count expected }
-    ensures { ToldList file.now frame.sections index.now rows.old work.old frame.base at.node at.scope at.pairs count expected parent rows.new work.new chains.new result }
+    requires { ReadyListAt frame.now walk.old at count expected }
+    ensures told { ToldListAt frame.now walk.old at count expected parent walk.new result }
+    ensures same_buffers { SameBuffers walk.old walk.new }
 {
+    let file = &frame.file;
     let mut here = at;
     let mut asked = Compared {
         holds: true,
         pairs: 0,
     };
-    let mut i = 0;
-    while i < count {
-        let one = expression(file, frame, index, rows, work, chains, here);
-        let judgement = one.judgement;
-        let Judgement::Typed(t) = judgement else {
+    for i in 0..count {
+        let one = expression(frame, walk, here);
+        let Judgement::Typed(t) = one.judgement else {
             return one;
         };
-        asked = still_below(file, frame.sections, index, asked, t, expected, i);
+        asked = still_below(file, asked, t, expected, i);
         here = one.at;
-        i += 1;
     }
-    let end = counting(here, asked);
+    let end = here.counting(asked);
     if !asked.holds {
-        return refused(11, parent, end);
+        return Judged::refused(Broken::NotSubtype, parent, end);
     }
-    goes_on(end)
+    Judged::goes_on(end)
 }
 
 // `count` field initializers from `at` on, of a literal of the record, then their subtypes, which break at the parent.
 #[cycle(expressions)]
 fn inits(
-    file: &[u8],
-    frame: Frame,
-    index: &[u16],
-    rows: &mut [u16],
-    work: &mut [u16],
-    chains: &mut Chains,
+    frame: &Frame<'_>,
+    walk: &mut Walk<'_>,
     at: At,
     count: usize,
     owner: usize,
     parent: usize,
 ) -> Judged
-    requires { ReadyInits file.now frame.sections index.now rows.old work.old chains.old frame.base at.node at.scope at.pairs count owner }
-    ensures { ToldInits file.now frame.sections index.now rows.old work.old frame.base at.node at.scope at.pairs count owner parent rows.new work.new chains.new result }
+    requires { ReadyInitsAt frame.now walk.old at count owner }
+    ensures told { ToldInitsAt frame.now walk.old at count owner parent walk.new result }
+    ensures same_buffers { SameBuffers walk.old walk.new }
 {
+    let file = &frame.file;
     let mut here = at;
     let mut asked = Compared {
         holds: true,
         pairs: 0,
     };
-    let mut i = 0;
-    while i < count {
+    for i in 0..count {
         let one = expression(
-            file,
             frame,
-            index,
-            rows,
-            work,
-            chains,
+            walk,
             At {
                 node: here.node + 1,
                 ..here
             },
         );
-        let judgement = one.judgement;
-        let Judgement::Typed(t) = judgement else {
+        let Judgement::Typed(t) = one.judgement else {
             return one;
         };
-        row(rows, here.node, t, 65535);
-        asked = still_fits(
-            file,
-            frame.sections,
-            index,
-            asked,
-            t,
-            owner,
-            node_x(file, frame.sections, here.node),
-        );
+        row(walk.rows, here.node, t, 65535);
+        let named = node_x(file.bytes, file.sections, here.node);
+        asked = still_fits(file, asked, t, owner, named);
         here = one.at;
-        i += 1;
     }
-    let end = counting(here, asked);
+    let end = here.counting(asked);
     if !asked.holds {
-        return refused(11, parent, end);
+        return Judged::refused(Broken::NotSubtype, parent, end);
     }
-    goes_on(end)
+    Judged::goes_on(end)
 }
 
 // Array literal: element type, all elements, all subtypes.
 #[cycle(expressions)]
-fn array_literal(
-    file: &[u8],
-    frame: Frame,
-    index: &[u16],
-    rows: &mut [u16],
-    work: &mut [u16],
-    chains: &mut Chains,
-    at: At,
-) -> Judged
-    requires ready { Ready file.now frame.sections index.now rows.old work.old chains.old frame.base at.node at.scope at.pairs }
-    requires node_value { (node_at (tables_of file.now frame.sections) at.node).kind ≡ 16 }
-    ensures { Told file.now frame.sections index.now rows.old work.old frame.base at.node at.scope at.pairs rows.new work.new chains.new result }
+fn array_literal(frame: &Frame<'_>, walk: &mut Walk<'_>, at: At) -> Judged
+    requires ready { ReadyAt frame.now walk.old at }
+    requires node_value { (node_at (tables frame.now.file) at.node).kind ≡ 16 }
+    ensures told { ToldAt frame.now walk.old at walk.new result }
+    ensures same_buffers { SameBuffers walk.old walk.new }
 {
-    let t = node_t(file, frame.sections, at.node);
-    let element = type_a(file, frame.sections, t);
-    if !is_formed(index, element) {
-        return refused(9, at.node, at);
+    let file = &frame.file;
+    let t = node_t(file.bytes, file.sections, at.node);
+    let element = type_a(file.bytes, file.sections, t);
+    if !is_formed(file.index, element) {
+        return Judged::refused(Broken::Undeclared, at.node, at);
     }
     let all = list(
-        file,
         frame,
-        index,
-        rows,
-        work,
-        chains,
+        walk,
         At {
             node: at.node + 1,
             ..at
         },
-        node_children(file, frame.sections, at.node),
+        node_children(file.bytes, file.sections, at.node),
         Expected::Each(element),
         at.node,
     );
-    let judgement = all.judgement;
-    let Judgement::GoesOn = judgement else {
+    let Judgement::GoesOn = all.judgement else {
         return all;
     };
-    typed(rows, at.node, t, all.at)
+    typed(walk.rows, at.node, t, all.at)
 }
 
 // Default array: element type, length, the element's default.
 #[cycle(expressions)]
-fn default_array(
-    file: &[u8],
-    frame: Frame,
-    index: &[u16],
-    rows: &mut [u16],
-    work: &mut [u16],
-    chains: &mut Chains,
-    at: At,
-) -> Judged
-    requires ready { Ready file.now frame.sections index.now rows.old work.old chains.old frame.base at.node at.scope at.pairs }
-    requires node_value { (node_at (tables_of file.now frame.sections) at.node).kind ≡ 17 }
-    ensures { Told file.now frame.sections index.now rows.old work.old frame.base at.node at.scope at.pairs rows.new work.new chains.new result }
+fn default_array(frame: &Frame<'_>, walk: &mut Walk<'_>, at: At) -> Judged
+    requires ready { ReadyAt frame.now walk.old at }
+    requires node_value { (node_at (tables frame.now.file) at.node).kind ≡ 17 }
+    ensures told { ToldAt frame.now walk.old at walk.new result }
+    ensures same_buffers { SameBuffers walk.old walk.new }
 {
-    let t = node_t(file, frame.sections, at.node);
-    let element = type_a(file, frame.sections, t);
-    if !is_formed(index, element) {
-        return refused(9, at.node, at);
+    let file = &frame.file;
+    let t = node_t(file.bytes, file.sections, at.node);
+    let element = type_a(file.bytes, file.sections, t);
+    if !is_formed(file.index, element) {
+        return Judged::refused(Broken::Undeclared, at.node, at);
     }
     let one = expression(
-        file,
         frame,
-        index,
-        rows,
-        work,
-        chains,
+        walk,
         At {
             node: at.node + 1,
             ..at
         },
     );
-    let judgement = one.judgement;
-    let Judgement::Typed(u) = judgement else {
+    let Judgement::Typed(u) = one.judgement else {
         return one;
     };
-    if type_kind(file, frame.sections, u) != 0 {
-        return refused(10, at.node, one.at);
+    if type_kind(file.bytes, file.sections, u) != 0 {
+        return Judged::refused(Broken::WrongSort, at.node, one.at);
     }
-    if !has_default(file, frame.sections, element) {
-        return refused(16, at.node, one.at);
+    if !has_default(file, element) {
+        return Judged::refused(Broken::NoDefault, at.node, one.at);
     }
-    typed(rows, at.node, t, one.at)
+    typed(walk.rows, at.node, t, one.at)
 }
 
 // Array with initializer: element type, length, value.
 #[cycle(expressions)]
-fn array_with(
-    file: &[u8],
-    frame: Frame,
-    index: &[u16],
-    rows: &mut [u16],
-    work: &mut [u16],
-    chains: &mut Chains,
-    at: At,
-) -> Judged
-    requires ready { Ready file.now frame.sections index.now rows.old work.old chains.old frame.base at.node at.scope at.pairs }
-    requires node_value { (node_at (tables_of file.now frame.sections) at.node).kind ≡ 18 }
-    ensures { Told file.now frame.sections index.now rows.old work.old frame.base at.node at.scope at.pairs rows.new work.new chains.new result }
+fn array_with(frame: &Frame<'_>, walk: &mut Walk<'_>, at: At) -> Judged
+    requires ready { ReadyAt frame.now walk.old at }
+    requires node_value { (node_at (tables frame.now.file) at.node).kind ≡ 18 }
+    ensures told { ToldAt frame.now walk.old at walk.new result }
+    ensures same_buffers { SameBuffers walk.old walk.new }
 {
-    let t = node_t(file, frame.sections, at.node);
-    let element = type_a(file, frame.sections, t);
-    if !is_formed(index, element) {
-        return refused(9, at.node, at);
+    let file = &frame.file;
+    let t = node_t(file.bytes, file.sections, at.node);
+    let element = type_a(file.bytes, file.sections, t);
+    if !is_formed(file.index, element) {
+        return Judged::refused(Broken::Undeclared, at.node, at);
     }
     let one = expression(
-        file,
         frame,
-        index,
-        rows,
-        work,
-        chains,
+        walk,
         At {
             node: at.node + 1,
             ..at
         },
     );
-    let first = one.judgement;
-    let Judgement::Typed(u) = first else {
+    let Judgement::Typed(u) = one.judgement else {
         return one;
     };
-    if type_kind(file, frame.sections, u) != 0 {
-        return refused(10, at.node, one.at);
+    if type_kind(file.bytes, file.sections, u) != 0 {
+        return Judged::refused(Broken::WrongSort, at.node, one.at);
     }
-    let two = array_value(file, frame, index, rows, work, chains, at, one.at);
-    let second = two.judgement;
-    let Judgement::Typed(_) = second else {
+    let two = array_value(frame, walk, at, one.at);
+    let Judgement::Typed(_) = two.judgement else {
         return two;
     };
-    typed(rows, at.node, t, two.at)
+    typed(walk.rows, at.node, t, two.at)
 }
 
 // The value at `value` of the array with initializer at `at`, with the index name bound, and its subtype.
 #[cycle(expressions)]
-fn array_value(
-    file: &[u8],
-    frame: Frame,
-    index: &[u16],
-    rows: &mut [u16],
-    work: &mut [u16],
-    chains: &mut Chains,
-    at: At,
-    value: At,
-) -> Judged
-    requires { ReadyFilling file.now frame.sections index.now rows.old work.old chains.old frame.base at.node at.scope value.node value.pairs }
-    ensures { ToldFilling file.now frame.sections index.now rows.old work.old frame.base at.node at.scope value.node value.pairs rows.new work.new chains.new result }
+fn array_value(frame: &Frame<'_>, walk: &mut Walk<'_>, at: At, value: At) -> Judged
+    requires { ReadyFillingAt frame.now walk.old at value }
+    ensures told { ToldFillingAt frame.now walk.old at value walk.new result }
+    ensures same_buffers { SameBuffers walk.old walk.new }
 {
-    bind(file, frame.sections, work, chains, at.scope, at.node, 0);
+    let file = &frame.file;
+    walk.bindings
+        .bind(file.bytes, file.sections, at.scope, at.node, 0);
     let one = expression(
-        file,
         frame,
-        index,
-        rows,
-        work,
-        chains,
+        walk,
         At {
             scope: at.scope + 1,
             ..value
         },
     );
-    let judgement = one.judgement;
-    let Judgement::Typed(v) = judgement else {
+    let Judgement::Typed(v) = one.judgement else {
         return one;
     };
-    leave(file, frame.sections, &*work, chains, at.scope + 1, at.scope);
-    let element = type_a(file, frame.sections, node_t(file, frame.sections, at.node));
-    let asked = below(file, frame.sections, index, v, element);
-    let end = counting(one.at, asked);
+    walk.bindings
+        .leave(file.bytes, file.sections, at.scope + 1, at.scope);
+    let element = type_a(
+        file.bytes,
+        file.sections,
+        node_t(file.bytes, file.sections, at.node),
+    );
+    let asked = below(file.bytes, file.sections, file.index, v, element);
+    let end = one.at.counting(asked);
     if !asked.holds {
-        return refused(11, at.node, end);
+        return Judged::refused(Broken::NotSubtype, at.node, end);
     }
     Judged {
-        judgement: judgement,
+        judgement: one.judgement,
         at: At {
             scope: at.scope,
             ..end
@@ -335,394 +268,288 @@ fn array_value(
 
 // Index: array, its sort, index, its sort.
 #[cycle(expressions)]
-fn index_expression(
-    file: &[u8],
-    frame: Frame,
-    index: &[u16],
-    rows: &mut [u16],
-    work: &mut [u16],
-    chains: &mut Chains,
-    at: At,
-) -> Judged
-    requires ready { Ready file.now frame.sections index.now rows.old work.old chains.old frame.base at.node at.scope at.pairs }
-    requires node_value { (node_at (tables_of file.now frame.sections) at.node).kind ≡ 19 }
-    ensures { Told file.now frame.sections index.now rows.old work.old frame.base at.node at.scope at.pairs rows.new work.new chains.new result }
+fn index_expression(frame: &Frame<'_>, walk: &mut Walk<'_>, at: At) -> Judged
+    requires ready { ReadyAt frame.now walk.old at }
+    requires node_value { (node_at (tables frame.now.file) at.node).kind ≡ 19 }
+    ensures told { ToldAt frame.now walk.old at walk.new result }
+    ensures same_buffers { SameBuffers walk.old walk.new }
 {
+    let file = &frame.file;
     let one = expression(
-        file,
         frame,
-        index,
-        rows,
-        work,
-        chains,
+        walk,
         At {
             node: at.node + 1,
             ..at
         },
     );
-    let first = one.judgement;
-    let Judgement::Typed(t) = first else {
+    let Judgement::Typed(t) = one.judgement else {
         return one;
     };
-    if type_kind(file, frame.sections, t) != 5 {
-        return refused(10, at.node, one.at);
+    if type_kind(file.bytes, file.sections, t) != 5 {
+        return Judged::refused(Broken::WrongSort, at.node, one.at);
     }
-    let two = expression(file, frame, index, rows, work, chains, one.at);
-    let second = two.judgement;
-    let Judgement::Typed(u) = second else {
+    let two = expression(frame, walk, one.at);
+    let Judgement::Typed(u) = two.judgement else {
         return two;
     };
-    if type_kind(file, frame.sections, u) != 0 {
-        return refused(10, at.node, two.at);
+    if type_kind(file.bytes, file.sections, u) != 0 {
+        return Judged::refused(Broken::WrongSort, at.node, two.at);
     }
-    typed(rows, at.node, type_a(file, frame.sections, t), two.at)
+    typed(
+        walk.rows,
+        at.node,
+        type_a(file.bytes, file.sections, t),
+        two.at,
+    )
 }
 
 // Length: array, its sort.
 #[cycle(expressions)]
-fn length_of(
-    file: &[u8],
-    frame: Frame,
-    index: &[u16],
-    rows: &mut [u16],
-    work: &mut [u16],
-    chains: &mut Chains,
-    at: At,
-) -> Judged
-    requires ready { Ready file.now frame.sections index.now rows.old work.old chains.old frame.base at.node at.scope at.pairs }
-    requires node_value { (node_at (tables_of file.now frame.sections) at.node).kind ≡ 20 }
-    ensures { Told file.now frame.sections index.now rows.old work.old frame.base at.node at.scope at.pairs rows.new work.new chains.new result }
+fn length_of(frame: &Frame<'_>, walk: &mut Walk<'_>, at: At) -> Judged
+    requires ready { ReadyAt frame.now walk.old at }
+    requires node_value { (node_at (tables frame.now.file) at.node).kind ≡ 20 }
+    ensures told { ToldAt frame.now walk.old at walk.new result }
+    ensures same_buffers { SameBuffers walk.old walk.new }
 {
+    let file = &frame.file;
     let one = expression(
-        file,
         frame,
-        index,
-        rows,
-        work,
-        chains,
+        walk,
         At {
             node: at.node + 1,
             ..at
         },
     );
-    let judgement = one.judgement;
-    let Judgement::Typed(t) = judgement else {
+    let Judgement::Typed(t) = one.judgement else {
         return one;
     };
-    if type_kind(file, frame.sections, t) != 5 {
-        return refused(10, at.node, one.at);
+    if type_kind(file.bytes, file.sections, t) != 5 {
+        return Judged::refused(Broken::WrongSort, at.node, one.at);
     }
-    typed(rows, at.node, 0, one.at)
+    typed(walk.rows, at.node, 0, one.at)
 }
 
 // Struct literal: declared struct, names, values, subtypes.
 #[cycle(expressions)]
-fn struct_literal(
-    file: &[u8],
-    frame: Frame,
-    index: &[u16],
-    rows: &mut [u16],
-    work: &mut [u16],
-    chains: &mut Chains,
-    at: At,
-) -> Judged
-    requires ready { Ready file.now frame.sections index.now rows.old work.old chains.old frame.base at.node at.scope at.pairs }
-    requires node_value { (node_at (tables_of file.now frame.sections) at.node).kind ≡ 21 }
-    ensures { Told file.now frame.sections index.now rows.old work.old frame.base at.node at.scope at.pairs rows.new work.new chains.new result }
+fn struct_literal(frame: &Frame<'_>, walk: &mut Walk<'_>, at: At) -> Judged
+    requires ready { ReadyAt frame.now walk.old at }
+    requires node_value { (node_at (tables frame.now.file) at.node).kind ≡ 21 }
+    ensures told { ToldAt frame.now walk.old at walk.new result }
+    ensures same_buffers { SameBuffers walk.old walk.new }
 {
-    let t = node_t(file, frame.sections, at.node);
-    let owner = struct_record(index, t);
-    if frame.sections.structs <= owner {
-        return refused(9, at.node, at);
+    let file = &frame.file;
+    let t = node_t(file.bytes, file.sections, at.node);
+    let owner = struct_record(file.index, t);
+    if file.sections.structs <= owner {
+        return Judged::refused(Broken::Undeclared, at.node, at);
     }
-    if !names_fit(file, frame.sections, at.node, owner) {
-        return refused(12, at.node, at);
+    if !names_fit(file.bytes, file.sections, at.node, owner) {
+        return Judged::refused(Broken::Mismatch, at.node, at);
     }
     let all = inits(
-        file,
         frame,
-        index,
-        rows,
-        work,
-        chains,
+        walk,
         At {
             node: at.node + 1,
             ..at
         },
-        node_children(file, frame.sections, at.node),
+        node_children(file.bytes, file.sections, at.node),
         owner,
         at.node,
     );
-    let judgement = all.judgement;
-    let Judgement::GoesOn = judgement else {
+    let Judgement::GoesOn = all.judgement else {
         return all;
     };
-    typed(rows, at.node, t, all.at)
+    typed(walk.rows, at.node, t, all.at)
 }
 
 // Field: record, its sort, a field of that name.
 #[cycle(expressions)]
-fn field(
-    file: &[u8],
-    frame: Frame,
-    index: &[u16],
-    rows: &mut [u16],
-    work: &mut [u16],
-    chains: &mut Chains,
-    at: At,
-) -> Judged
-    requires ready { Ready file.now frame.sections index.now rows.old work.old chains.old frame.base at.node at.scope at.pairs }
-    requires node_value { (node_at (tables_of file.now frame.sections) at.node).kind ≡ 23 }
-    ensures { Told file.now frame.sections index.now rows.old work.old frame.base at.node at.scope at.pairs rows.new work.new chains.new result }
+fn field(frame: &Frame<'_>, walk: &mut Walk<'_>, at: At) -> Judged
+    requires ready { ReadyAt frame.now walk.old at }
+    requires node_value { (node_at (tables frame.now.file) at.node).kind ≡ 23 }
+    ensures told { ToldAt frame.now walk.old at walk.new result }
+    ensures same_buffers { SameBuffers walk.old walk.new }
 {
+    let file = &frame.file;
     let one = expression(
-        file,
         frame,
-        index,
-        rows,
-        work,
-        chains,
+        walk,
         At {
             node: at.node + 1,
             ..at
         },
     );
-    let judgement = one.judgement;
-    let Judgement::Typed(t) = judgement else {
+    let Judgement::Typed(t) = one.judgement else {
         return one;
     };
-    if type_kind(file, frame.sections, t) != 4 {
-        return refused(10, at.node, one.at);
+    if type_kind(file.bytes, file.sections, t) != 4 {
+        return Judged::refused(Broken::WrongSort, at.node, one.at);
     }
-    let found = field_of(
-        file,
-        frame.sections,
-        struct_record(index, t),
-        node_x(file, frame.sections, at.node),
-    );
-    let FieldType::Of(u) = found else {
-        return refused(8, at.node, one.at);
+    let owner = struct_record(file.index, t);
+    let wanted = node_x(file.bytes, file.sections, at.node);
+    let Some(u) = field_of(file.bytes, file.sections, owner, wanted) else {
+        return Judged::refused(Broken::Unknown, at.node, one.at);
     };
-    typed(rows, at.node, u, one.at)
+    typed(walk.rows, at.node, u, one.at)
 }
 
 // Call: callee, sort, void, count, arguments, subtypes.
 #[cycle(expressions)]
-fn call(
-    file: &[u8],
-    frame: Frame,
-    index: &[u16],
-    rows: &mut [u16],
-    work: &mut [u16],
-    chains: &mut Chains,
-    at: At,
-) -> Judged
-    requires ready { Ready file.now frame.sections index.now rows.old work.old chains.old frame.base at.node at.scope at.pairs }
-    requires node_value { (node_at (tables_of file.now frame.sections) at.node).kind ≡ 24 }
-    ensures { Told file.now frame.sections index.now rows.old work.old frame.base at.node at.scope at.pairs rows.new work.new chains.new result }
+fn call(frame: &Frame<'_>, walk: &mut Walk<'_>, at: At) -> Judged
+    requires ready { ReadyAt frame.now walk.old at }
+    requires node_value { (node_at (tables frame.now.file) at.node).kind ≡ 24 }
+    ensures told { ToldAt frame.now walk.old at walk.new result }
+    ensures same_buffers { SameBuffers walk.old walk.new }
 {
+    let file = &frame.file;
     let one = expression(
-        file,
         frame,
-        index,
-        rows,
-        work,
-        chains,
+        walk,
         At {
             node: at.node + 1,
             ..at
         },
     );
-    let first = one.judgement;
-    let Judgement::Typed(f) = first else {
+    let Judgement::Typed(f) = one.judgement else {
         return one;
     };
-    if type_kind(file, frame.sections, f) != 6 {
-        return refused(10, at.node, one.at);
+    if type_kind(file.bytes, file.sections, f) != 6 {
+        return Judged::refused(Broken::WrongSort, at.node, one.at);
     }
-    let result = type_a(file, frame.sections, f);
-    if type_kind(file, frame.sections, result) == 3 {
-        return refused(13, at.node, one.at);
+    let result = type_a(file.bytes, file.sections, f);
+    if type_kind(file.bytes, file.sections, result) == 3 {
+        return Judged::refused(Broken::VoidOrValue, at.node, one.at);
     }
-    let count = type_c(file, frame.sections, f);
-    if node_children(file, frame.sections, at.node) != 1 + count {
-        return refused(12, at.node, one.at);
+    let count = type_c(file.bytes, file.sections, f);
+    if node_children(file.bytes, file.sections, at.node) != 1 + count {
+        return Judged::refused(Broken::Mismatch, at.node, one.at);
     }
     let all = list(
-        file,
         frame,
-        index,
-        rows,
-        work,
-        chains,
+        walk,
         one.at,
         count,
-        Expected::Run(type_b(file, frame.sections, f)),
+        Expected::Run(type_b(file.bytes, file.sections, f)),
         at.node,
     );
-    let second = all.judgement;
-    let Judgement::GoesOn = second else {
+    let Judgement::GoesOn = all.judgement else {
         return all;
     };
-    typed(rows, at.node, result, all.at)
+    typed(walk.rows, at.node, result, all.at)
 }
 
 // Unary operator: operand, its sort.
 #[cycle(expressions)]
-fn unary(
-    file: &[u8],
-    frame: Frame,
-    index: &[u16],
-    rows: &mut [u16],
-    work: &mut [u16],
-    chains: &mut Chains,
-    at: At,
-) -> Judged
-    requires ready { Ready file.now frame.sections index.now rows.old work.old chains.old frame.base at.node at.scope at.pairs }
-    requires node_value { (node_at (tables_of file.now frame.sections) at.node).kind ≡ 25 }
-    ensures { Told file.now frame.sections index.now rows.old work.old frame.base at.node at.scope at.pairs rows.new work.new chains.new result }
+fn unary(frame: &Frame<'_>, walk: &mut Walk<'_>, at: At) -> Judged
+    requires ready { ReadyAt frame.now walk.old at }
+    requires node_value { (node_at (tables frame.now.file) at.node).kind ≡ 25 }
+    ensures told { ToldAt frame.now walk.old at walk.new result }
+    ensures same_buffers { SameBuffers walk.old walk.new }
 {
+    let file = &frame.file;
     let one = expression(
-        file,
         frame,
-        index,
-        rows,
-        work,
-        chains,
+        walk,
         At {
             node: at.node + 1,
             ..at
         },
     );
-    let judgement = one.judgement;
-    let Judgement::Typed(t) = judgement else {
+    let Judgement::Typed(t) = one.judgement else {
         return one;
     };
-    let taken = unary_type(node_x(file, frame.sections, at.node));
-    if type_kind(file, frame.sections, t) != taken {
-        return refused(10, at.node, one.at);
+    let taken = unary_type(node_x(file.bytes, file.sections, at.node));
+    if type_kind(file.bytes, file.sections, t) != taken {
+        return Judged::refused(Broken::WrongSort, at.node, one.at);
     }
-    typed(rows, at.node, taken, one.at)
+    typed(walk.rows, at.node, taken, one.at)
 }
 
 // Binary operator: one that takes two of one type, or == and !=.
 #[cycle(expressions)]
-fn binary(
-    file: &[u8],
-    frame: Frame,
-    index: &[u16],
-    rows: &mut [u16],
-    work: &mut [u16],
-    chains: &mut Chains,
-    at: At,
-) -> Judged
-    requires ready { Ready file.now frame.sections index.now rows.old work.old chains.old frame.base at.node at.scope at.pairs }
-    requires node_value { (node_at (tables_of file.now frame.sections) at.node).kind ≡ 26 }
-    ensures { Told file.now frame.sections index.now rows.old work.old frame.base at.node at.scope at.pairs rows.new work.new chains.new result }
+fn binary(frame: &Frame<'_>, walk: &mut Walk<'_>, at: At) -> Judged
+    requires ready { ReadyAt frame.now walk.old at }
+    requires node_value { (node_at (tables frame.now.file) at.node).kind ≡ 26 }
+    ensures told { ToldAt frame.now walk.old at walk.new result }
+    ensures same_buffers { SameBuffers walk.old walk.new }
 {
-    let asked = operator_of(node_x(file, frame.sections, at.node));
-    match asked {
-        Operator::Fixed(taken, given) => {
-            operator(file, frame, index, rows, work, chains, at, taken, given)
-        }
-        Operator::Equality => equality(file, frame, index, rows, work, chains, at),
+    let file = &frame.file;
+    match operator_of(node_x(file.bytes, file.sections, at.node)) {
+        Operator::Fixed(taken, given) => operator(frame, walk, at, taken, given),
+        Operator::Equality => equality(frame, walk, at),
     }
 }
 
 // An operator that takes two of one type: left, its sort, right, its sort.
 #[cycle(expressions)]
-fn operator(
-    file: &[u8],
-    frame: Frame,
-    index: &[u16],
-    rows: &mut [u16],
-    work: &mut [u16],
-    chains: &mut Chains,
-    at: At,
-    taken: usize,
-    given: usize,
-) -> Judged
-    requires ready { Ready file.now frame.sections index.now rows.old work.old chains.old frame.base at.node at.scope at.pairs }
-    requires node_value { (node_at (tables_of file.now frame.sections) at.node).kind ≡ 26 }
-    requires node_value_2 { (is_equality (node_at (tables_of file.now frame.sections) at.node).x ≡ false) × (operand_type (node_at (tables_of file.now frame.sections) at.node).x ≡ taken) × (result_type (node_at (tables_of file.now frame.sections) at.node).x ≡ given) }
-    ensures { Told file.now frame.sections index.now rows.old work.old frame.base at.node at.scope at.pairs rows.new work.new chains.new result }
+fn operator(frame: &Frame<'_>, walk: &mut Walk<'_>, at: At, taken: usize, given: usize) -> Judged
+    requires ready { ReadyAt frame.now walk.old at }
+    requires node_value { (node_at (tables frame.now.file) at.node).kind ≡ 26 }
+    requires node_value_2 { (is_equality (node_at (tables frame.now.file) at.node).x ≡ false) × (operand_type (node_at (tables frame.now.file) at.node).x ≡ taken) × (result_type (node_at (tables frame.now.file) at.node).x ≡ given) }
+    ensures told { ToldAt frame.now walk.old at walk.new result }
+    ensures same_buffers { SameBuffers walk.old walk.new }
 {
+    let file = &frame.file;
     let one = expression(
-        file,
         frame,
-        index,
-        rows,
-        work,
-        chains,
+        walk,
         At {
             node: at.node + 1,
             ..at
         },
     );
-    let first = one.judgement;
-    let Judgement::Typed(t) = first else {
+    let Judgement::Typed(t) = one.judgement else {
         return one;
     };
-    if type_kind(file, frame.sections, t) != taken {
-        return refused(10, at.node, one.at);
+    if type_kind(file.bytes, file.sections, t) != taken {
+        return Judged::refused(Broken::WrongSort, at.node, one.at);
     }
-    let two = expression(file, frame, index, rows, work, chains, one.at);
-    let second = two.judgement;
-    let Judgement::Typed(u) = second else {
+    let two = expression(frame, walk, one.at);
+    let Judgement::Typed(u) = two.judgement else {
         return two;
     };
-    if type_kind(file, frame.sections, u) != taken {
-        return refused(10, at.node, two.at);
+    if type_kind(file.bytes, file.sections, u) != taken {
+        return Judged::refused(Broken::WrongSort, at.node, two.at);
     }
-    typed(rows, at.node, given, two.at)
+    typed(walk.rows, at.node, given, two.at)
 }
 
 // == and !=: both operands, then both subtype directions.
 #[cycle(expressions)]
-fn equality(
-    file: &[u8],
-    frame: Frame,
-    index: &[u16],
-    rows: &mut [u16],
-    work: &mut [u16],
-    chains: &mut Chains,
-    at: At,
-) -> Judged
-    requires ready { Ready file.now frame.sections index.now rows.old work.old chains.old frame.base at.node at.scope at.pairs }
-    requires node_value { (node_at (tables_of file.now frame.sections) at.node).kind ≡ 26 }
-    requires node_value_2 { is_equality (node_at (tables_of file.now frame.sections) at.node).x ≡ true }
-    ensures { Told file.now frame.sections index.now rows.old work.old frame.base at.node at.scope at.pairs rows.new work.new chains.new result }
+fn equality(frame: &Frame<'_>, walk: &mut Walk<'_>, at: At) -> Judged
+    requires ready { ReadyAt frame.now walk.old at }
+    requires node_value { (node_at (tables frame.now.file) at.node).kind ≡ 26 }
+    requires node_value_2 { is_equality (node_at (tables frame.now.file) at.node).x ≡ true }
+    ensures told { ToldAt frame.now walk.old at walk.new result }
+    ensures same_buffers { SameBuffers walk.old walk.new }
 {
+    let file = &frame.file;
     let one = expression(
-        file,
         frame,
-        index,
-        rows,
-        work,
-        chains,
+        walk,
         At {
             node: at.node + 1,
             ..at
         },
     );
-    let first = one.judgement;
-    let Judgement::Typed(t) = first else {
+    let Judgement::Typed(t) = one.judgement else {
         return one;
     };
-    let two = expression(file, frame, index, rows, work, chains, one.at);
-    let second = two.judgement;
-    let Judgement::Typed(u) = second else {
+    let two = expression(frame, walk, one.at);
+    let Judgement::Typed(u) = two.judgement else {
         return two;
     };
-    let there = below(file, frame.sections, index, t, u);
-    let half = counting(two.at, there);
+    let there = below(file.bytes, file.sections, file.index, t, u);
+    let half = two.at.counting(there);
     if !there.holds {
-        return refused(11, at.node, half);
+        return Judged::refused(Broken::NotSubtype, at.node, half);
     }
-    let back = below(file, frame.sections, index, u, t);
-    let end = counting(half, back);
+    let back = below(file.bytes, file.sections, file.index, u, t);
+    let end = half.counting(back);
     if !back.holds {
-        return refused(11, at.node, end);
+        return Judged::refused(Broken::NotSubtype, at.node, end);
     }
-    typed(rows, at.node, 1, end)
+    typed(walk.rows, at.node, 1, end)
 }
