@@ -9,10 +9,10 @@ use native.Mathlib.Nat.{not-suc-le-zero, zero-add, mod-lt}
 use native.Mathlib.Omega.{arith}
 use lib.ListN.{length, get_or, set, length-set}
 use lib.Seq.{get_or-set_same, get_or-set_other}
-use lib.Dec.{eqb, ltb}
+use lib.Dec.{eqb, ltb, leb}
 use borrow.Author.Count.{below_more}
-use borrow.Author.Tests.{ltb-true, ltb-false, lt-ltb, le-ltb}
-use Rattle.std.specs.Prelude.{Option, Some as At, None as Nothing}
+use borrow.Author.Tests.{ltb-true, ltb-false, lt-ltb, le-ltb, le-leb, lt-leb}
+use Rattle.std.specs.Prelude.{Option, Some as At, None as Nothing, MatchOption, IsTrue}
 use Rattle.oat.specs.Basics.{pick}
 use Rattle.oat.specs.Tables.{Tables, built_in_at, node_at}
 use Rattle.chains.specs.Chains.{highest, Chains}
@@ -346,11 +346,12 @@ module _ {F : List ℕ} {S : Sections} {W K : List ℕ} {x : ℕ} (start : ℕ) 
     tells = λ s c. sym (fresh-from (tables_of F S) W x start s ∙ ap (fresh_from start) (sym (found.found s c)) ∙ e);
   }
 
-  pub fresh_none : r ≡ Nothing → Freshness F S W K start x true
-  fresh_none e = fresh_is true (ap (fresh_from start) e)
-
-  pub fresh_at : (j : ℕ) → r ≡ At j → Freshness F S W K start x (ltb j start)
-  fresh_at j e = fresh_is (ltb j start) (ap (fresh_from start) e)
+  pub fresh_told : (b : Bool) → MatchOption r (IsTrue b) (λ j. b ≡ ltb j start) → Freshness F S W K start x b
+  fresh_told b m = fresh_is b (told r m)
+    where
+      told : (f : Option ℕ) → MatchOption f (IsTrue b) (λ j. b ≡ ltb j start) → fresh_from start f ≡ b
+      told (At j) e = sym e
+      told Nothing e = sym e
 
 module _ {F : List ℕ} {S : Sections} {W K : List ℕ} {x : ℕ} (base : ℕ) (r : Option ℕ) (found : Finds F S W K x r) where
   module _ (o : SomeFrom F S W K base) where
@@ -366,11 +367,11 @@ module _ {F : List ℕ} {S : Sections} {W K : List ℕ} {x : ℕ} (base : ℕ) (
       assign_at : (t : Bool) → pick (ltb j base) (is_global (tables_of F S) W j) true ≡ t → Assignability F S W K base x t
       assign_at t f = assign_is t (ap (assign_from (tables_of F S) W base) e ∙ f)
 
-      pub assign_local : base ≤ j → Assignability F S W K base x true
-      assign_local h = assign_at true (rw (le-ltb j base h))
+      pub assign_local : base ≤ j → Assignability F S W K base x (leb base j)
+      assign_local h = assign_at (leb base j) (rw (le-ltb j base h, le-leb base j h))
 
-      pub assign_built_in : j < base → j < S.built_ins → Assignability F S W K base x false
-      assign_built_in h k = assign_at false (rw (lt-ltb j base h) (built_in_fixed F S W j k))
+      pub assign_built_in : j < base → j < S.built_ins → Assignability F S W K base x (leb S.built_ins j)
+      assign_built_in h k = assign_at (leb S.built_ins j) (rw (lt-ltb j base h, lt-leb S.built_ins j k) (built_in_fixed F S W j k))
 
       pub assign_stack : (b n : ℕ) → j < base → S.built_ins ≤ j → b ≡ binder_of (tables_of F S) W j → n ≡ (node_at (tables_of F S) b).kind → Assignability F S W K base x (eqb n 1)
       assign_stack b n h k eb en = assign_at (eqb n 1) (rw (lt-ltb j base h) (stack_global F S W j k b eb ∙ ap (λ m. eqb m 1) (sym en)))
@@ -390,18 +391,10 @@ left_to F S W K q c = record {
 }
 
 module _ {F : List ℕ} {S : Sections} {W K : List ℕ} (to p : ℕ) (c : Scoped F S W K p) (h : to < p) where
-  pub left_position : Position F S W (p - 1)
-  left_position = position_of (p - 1) c (omega arith)
-
   pub left_one : (x : ℕ) (K' : List ℕ) → x ≡ name_bound (tables_of F S) W (p - 1) → K' ≡ set K (x % 512) (get_or K (512 + (p - 1)) 0) → Scoped F S W K' (p - 1)
   left_one x K' ex e_k =
       let one : p ≡ p - 1 + 1 = omega arith in
       rw (e_k, ex) (left_to F S W K (p - 1) (subst (Scoped F S W K) one c))
-
-pub left_all : {F : List ℕ} {S : Sections} {W K : List ℕ} (to p : ℕ) → Scoped F S W K p → to ≤ p → p ≤ to → Scoped F S W K to
-left_all to p c h k =
-    let e : p ≡ to = omega arith in
-    subst (Scoped _ _ _ _) e c
 
 -- the chains with one position more
 module _ (T : Tables) (W W' K : List ℕ) (s x : ℕ) (same : Same (entry_of T s) W W') (c : Chained T W K s) (low : s < 4224) (named : name_bound T W' s ≡ x) where

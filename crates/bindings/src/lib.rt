@@ -12,6 +12,7 @@ use file_sections::Sections;
 use file_sections::records::{built_in_name, built_in_type, node_kind, node_x};
 
 // The chains: 512 heads, and a link for each of 128 built-ins and 4,096 nodes.
+// 0 for none, since memory is fixed and an Option<u16> takes twice the room.
 pub type Chains = [u16; 4736];
 
 // The stack and the chains of its positions.
@@ -23,6 +24,7 @@ pub struct Bindings<'a> {
 
 impl Bindings<'_> {
     // The binder of a position: 40,000 plus the built-in's number, or a node.
+    // One number and no enum, since a row holds it: the C interface.
     pub fn binder_at(&self, file: &[u8], sections: Sections, position: usize) -> usize
         requires { Position file.now sections self.now.work.now position }
         ensures { (result ≡ binder_of (tables_of file.now sections) self.now.work.now position) × (result < 65536) }
@@ -79,6 +81,7 @@ impl Bindings<'_> {
         requires { Holding file.now sections self.now.work.now self.now.chains }
         ensures { Finds file.now sections self.now.work.now self.now.chains name result }
     {
+        // A chain has no count to go over: the loop follows its links.
         let mut after = usize::from(self.chains[name % 512]);
         while 0 < after {
             let position = after - 1;
@@ -95,10 +98,8 @@ impl Bindings<'_> {
         requires { Holding file.now sections self.now.work.now self.now.chains }
         ensures { Freshness file.now sections self.now.work.now self.now.chains start name result }
     {
-        let Some(position) = self.find(file, sections, name) else {
-            return true;
-        };
-        position < start
+        self.find(file, sections, name)
+            .is_none_or(|position| position < start)
     }
 
     // The name is not that of a function or of a built-in, or a local hides it.
@@ -109,13 +110,9 @@ impl Bindings<'_> {
         let Some(position) = self.find(file, sections, name) else {
             return true;
         };
-        if base <= position {
-            return true;
-        }
-        if position < sections.built_ins {
-            return false;
-        }
-        node_kind(file, sections, self.binder_at(file, sections, position)) == 1
+        base <= position
+            || sections.built_ins <= position
+                && node_kind(file, sections, self.binder_at(file, sections, position)) == 1
     }
 
     // Binds the name of the node, with the type t, at the position `scope`.
@@ -136,9 +133,7 @@ impl Bindings<'_> {
         ensures left { Scoped file.now sections self.old.work.now self.new.chains to }
         ensures work_unchanged { self.new.work ≡ self.old.work }
     {
-        let mut position = from;
-        while to < position {
-            position -= 1;
+        for position in (to..from).rev() {
             let name = self.name_at(file, sections, position);
             self.unlink(position, name);
         }

@@ -6,6 +6,3 @@ use Rattle.bindings.proofs.Bindings.leave.Given as goal
 
 abbrev pub invariant-loop-position : goal.invariant-loop-position
 invariant-loop-position l = (l.to ≤ l.position) × Scoped l.file l.sections l.self.work.now l.self.chains l.position × (l.self.work ≡ l.fn.self.work)
-
-abbrev pub decreases-loop-position : goal.decreases-loop-position
-decreases-loop-position l = l.position
