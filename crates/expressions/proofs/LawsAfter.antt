@@ -126,7 +126,7 @@ module _ {F : List ℕ} {S : Sections} {X : List ℕ} {base : ℕ} where
       → (L : List (Label ℕ)) × (o ≡ ok t L) × Typing F S X base n k s R W R₁ W₁ K₁ r t L
   typing_of {n} {k} {s} {t} {R = R} {W} {R₁} {W₁} {K₁} {r} o (accepts a L i p e) y =
       subst (λ b. (M : List (Label ℕ)) × (ok a L ≡ ok b M) × Typing F S X base n k s R W R₁ W₁ K₁ r b M) (cc) (L, refl, p)
-  typing_of o (refuses p q i j e) y = absurd (let z : ◌≡◌ {A = ℕ} 0 1 = cc in omega arith)
+  typing_of o (refuses p q i e) y = absurd (let z : ◌≡◌ {A = ℕ} 0 1 = cc in omega arith)
 
   -- a later part sees the scope and the names of the part before it
   pub retell : {W R₁ W₁ R₂ W₂ K₂ : List ℕ} {s m i q π : ℕ} {r : Judged} → Same (entry_of (tables_of F S) s) W W₁ → base ≤ s → m ≡ i → q ≡ s → Told F S X R₁ W₁ base m q π R₂ W₂ K₂ r

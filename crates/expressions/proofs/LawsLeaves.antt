@@ -6,6 +6,7 @@ use mathlib.Core.List.{List, [], ◌∷◌}
 use Prim.Native.Nat.{ℕ, ◌+◌, ◌*◌, ◌≤◌, ◌<◌}
 use native.Mathlib.Omega.{arith}
 use lib.ListN.{length}
+use Rattle.std.specs.Prelude.{Option, Some as Position, None as Nothing}
 use Rattle.oat.specs.Tables.{node_at}
 use Rattle.oat.specs.Types.{type_of}
 use Rattle.oat.specs.Decide.{is_formed}
@@ -16,9 +17,7 @@ use Rattle.typing_rules.specs.Judge.{typed_as, plain, named, formed, judging}
 use Rattle.file_sections.specs.declared.Sections.{Sections}
 use Rattle.file_sections.specs.Layout.{Has, tables_of}
 use Rattle.type_index.specs.Index.{declared, formed_entry, Entered}
-use Rattle.bindings.specs.declared.Found.{Found}
-use Rattle.bindings.specs.declared.Found.TheVariants.{At, Nothing}
-use Rattle.bindings.specs.Bindings.{names_of, scope_of, latest, Some}
+use Rattle.bindings.specs.Bindings.{names_of, scope_of, latest, Some as Holding}
 use Rattle.bindings.proofs.LawsBindings.{latest_low, found_is, missing_is}
 use Rattle.answers.specs.declared.answer.Judged.{Judged}
 use Rattle.answers.specs.Answers.{with_row, LeafAnswer, NullAnswer, NameAnswer, literal_kind}
@@ -98,10 +97,10 @@ module _ {F : List ℕ} {S : Sections} {X R W K : List ℕ} {base n s π : ℕ} 
       low (text x) = omega arith
 
   -- `name`
-  pub name_some : Some F S W K
+  pub name_some : Holding F S W K
   name_some = record { height = s; scoped = g.fine.scoped }
 
-  pub name_asked : Some F S W K × (n < S.nodes) × (S.nodes * 2 ≤ length R)
+  pub name_asked : Holding F S W K × (n < S.nodes) × (S.nodes * 2 ≤ length R)
   name_asked = (name_some, g.within, g.fine.rows_long)
 
   pub name_told : {R' : List ℕ} {r : Judged} → (node_at (tables_of F S) n).kind ≡ 15 → NameAnswer F S R W K n s π R' r → Told F S X R W base n s π R' W K r
@@ -118,9 +117,9 @@ module _ {F : List ℕ} {S : Sections} {X R W K : List ℕ} {base n s π : ℕ} 
       meant : Hit ℕ → Type 0
       meant m = Meets (Typing F S X base n 1 s R W R' W K r) r π (named m n (scope_of (tables_of F S) W base s)) 0
 
-      go : (f : Found) → latest (tables_of F S) W (node_at (tables_of F S) n).x s ≡ f
+      go : (f : Option ℕ) → latest (tables_of F S) W (node_at (tables_of F S) n).x s ≡ f
           → meant (or_else (find (node_at (tables_of F S) n).x (scope_of (tables_of F S) W base s)) (find_name (node_at (tables_of F S) n).x (names_of (tables_of F S) W base)))
-      go (At j) e =
+      go (Position j) e =
           let (er, e_r) = a.found s j g.fine.scoped e in
           subst meant (sym (found_is (tables_of F S) W (node_at (tables_of F S) n).x base s j e g.fine.above))
           (accepts_now _ _ (leaf_typing g (g.fine.scoped.types j (latest_low (tables_of F S) W (node_at (tables_of F S) n).x s j e)) er e_r) er.sum)

@@ -28,7 +28,7 @@ use Rattle.answers.specs.declared.leaves.Expected.{Expected}
 use Rattle.answers.specs.declared.leaves.Expected.TheVariants.{Each, Run}
 use Rattle.answers.specs.Answers.{structs_alone, with_pairs, Refuses, AndAsked, Expecting, expected_at}
 use Rattle.expressions.specs.Contract.{context_of, Fine, After, Typing, Listing, Meets, accepts, refuses, Few, Ready, expr_in, Told, expected_asked, listed_in, ReadyList, ToldList}
-use Rattle.expressions.proofs.LawsMeets.{Untyped, goes_unrefused, pairs_told, accepts_now, meets_more, fails, holds, part_of}
+use Rattle.expressions.proofs.LawsMeets.{Untyped, goes_unrefused, pairs_told, refuses_with, accepts_now, meets_more, fails, holds, part_of}
 use Rattle.expressions.proofs.LawsAfter.{ready, typing_of, retell, after_none, after_append}
 use Rattle.expressions.proofs.LawsChild.{few_parts_in, child_scope, child_within}
 use Rattle.expressions.proofs.LawsLabels.{Closed, closed_none, closed_append, expr_long, expr_closed}
@@ -121,7 +121,7 @@ pub child_through : {F : List ℕ} {S : Sections} {X : List ℕ} {base n k s π 
     → Untyped r → h ≡ π + i → Meets (Typing F S X base n k s R W R₁ W₁ K₁ r) r h o j
     → Meets Q r π (and_then (and_then (and_then o c) d) e) ((i + (j + pairs_after o l)) + pairs_after (and_then (and_then o c) d) m)
 child_through i o c l d e m u z (accepts t L j p f) = absurd (u.never t p.typed)
-child_through i o c l d e m u z (refuses p q j g f) = refuses p q (i + (j + 0) + 0) g (omega arith)
+child_through i o c l d e m u z (refuses p q j g) = refuses_with p q (i + (j + 0) + 0) g (omega arith)
 
 -- a list that has an expression
 on_some : (P : Exprs → Type 0) → ((a : Expr) (es : Exprs) → P (also a es)) → (es : Exprs) → 1 ≤ count es → P es

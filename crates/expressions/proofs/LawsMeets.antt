@@ -1,5 +1,5 @@
 -- An answer against an outcome of the definition: premise by premise, and part after part. Assumes nothing.
-use mathlib.Core.Path.{◌≡◌, refl, subst}
+use mathlib.Core.Path.{◌≡◌, refl, subst, ◌∙◌}
 use mathlib.Core.Bool.{Bool, true, false}
 use mathlib.Core.List.{List}
 use Prim.Native.Nat.{ℕ, ◌+◌}
@@ -9,6 +9,7 @@ use Rattle.oat.specs.Basics.{pick}
 use Rattle.oat.specs.Pairs.{Compared}
 use Rattle.typing_rules.specs.Judge.{Out, ok, no, Counted, and_then, needs, pairs_after}
 use Rattle.file_sections.specs.declared.Sections.{Sections}
+use Rattle.answers.specs.declared.answer.Broken.{Broken}
 use Rattle.answers.specs.declared.answer.Judgement.{Judgement}
 use Rattle.answers.specs.declared.answer.Judgement.TheVariants.{Typed, GoesOn, Refused}
 use Rattle.answers.specs.declared.answer.Judged.{Judged}
@@ -23,7 +24,7 @@ pub record Unlisted (r : Judged) : Type 0 where
   pub never : r.judgement ≡ GoesOn → ⊥
 
 pub record Unrefused (r : Judged) : Type 0 where
-  pub never : (p q : ℕ) → r.judgement ≡ Refused p q → ⊥
+  pub never : (p : Broken) (q : ℕ) → r.judgement ≡ Refused p q → ⊥
 
 pub untyped : (r : Judged) → ((t : ℕ) → r.judgement ≡ Typed t → ⊥) → Untyped r
 untyped r h = record { never = h }
@@ -31,7 +32,7 @@ untyped r h = record { never = h }
 pub unlisted : (r : Judged) → (r.judgement ≡ GoesOn → ⊥) → Unlisted r
 unlisted r h = record { never = h }
 
-pub unrefused : (r : Judged) → ((p q : ℕ) → r.judgement ≡ Refused p q → ⊥) → Unrefused r
+pub unrefused : (r : Judged) → ((p : Broken) (q : ℕ) → r.judgement ≡ Refused p q → ⊥) → Unrefused r
 unrefused r h = record { never = h }
 
 -- a type is no refusal, nor is an answer that goes on
@@ -44,19 +45,23 @@ goes_unrefused y = record { never = λ p q e. let z : ◌≡◌ {A = ℕ} 0 1 = 
 -- what an answer has compared, whichever it is
 pub pairs_told : {A : Type 0} {P : A → List (Label ℕ) → Type 0} {r : Judged} {π : ℕ} {o : Out A} {k : ℕ} → Meets P r π o k → r.at.pairs ≡ π + k
 pairs_told (accepts a L k p e) = e
-pairs_told (refuses p q k j e) = e
+pairs_told (refuses p q k e) = e.sum
+
+-- a refusal whose sum is written otherwise
+pub refuses_with : {A : Type 0} {P : A → List (Label ℕ) → Type 0} {r : Judged} {π i : ℕ} (p q k : ℕ) → Refuses r p q i → i ≡ π + k → Meets P r π (no p q) k
+refuses_with p q k e s = refuses p q k (record { broken = e.broken; numbered = e.numbered; judged = e.judged; sum = e.sum ∙ s })
 
 -- nothing more is compared
 pub accepts_now : {A : Type 0} {P : A → List (Label ℕ) → Type 0} {r : Judged} {π : ℕ} (a : A) (L : List (Label ℕ)) → P a L → r.at.pairs ≡ π → Meets P r π (ok a L) 0
 accepts_now a L p e = accepts a L 0 p (omega arith)
 
 pub refuses_now : {A : Type 0} {P : A → List (Label ℕ) → Type 0} {r : Judged} {π : ℕ} (p q : ℕ) → Refuses r p q π → Meets P r π (no p q) 0
-refuses_now p q e = refuses p q 0 e.judged (omega (arith, e.sum))
+refuses_now p q e = refuses_with p q 0 e (omega arith)
 
 -- an answer with what was compared before it
 pub meets_more : {A : Type 0} {P : A → List (Label ℕ) → Type 0} {r : Judged} {c π : ℕ} (i : ℕ) {o : Out A} {k : ℕ} → c ≡ π + i → Meets P r c o k → Meets P r π o (i + k)
 meets_more i e (accepts a L k p f) = accepts a L (i + k) p (omega arith)
-meets_more i e (refuses p q k j f) = refuses p q (i + k) j (omega arith)
+meets_more i e (refuses p q k f) = refuses_with p q (i + k) f (omega arith)
 
 -- a premise that is tested
 module _ {A : Type 0} {Q : A → List (Label ℕ) → Type 0} {r : Judged} {π : ℕ} where
@@ -68,7 +73,7 @@ module _ {A : Type 0} {Q : A → List (Label ℕ) → Type 0} {r : Judged} {π :
 
   -- a subtype question, which counts either way
   pub fails : (c : Compared) (p q : ℕ) (o : Out A) (k : ℕ) → c.holds ≡ false → Refuses r p q (π + c.pairs) → Meets Q r π (needs c.holds p q o) (c.pairs + pick c.holds k 0)
-  fails c p q o k f e = rw f (refuses p q (c.pairs + 0) e.judged (omega (arith, e.sum)))
+  fails c p q o k f e = rw f (refuses_with p q (c.pairs + 0) e (omega arith))
 
   pub holds : (c : Compared) (p q : ℕ) (o : Out A) {k : ℕ} → c.holds ≡ true → Meets Q r (π + c.pairs) o k → Meets Q r π (needs c.holds p q o) (c.pairs + pick c.holds k 0)
   holds c p q o t m = rw t (meets_more c.pairs refl m)
@@ -82,23 +87,23 @@ module _ {A B : Type 0} {P : A → List (Label ℕ) → Type 0} {Q : B → List 
   pub hands_up : (o : Out A) (k : A → List (Label ℕ) → Out B) (j : A → List (Label ℕ) → ℕ) → ((a : A) (L : List (Label ℕ)) → o ≡ ok a L → P a L → ⊥)
       → Meets P r π o i → Meets Q r π (and_then o k) (i + pairs_after o j)
   hands_up o k j f (accepts a L i p e) = absurd (f a L refl p)
-  hands_up o k j f (refuses p q i h e) = refuses p q (i + 0) h (omega arith)
+  hands_up o k j f (refuses p q i e) = refuses_with p q (i + 0) e (omega arith)
 
   pub goes_on : {r₁ : Judged} (o : Out A) (k : A → List (Label ℕ) → Out B) {j : A → List (Label ℕ) → ℕ} → Unrefused r₁ → Meets P r₁ π o i
       → ((a : A) (L : List (Label ℕ)) → o ≡ ok a L → P a L → Meets Q r r₁.at.pairs (k a L) (j a L)) → Meets Q r π (and_then o k) (i + pairs_after o j)
   goes_on o k u (accepts a L i p e) g = meets_more i e (g a L refl p)
-  goes_on o k u (refuses p q i j e) g = absurd (u.never p q j)
+  goes_on o k u (refuses p q i e) g = absurd (u.never e.broken q e.judged)
 
   pub part_last : (o : Out A) (k : A → List (Label ℕ) → Out B) {j : A → List (Label ℕ) → ℕ} → Meets P r π o i
       → ((a : A) (L : List (Label ℕ)) → o ≡ ok a L → P a L → Meets Q r r.at.pairs (k a L) (j a L)) → Meets Q r π (and_then o k) (i + pairs_after o j)
   part_last o k (accepts a L i p e) g = meets_more i e (g a L refl p)
-  part_last o k (refuses p q i j e) g = refuses p q (i + 0) j (omega arith)
+  part_last o k (refuses p q i e) g = refuses_with p q (i + 0) e (omega arith)
 
 -- what an answer without refusal says
 pub part_of : {A : Type 0} {P : A → List (Label ℕ) → Type 0} {r : Judged} {π k : ℕ} (o : Out A) → Meets P r π o k → Unrefused r
     → (a : A) × (L : List (Label ℕ)) × (o ≡ ok a L) × P a L
 part_of o (accepts a L k p e) u = (a, L, refl, p)
-part_of o (refuses p q k j e) u = absurd (u.never p q j)
+part_of o (refuses p q k e) u = absurd (u.never e.broken q e.judged)
 
 -- a question about a part, asked within the part, then what goes on with it and asks no more
 pub then_tested : {A B : Type 0} {Q : B → List (Label ℕ) → Type 0} {r : Judged} {π : ℕ} (x : Counted A) (f : A → Compared) (p q : ℕ) (k : A → List (Label ℕ) → Out B)

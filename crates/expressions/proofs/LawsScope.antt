@@ -15,6 +15,7 @@ use Rattle.bindings.specs.Bindings.{scope_of, Holds}
 use Rattle.answers.specs.declared.answer.Judged.{Judged}
 use Rattle.answers.specs.declared.leaves.Expected.{Expected}
 use Rattle.expressions.specs.Contract.{RowsAt, After, Typing, Listing, Meets, accepts, refuses, expected_asked, listed}
+use Rattle.expressions.proofs.LawsMeets.{refuses_with}
 
 -- rows of labels that are alike
 next_alike : {L M : List (Label ℕ)} → RowsAlike L M → next_result L ≡ next_result M
@@ -42,7 +43,7 @@ module _ {F : List ℕ} {S : Sections} {X : List ℕ} {base n k s π : ℕ} {R W
   typing_alike : {o p : Out ℕ} {i j : ℕ} → Alike o i p j → Meets (Typing F S X base n k s R W R' W' K' r) r π o i → Meets (Typing F S X base n k s R W R' W' K' r) r π p j
   typing_alike {j = j} (both_ok a f) (accepts t L i h e) =
       accepts t _ j (record { typed = h.typed; next = h.next; scope = h.scope; within = h.within; after = after_alike a h.after }) (omega arith)
-  typing_alike {j = j} (both_no f) (refuses p q i h e) = refuses p q j h (omega arith)
+  typing_alike {j = j} (both_no f) (refuses p q i e) = refuses_with p q j e (omega arith)
 
   pub typed_in : (T : Tables) (C : Context ℕ) (e : Expr) (m : ℕ) {Γ Δ : Scope ℕ} → Agree Γ Δ
       → Meets (Typing F S X base n k s R W R' W' K' r) r π (judge T C e m Γ) (judging T C e m Γ).pairs
@@ -52,7 +53,7 @@ module _ {F : List ℕ} {S : Sections} {X : List ℕ} {base n k s π : ℕ} {R W
   listing_alike : {o p : Out (List ℕ)} {i j : ℕ} → Alike o i p j → Meets (Listing F S X base n k s R W R' W' K' r) r π o i → Meets (Listing F S X base n k s R W R' W' K' r) r π p j
   listing_alike {j = j} (both_ok a f) (accepts ts L i h e) =
       accepts ts _ j (record { goes_on = h.goes_on; next = h.next; scope = h.scope; after = after_alike a h.after }) (omega arith)
-  listing_alike {j = j} (both_no f) (refuses p q i h e) = refuses p q j h (omega arith)
+  listing_alike {j = j} (both_no f) (refuses p q i e) = refuses_with p q j e (omega arith)
 
   module _ {T : Tables} {W₀ : List ℕ} {base₀ start s₀ : ℕ} {Γ : Scope ℕ} (held : Holds T W₀ base₀ start s₀ Γ) where
     pub in_scope : (C : Context ℕ) (e : Expr) (m : ℕ)

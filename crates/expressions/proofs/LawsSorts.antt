@@ -7,6 +7,7 @@ use native.Mathlib.Omega.{arith}
 use lib.ListN.{length}
 use lib.Dec.{eqb}
 use borrow.Author.Tests.{eq-eqb, ne_eqb}
+use Rattle.std.specs.Prelude.{Option, Some, None}
 use Rattle.oat.specs.Basics.{pick}
 use Rattle.oat.specs.Tables.{type_at, node_at}
 use Rattle.oat.specs.Syntax.{Expr, default_array}
@@ -17,8 +18,6 @@ use Rattle.file_sections.specs.declared.Sections.{Sections}
 use Rattle.file_sections.specs.Layout.{tables_of}
 use Rattle.type_index.specs.Index.{declared, struct_entry, formed_entry}
 use Rattle.bindings.specs.Bindings.{scope_of}
-use Rattle.fields.specs.declared.lookup.FieldType.{FieldType}
-use Rattle.fields.specs.declared.lookup.FieldType.TheVariants.{Of, Unknown}
 use Rattle.fields.specs.Lookup.{number_of, field_in}
 use Rattle.answers.specs.declared.answer.Judgement.TheVariants.{Typed}
 use Rattle.answers.specs.declared.answer.Judged.{Judged}
@@ -173,7 +172,7 @@ module _ {F : List ℕ} {S : Sections} {X R W K : List ℕ} {base n s π : ℕ} 
       pub field_sort : {r : Judged} → (k₁ ≡ 4 → ⊥) → Refuses r 10 n r₁.at.pairs → Told F S X R W base n s π R₁ W₁ K₁ r
       field_sort f = first_sort (one_child field-rule) m₁ y₁ (ne_eqb _ _ (λ i. f (e₁ ∙ i)))
 
-      module _ (k : k₁ ≡ 4) {o x₁ : ℕ} (eo : o ≡ struct_entry X t) (ex : x₁ ≡ (node_at (tables_of F S) n).x) (f : FieldType) (ef : number_of f ≡ field_in (tables_of F S) o x₁) where
+      module _ (k : k₁ ≡ 4) {o x₁ : ℕ} (eo : o ≡ struct_entry X t) (ex : x₁ ≡ (node_at (tables_of F S) n).x) (f : Option ℕ) (ef : number_of f ≡ field_in (tables_of F S) o x₁) where
         field_meant : field_of (tables_of F S) (referred (tables_of F S) t) (node_at (tables_of F S) n).x 0 (length (declared (tables_of F S))) ≡ number_of f
         field_meant =
             ap (field_of (tables_of F S) (referred (tables_of F S) t) (node_at (tables_of F S) n).x 0) (declared_long (tables_of F S))
@@ -182,10 +181,10 @@ module _ {F : List ℕ} {S : Sections} {X R W K : List ℕ} {base n s π : ℕ} 
             ∙ ap (field_in (tables_of F S) o) (sym ex)
             ∙ sym ef
 
-        pub field_unknown : {r : Judged} → f ≡ Unknown → Refuses r 8 n r₁.at.pairs → Told F S X R W base n s π R₁ W₁ K₁ r
+        pub field_unknown : {r : Judged} → f ≡ None → Refuses r 8 n r₁.at.pairs → Told F S X R W base n s π R₁ W₁ K₁ r
         field_unknown z e = one_then field-rule m₁ y₁ (eq-eqb _ _ (sym e₁ ∙ k)) λ j L p. rw (field_meant, z) (refuses_now 8 n e)
 
-        module _ {u : ℕ} (z : f ≡ Of u) where
+        module _ {u : ℕ} (z : f ≡ Some u) where
           pub field_within : u < S.types
           field_within = found_under F S g.fine.good_tables o x₁ u (sym ef ∙ ap number_of z)
 

@@ -17,15 +17,14 @@ use Rattle.file_sections.specs.Layout.{tables_of, GoodTables}
 use Rattle.file_sections.specs.Frames.{Same, Kept}
 use Rattle.type_index.specs.Index.{declared, Indexed}
 use Rattle.bindings.specs.Bindings.{entry_of, names_of, scope_of, Scoped}
-use Rattle.answers.specs.declared.answer.Judgement.TheVariants.{Typed, GoesOn, Refused}
+use Rattle.answers.specs.declared.answer.Judgement.TheVariants.{Typed, GoesOn}
 use Rattle.answers.specs.declared.answer.Frame.{Frame}
 use Rattle.answers.specs.declared.answer.Walk.{Walk}
 use Rattle.answers.specs.declared.answer.At.{At}
-use Rattle.answers.specs.declared.answer.Broken.{Broken}
 use Rattle.answers.specs.declared.answer.Judged.{Judged}
 use Rattle.answers.specs.declared.leaves.Expected.{Expected}
 use Rattle.answers.specs.declared.leaves.Expected.TheVariants.{Each, Run}
-use Rattle.answers.specs.Answers.{broken_number, Expecting}
+use Rattle.answers.specs.Answers.{Refuses, Expecting}
 
 -- the context whose names are the positions below `base`
 abbrev pub context_of : Tables → List ℕ → ℕ → Context ℕ
@@ -71,7 +70,7 @@ pub record Listing {A : Type 0} (F : List ℕ) (S : Sections) (X : List ℕ) (ba
 -- its refusal where it refuses, and either way r has the sum of both
 pub data Meets {A : Type 0} (P : A → List (Label ℕ) → Type 0) (r : Judged) (π : ℕ) : Out A → ℕ → Type 0 where
   accepts : (a : A) (L : List (Label ℕ)) (k : ℕ) → P a L → r.at.pairs ≡ π + k → Meets P r π (ok a L) k
-  refuses : (p q k : ℕ) (broken : Broken) → broken_number broken ≡ p → r.judgement ≡ Refused broken q → r.at.pairs ≡ π + k → Meets P r π (no p q) k
+  refuses : (p q k : ℕ) → Refuses r p q (π + k) → Meets P r π (no p q) k
 
 -- there is room for the sum: the k nodes ahead compare at most 1,200 pairs each
 abbrev pub Few : (π k : ℕ) → Type 0
