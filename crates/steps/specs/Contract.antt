@@ -1,7 +1,7 @@
 -- What the contracts of the steps cite: the context that the by-value struct stands for, and what a step answers and leaves. F is the
 -- file, S its sections, X the index of types, R the rows, W the stack, K the chains; a prime marks a buffer after the call. Assumes
 -- nothing.
-use Rattle.std.specs.Prelude.{◌≡◌, Bool, true, List, [], ℕ, ◌+◌, ◌*◌, ◌≤◌, ◌<◌, length, get_or, eqb}
+use Rattle.std.specs.Prelude.{◌≡◌, Bool, true, List, [], ℕ, ◌+◌, ◌*◌, ◌≤◌, ◌<◌, length, get_or, eqb, Result, Ok, Err}
 use Rattle.oat.specs.Basics.{pick, all_below, sum_below}
 use Rattle.oat.specs.Tables.{Tables, entry_at, struct_at, field_at}
 use Rattle.oat.specs.Types.{structs_of}
@@ -18,13 +18,14 @@ use Rattle.file_sections.specs.Layout.{Laid, tables_of, GoodTables}
 use Rattle.file_sections.specs.Frames.{Same, Kept, ListAt}
 use Rattle.type_index.specs.Index.{formed_entry, Indexed}
 use Rattle.bindings.specs.Bindings.{entry_of, names_of, scope_of, Scoped}
-use Rattle.answers.specs.declared.answer.Judgement.{Judgement}
-use Rattle.answers.specs.declared.answer.Judgement.TheVariants.{Typed, GoesOn, Returns}
-use Rattle.answers.specs.declared.answer.Judgement.TheVariants as judgement
+use Rattle.bindings.specs.declared.Bindings.{Bindings}
+use Rattle.answers.specs.declared.answer.Broken.{Broken}
+use Rattle.answers.specs.declared.answer.Walk.{Walk}
+use Rattle.answers.specs.declared.file.IndexedFile.{IndexedFile}
+use Rattle.answers.specs.Answers.{broken_number, tables}
 use Rattle.expressions.specs.Contract.{Fine, Few}
 use Rattle.steps.specs.declared.context.Context.{Context}
-use Rattle.steps.specs.declared.context.Stepped.{Stepped}
-use Rattle.steps.specs.declared.context.Stepped.TheVariants.{Next, Refused}
+use Rattle.steps.specs.declared.context.Refusal.{Refusal}
 
 -- the context that c stands for: the first structs of the file, and the names at the positions below a height
 abbrev pub context_at : Tables → List ℕ → Context → Contexts.Context ℕ
@@ -43,6 +44,10 @@ with_step c = record { structs = c.structs; names = c.names; steps = c.steps + 1
 -- with another sum of pairs
 abbrev pub summing : ℕ → Context → Context
 summing k c = record { structs = c.structs; names = c.names; steps = c.steps; pairs = k }
+
+-- the refusal of the step after the context c, at the place q
+abbrev pub refusal_at : Context → Broken → ℕ → Refusal
+refusal_at c b q = record { broken = b; step = c.steps; place = q; pairs = c.pairs }
 
 abbrev pub after_step : Step → Context → Context
 after_step (struct_name i) c = with_struct c
@@ -68,32 +73,28 @@ pub record Accepted (F : List ℕ) (S : Sections) (X : List ℕ) (c : Context) (
   pub kept : Kept (rows_begin s * 2) ((rows_begin s + node_count s) * 2) R R'
 
 -- the answer r of the step s in the context c, up to which π pairs were compared, meets an outcome of the definition that compares k
-pub data Stepping (F : List ℕ) (S : Sections) (X : List ℕ) (c : Context) (s : Step) (R R' W' K' : List ℕ) (r : Stepped) (π : ℕ) : Out (Contexts.Context ℕ) → ℕ → Type 0 where
-  accepts : (C : Contexts.Context ℕ) (L : List (Label ℕ)) (k : ℕ) → r ≡ Next (summing (π + k) (after_step s c)) → Accepted F S X c s R R' W' K' C L
+pub data Stepping (F : List ℕ) (S : Sections) (X : List ℕ) (c : Context) (s : Step) (R R' W' K' : List ℕ) (r : Result Context Refusal) (π : ℕ) : Out (Contexts.Context ℕ) → ℕ → Type 0 where
+  accepts : (C : Contexts.Context ℕ) (L : List (Label ℕ)) (k : ℕ) → r ≡ Ok (summing (π + k) (after_step s c)) → Accepted F S X c s R R' W' K' C L
       → Stepping F S X c s R R' W' K' r π (ok C L) k
-  refuses : (p q k : ℕ) → r ≡ Refused p c.steps q (π + k) → Stepping F S X c s R R' W' K' r π (no p q) k
+  refuses : (b : Broken) (p q k : ℕ) → broken_number b ≡ p → r ≡ Err (refusal_at (summing (π + k) c) b q) → Stepping F S X c s R R' W' K' r π (no p q) k
 
 -- r answers the step as the definition has it, in the context of the buffers before
-abbrev pub Steps : List ℕ → Sections → (X : List ℕ) → Context → Step → (R W R' W' K' : List ℕ) → Stepped → Type 0
+abbrev pub Steps : List ℕ → Sections → (X : List ℕ) → Context → Step → (R W R' W' K' : List ℕ) → Result Context Refusal → Type 0
 Steps F S X c s R W R' W' K' r =
     Stepping F S X c s R R' W' K' r c.pairs (run_step (tables_of F S) (context_at (tables_of F S) W c) s) (stepping (tables_of F S) (context_at (tables_of F S) W c) s).pairs
 
 -- a step that binds no name, writes no rows and compares nothing, on a struct's name or on its fields: the answer r meets the outcome
 -- of the definition in the context of c and the stack W
-pub data Answering (T : Tables) (W : List ℕ) (c : Context) (s : Step) (r : Stepped) : Out (Contexts.Context ℕ) → Type 0 where
-  answers_next : (C : Contexts.Context ℕ) → r ≡ Next (after_step s c) → context_at T W (after_step s c) ≡ C → Answering T W c s r (ok C [])
-  answers_refused : (p q : ℕ) → r ≡ Refused p c.steps q c.pairs → Answering T W c s r (no p q)
+pub data Answering (T : Tables) (W : List ℕ) (c : Context) (s : Step) (r : Result Context Refusal) : Out (Contexts.Context ℕ) → Type 0 where
+  answers_next : (C : Contexts.Context ℕ) → r ≡ Ok (after_step s c) → context_at T W (after_step s c) ≡ C → Answering T W c s r (ok C [])
+  answers_refused : (b : Broken) (p q : ℕ) → broken_number b ≡ p → r ≡ Err (refusal_at c b q) → Answering T W c s r (no p q)
 
 -- r answers the step as the definition has it, whatever the stack holds: it depends on the file alone
-pub record Answered (F : List ℕ) (S : Sections) (c : Context) (s : Step) (r : Stepped) : Type 0 where
+pub record Answered (F : List ℕ) (S : Sections) (c : Context) (s : Step) (r : Result Context Refusal) : Type 0 where
   pub tells : (W : List ℕ) → Answering (tables_of F S) W c s r (run_step (tables_of F S) (context_at (tables_of F S) W c) s)
 
--- the refusal of a judgement, at a step, where so many pairs were compared; it is asked of refusals alone
-abbrev pub handed_up : Judgement → (step pairs : ℕ) → Stepped
-handed_up (Typed t) step pairs = Refused 0 step 0 pairs
-handed_up GoesOn step pairs = Refused 0 step 0 pairs
-handed_up Returns step pairs = Refused 0 step 0 pairs
-handed_up (judgement.Refused p q) step pairs = Refused p step q pairs
+abbrev pub AnsweredAt : IndexedFile → Context → Step → Result Context Refusal → Type 0
+AnsweredAt f c s r = Answered f.bytes.now f.sections c s r
 
 -- what `is_new` answers: in the scope that the buffers hold, the name is nowhere
 pub record Newness (F : List ℕ) (S : Sections) (W K : List ℕ) (x : ℕ) (r : Bool) : Type 0 where
@@ -105,8 +106,11 @@ pub record Whole (S : Sections) (c : Context) : Type 0 where
   pub few : c.steps < 65536
 
 -- a step that writes no rows: whatever they hold
-pub record Rowless (F : List ℕ) (S : Sections) (X : List ℕ) (c : Context) (s : Step) (W W' K' : List ℕ) (r : Stepped) : Type 0 where
+pub record Rowless (F : List ℕ) (S : Sections) (X : List ℕ) (c : Context) (s : Step) (W W' K' : List ℕ) (r : Result Context Refusal) : Type 0 where
   pub tells : (R : List ℕ) → Steps F S X c s R W R W' K' r
+
+abbrev pub RowlessAt : IndexedFile → Bindings → Context → Step → Bindings → Result Context Refusal → Type 0
+RowlessAt f b c s b' r = Rowless f.bytes.now f.sections f.index.now c s b.work.now b'.work.now b'.chains r
 
 -- how often x stands among the first `count` numbers
 unfoldable pub times_in : List ℕ → ℕ → ℕ → ℕ
@@ -124,9 +128,15 @@ pub record ReadyStruct (F : List ℕ) (S : Sections) (N : List ℕ) (c : Context
   pub next : c.structs ≡ i
   pub few : c.steps < 65536
 
-pub record ToldStruct (F : List ℕ) (S : Sections) (c : Context) (i : ℕ) (N' : List ℕ) (r : Stepped) : Type 0 where
+abbrev pub ReadyStructAt : IndexedFile → List ℕ → Context → ℕ → Type 0
+ReadyStructAt f N c i = ReadyStruct f.bytes.now f.sections N c i
+
+pub record ToldStruct (F : List ℕ) (S : Sections) (c : Context) (i : ℕ) (N' : List ℕ) (r : Result Context Refusal) : Type 0 where
   pub answered : Answered F S c (struct_name i) r
-  pub copied : r ≡ Next (with_struct c) → Copied F S N' (i + 1)
+  pub copied : r ≡ Ok (with_struct c) → Copied F S N' (i + 1)
+
+abbrev pub ToldStructAt : IndexedFile → Context → ℕ → List ℕ → Result Context Refusal → Type 0
+ToldStructAt f c i N' r = ToldStruct f.bytes.now f.sections c i N' r
 
 -- built-ins
 pub record ReadyBuiltIn (F : List ℕ) (S : Sections) (X W K : List ℕ) (c : Context) (i : ℕ) : Type 0 where
@@ -134,6 +144,9 @@ pub record ReadyBuiltIn (F : List ℕ) (S : Sections) (X W K : List ℕ) (c : Co
   pub whole : Whole S c
   pub there : i < S.built_ins
   pub next : c.names ≡ i
+
+abbrev pub ReadyBuiltInAt : IndexedFile → Bindings → Context → ℕ → Type 0
+ReadyBuiltInAt f b c i = ReadyBuiltIn f.bytes.now f.sections f.index.now b.work.now b.chains c i
 
 -- function headings: a function stands at n
 pub record ReadyHeading (F : List ℕ) (S : Sections) (X W K : List ℕ) (c : Context) (n : ℕ) : Type 0 where
@@ -147,8 +160,14 @@ pub record ReadyHeading (F : List ℕ) (S : Sections) (X W K : List ℕ) (c : Co
   pub block : Block
   pub stands : DeclStands (tables_of F S) n (function name type parameters block)
 
-pub record ToldHeading (F : List ℕ) (S : Sections) (X W : List ℕ) (c : Context) (n : ℕ) (W' K' : List ℕ) (r : Stepped) : Type 0 where
+abbrev pub ReadyHeadingAt : IndexedFile → Bindings → Context → ℕ → Type 0
+ReadyHeadingAt f b c n = ReadyHeading f.bytes.now f.sections f.index.now b.work.now b.chains c n
+
+pub record ToldHeading (F : List ℕ) (S : Sections) (X W : List ℕ) (c : Context) (n : ℕ) (W' K' : List ℕ) (r : Result Context Refusal) : Type 0 where
   pub tells : (x t : ℕ) (ps : List ℕ) (b : Block) → DeclStands (tables_of F S) n (function x t ps b) → Rowless F S X c (heading n x t) W W' K' r
+
+abbrev pub ToldHeadingAt : IndexedFile → Bindings → Context → ℕ → Bindings → Result Context Refusal → Type 0
+ToldHeadingAt f b c n b' r = ToldHeading f.bytes.now f.sections f.index.now b.work.now c n b'.work.now b'.chains r
 
 -- globals: one stands at n, and there is room for what its initializer binds, and for it
 pub record ReadyGlobal (F : List ℕ) (S : Sections) (X R W K : List ℕ) (c : Context) (n : ℕ) : Type 0 where
@@ -162,8 +181,14 @@ pub record ReadyGlobal (F : List ℕ) (S : Sections) (X R W K : List ℕ) (c : C
   pub room : c.names + size initializer ≤ S.built_ins + S.nodes
   pub sums : Few c.pairs (size initializer)
 
-pub record ToldGlobal (F : List ℕ) (S : Sections) (X R W : List ℕ) (c : Context) (n : ℕ) (R' W' K' : List ℕ) (r : Stepped) : Type 0 where
+abbrev pub ReadyGlobalAt : IndexedFile → Walk → Context → ℕ → Type 0
+ReadyGlobalAt f w c n = ReadyGlobal f.bytes.now f.sections f.index.now w.rows.now w.bindings.work.now w.bindings.chains c n
+
+pub record ToldGlobal (F : List ℕ) (S : Sections) (X R W : List ℕ) (c : Context) (n : ℕ) (R' W' K' : List ℕ) (r : Result Context Refusal) : Type 0 where
   pub tells : (x : ℕ) (a : Expr) → DeclStands (tables_of F S) n (global x a) → Steps F S X c (global_value n x a) R W R' W' K' r
+
+abbrev pub ToldGlobalAt : IndexedFile → Walk → Context → ℕ → Walk → Result Context Refusal → Type 0
+ToldGlobalAt f w c n v r = ToldGlobal f.bytes.now f.sections f.index.now w.rows.now w.bindings.work.now c n v.rows.now v.bindings.work.now v.bindings.chains r
 
 -- struct fields
 pub record ReadyFields (F : List ℕ) (S : Sections) (X : List ℕ) (c : Context) (i : ℕ) : Type 0 where
@@ -171,6 +196,9 @@ pub record ReadyFields (F : List ℕ) (S : Sections) (X : List ℕ) (c : Context
   pub indexed : Indexed X (tables_of F S) S.types
   pub whole : Whole S c
   pub there : i < S.structs
+
+abbrev pub ReadyFieldsAt : IndexedFile → Context → ℕ → Type 0
+ReadyFieldsAt f c i = ReadyFields f.bytes.now f.sections f.index.now c i
 
 -- the types of `count` fields from `first` on are well-formed, as the index has it
 unfoldable pub types_formed : List ℕ → Tables → ℕ → ℕ → Bool
@@ -186,6 +214,10 @@ pub record ReadyParameters (F : List ℕ) (S : Sections) (X R W K : List ℕ) (b
   pub types : (j : ℕ) → j < count → entry_at (tables_of F S) (first + j) < S.types
   pub room : base + count ≤ S.built_ins + S.nodes
 
+abbrev pub ReadyParametersAt : IndexedFile → Walk → (base n first count : ℕ) → Type 0
+ReadyParametersAt f w base n first count =
+    ReadyParameters f.bytes.now f.sections f.index.now w.rows.now w.bindings.work.now w.bindings.chains base n first count
+
 -- they are bound, and their rows are written
 pub record BoundAll (F : List ℕ) (S : Sections) (X : List ℕ) (base n first : ℕ) (ps : List ℕ) (R W R' W' K' : List ℕ) : Type 0 where
   pub fine : Fine F S X R' W' K' base (base + length ps)
@@ -197,6 +229,10 @@ pub record BoundAll (F : List ℕ) (S : Sections) (X : List ℕ) (base n first :
 pub record ToldParameters (F : List ℕ) (S : Sections) (X : List ℕ) (base n first count : ℕ) (R W R' W' K' : List ℕ) (r : Bool) : Type 0 where
   pub distinct : (ps : List ℕ) → ParametersStand (tables_of F S) (n + 1) ps → length ps ≡ count → r ≡ distinct_names ps
   pub bound : (ps : List ℕ) → ParametersStand (tables_of F S) (n + 1) ps → length ps ≡ count → r ≡ true → BoundAll F S X base n first ps R W R' W' K'
+
+abbrev pub ToldParametersAt : IndexedFile → Walk → (base n first count : ℕ) → Walk → Bool → Type 0
+ToldParametersAt f w base n first count v r =
+    ToldParameters f.bytes.now f.sections f.index.now base n first count w.rows.now w.bindings.work.now v.rows.now v.bindings.work.now v.bindings.chains r
 
 -- function bodies: a function stands at n, and there is room for what it binds
 pub record ReadyBody (F : List ℕ) (S : Sections) (X R W K : List ℕ) (c : Context) (n : ℕ) : Type 0 where
@@ -212,5 +248,11 @@ pub record ReadyBody (F : List ℕ) (S : Sections) (X R W K : List ℕ) (c : Con
   pub room : c.names + (length parameters + size_block block) ≤ S.built_ins + S.nodes
   pub sums : Few c.pairs (size_block block)
 
-pub record ToldBody (F : List ℕ) (S : Sections) (X R W : List ℕ) (c : Context) (n : ℕ) (R' W' K' : List ℕ) (r : Stepped) : Type 0 where
+abbrev pub ReadyBodyAt : IndexedFile → Walk → Context → ℕ → Type 0
+ReadyBodyAt f w c n = ReadyBody f.bytes.now f.sections f.index.now w.rows.now w.bindings.work.now w.bindings.chains c n
+
+pub record ToldBody (F : List ℕ) (S : Sections) (X R W : List ℕ) (c : Context) (n : ℕ) (R' W' K' : List ℕ) (r : Result Context Refusal) : Type 0 where
   pub tells : (x t : ℕ) (ps : List ℕ) (b : Block) → DeclStands (tables_of F S) n (function x t ps b) → Steps F S X c (body n t ps b) R W R' W' K' r
+
+abbrev pub ToldBodyAt : IndexedFile → Walk → Context → ℕ → Walk → Result Context Refusal → Type 0
+ToldBodyAt f w c n v r = ToldBody f.bytes.now f.sections f.index.now w.rows.now w.bindings.work.now c n v.rows.now v.bindings.work.now v.bindings.chains r

@@ -1,15 +1,16 @@
 // The context, by value, and its steps.
 ghost use Rattle.std.specs.Prelude.{◌≡◌, ◌+◌, ◌<◌};
 ghost use Rattle.typing_rules.specs.Steps.{built_in, struct_fields};
-ghost use Rattle.steps.specs.Contract.{with_struct, with_name, with_step, summing, handed_up, Answered, Rowless, ReadyStruct, ToldStruct, ReadyBuiltIn, ReadyHeading, ToldHeading, ReadyGlobal, ToldGlobal, ReadyFields, ReadyBody, ToldBody};
+ghost use Rattle.answers.specs.Walks.{SameBuffers};
+ghost use Rattle.steps.specs.Contract.{with_struct, with_name, with_step, summing, refusal_at, AnsweredAt, RowlessAt, ReadyStructAt, ToldStructAt, ReadyBuiltInAt, ReadyHeadingAt, ToldHeadingAt, ReadyGlobalAt, ToldGlobalAt, ReadyFieldsAt, ReadyBodyAt, ToldBodyAt};
 
 use crate::names::{is_new, times, types_formed};
 use crate::parameters::parameters;
-use answers::answer::{At, Frame, Judgement, row};
-use bindings::{Chains, bind, leave, link};
+use answers::answer::{At, Broken, Frame, Judgement, Walk, row};
+use answers::file::IndexedFile;
+use bindings::Bindings;
 use expressions::cycle::expression;
 use fields::distinct::are_distinct;
-use file_sections::Sections;
 use file_sections::records::{
     built_in_name, built_in_type, node_t, node_x, struct_count, struct_first, struct_name, type_a,
     type_b, type_c,
@@ -19,7 +20,7 @@ use type_index::formed::is_formed;
 
 // How many structs are declared, how many names of built-ins, functions and globals, how many steps are done, and how many pairs of types
 // were compared.
-#[derive(Clone, Copy)]
+#[derive(Clone, Copy, PartialEq, Eq)]
 pub struct Context {
     pub structs: usize,
     pub names: usize,
@@ -27,24 +28,13 @@ pub struct Context {
     pub pairs: usize,
 }
 
-// The context after a step, or the number, the step and the place of a refusal, and how many pairs of types were compared up to it.
-#[derive(Clone, Copy)]
-pub enum Stepped {
-    Next(Context),
-    Refused(usize, usize, usize, usize),
-}
-
-// The refusal of a judgement, at a step, where so many pairs were compared; it is called with refusals alone, and numbers any other
-// judgement 0.
-fn refusal(judgement: Judgement, step: usize, pairs: usize) -> Stepped
-    ensures { result ≡ handed_up judgement step pairs }
-{
-    match judgement {
-        Judgement::Refused(number, place) => Stepped::Refused(number, step, place, pairs),
-        Judgement::Typed(_) => Stepped::Refused(0, step, 0, pairs),
-        Judgement::GoesOn => Stepped::Refused(0, step, 0, pairs),
-        Judgement::Returns => Stepped::Refused(0, step, 0, pairs),
-    }
+// The premise that is broken, the step and the place of a refusal, and how many pairs of types were compared up to it.
+#[derive(Clone, Copy, PartialEq, Eq)]
+pub struct Refusal {
+    pub broken: Broken,
+    pub step: usize,
+    pub place: usize,
+    pub pairs: usize,
 }
 
 impl Context {
@@ -96,191 +86,177 @@ impl Context {
     fn summing(self, pairs: usize) -> Context
         ensures { result ≡ summing pairs self }
     {
-        Context {
-            pairs: pairs,
-            ..self
+        Context { pairs, ..self }
+    }
+
+    // The refusal of the next step, at a place.
+    fn refusal(self, broken: Broken, place: usize) -> Refusal
+        ensures { result ≡ refusal_at self broken place }
+    {
+        Refusal {
+            broken,
+            step: self.steps,
+            place,
+            pairs: self.pairs,
         }
     }
 
     // The name of the struct i; `names` has those of the structs before it.
     pub fn struct_step(
         self,
-        file: &[u8],
-        sections: Sections,
+        file: &IndexedFile<'_>,
         names: &mut [u16],
         i: usize,
-    ) -> Stepped
-        requires { ReadyStruct file.now sections names.old self i }
-        ensures { ToldStruct file.now sections self i names.new result }
+    ) -> Result<Context, Refusal>
+        requires { ReadyStructAt file.now names.old self i }
+        ensures { ToldStructAt file.now self i names.new result }
     {
-        let name = struct_name(file, sections, i) as u16;
+        let name = struct_name(file.bytes, file.sections, i) as u16;
         if times(&*names, i, name) != 0 {
-            return Stepped::Refused(7, self.steps, i, self.pairs);
+            return Err(self.refusal(Broken::BoundTwice, i));
         }
         names[i] = name;
-        Stepped::Next(self.with_struct())
+        Ok(self.with_struct())
     }
 
     // The built-in i.
     pub fn built_in_step(
         self,
-        file: &[u8],
-        sections: Sections,
-        index: &[u16],
-        work: &[u16],
-        chains: &mut Chains,
+        file: &IndexedFile<'_>,
+        bindings: &mut Bindings<'_>,
         i: usize,
-    ) -> Stepped
-        requires { ReadyBuiltIn file.now sections index.now work.now chains.old self i }
-        ensures { Rowless file.now sections index.now self (built_in i) work.now work.now chains.new result }
+    ) -> Result<Context, Refusal>
+        requires { ReadyBuiltInAt file.now bindings.old self i }
+        ensures told { RowlessAt file.now bindings.old self (built_in i) bindings.new result }
+        ensures work_unchanged { bindings.new.work ≡ bindings.old.work }
     {
-        if !is_formed(index, built_in_type(file, sections, i)) {
-            return Stepped::Refused(9, self.steps, i, self.pairs);
+        if !is_formed(file.index, built_in_type(file.bytes, file.sections, i)) {
+            return Err(self.refusal(Broken::Undeclared, i));
         }
-        let name = built_in_name(file, sections, i);
-        if !is_new(file, sections, work, &*chains, name) {
-            return Stepped::Refused(7, self.steps, i, self.pairs);
+        let name = built_in_name(file.bytes, file.sections, i);
+        if !is_new(file, bindings, name) {
+            return Err(self.refusal(Broken::BoundTwice, i));
         }
-        link(chains, i, name);
-        Stepped::Next(self.with_name())
+        bindings.link(i, name);
+        Ok(self.with_name())
     }
 
     // The heading of the function at `node`.
     pub fn heading_step(
         self,
-        file: &[u8],
-        sections: Sections,
-        index: &[u16],
-        work: &mut [u16],
-        chains: &mut Chains,
+        file: &IndexedFile<'_>,
+        bindings: &mut Bindings<'_>,
         node: usize,
-    ) -> Stepped
-        requires { ReadyHeading file.now sections index.now work.old chains.old self node }
-        ensures { ToldHeading file.now sections index.now work.old self node work.new chains.new result }
+    ) -> Result<Context, Refusal>
+        requires { ReadyHeadingAt file.now bindings.old self node }
+        ensures told { ToldHeadingAt file.now bindings.old self node bindings.new result }
+        ensures same_work { bindings.new.work.ghost_name ≡ bindings.old.work.ghost_name }
     {
-        let t = node_t(file, sections, node);
-        if !is_formed(index, t) {
-            return Stepped::Refused(9, self.steps, node, self.pairs);
+        let t = node_t(file.bytes, file.sections, node);
+        if !is_formed(file.index, t) {
+            return Err(self.refusal(Broken::Undeclared, node));
         }
-        let name = node_x(file, sections, node);
-        if !is_new(file, sections, &*work, &*chains, name) {
-            return Stepped::Refused(7, self.steps, node, self.pairs);
+        let name = node_x(file.bytes, file.sections, node);
+        if !is_new(file, bindings, name) {
+            return Err(self.refusal(Broken::BoundTwice, node));
         }
-        bind(file, sections, work, chains, self.names, node, t);
-        Stepped::Next(self.with_name())
+        bindings.bind(file.bytes, file.sections, self.names, node, t);
+        Ok(self.with_name())
     }
 
     // The global at `node`: its initializer, in the context of the names before it, then its name.
     pub fn global_step(
         self,
-        file: &[u8],
-        sections: Sections,
-        index: &[u16],
-        rows: &mut [u16],
-        work: &mut [u16],
-        chains: &mut Chains,
+        file: &IndexedFile<'_>,
+        walk: &mut Walk<'_>,
         node: usize,
-    ) -> Stepped
-        requires { ReadyGlobal file.now sections index.now rows.old work.old chains.old self node }
-        ensures { ToldGlobal file.now sections index.now rows.old work.old self node rows.new work.new chains.new result }
+    ) -> Result<Context, Refusal>
+        requires { ReadyGlobalAt file.now walk.old self node }
+        ensures told { ToldGlobalAt file.now walk.old self node walk.new result }
+        ensures same_buffers { SameBuffers walk.old walk.new }
     {
-        let value = expression(
-            file,
-            Frame {
-                sections: sections,
-                base: self.names,
-                result: 0,
-            },
-            index,
-            rows,
-            work,
-            chains,
-            At {
-                node: node + 1,
-                scope: self.names,
-                pairs: self.pairs,
-            },
-        );
-        let judgement = value.judgement;
-        let Judgement::Typed(t) = judgement else {
-            return refusal(judgement, self.steps, value.at.pairs);
+        let frame = Frame {
+            file: *file,
+            base: self.names,
+            result: 0,
         };
-        let name = node_x(file, sections, node);
-        if !is_new(file, sections, &*work, &*chains, name) {
-            return Stepped::Refused(7, self.steps, node, value.at.pairs);
+        let at = At {
+            node: node + 1,
+            scope: self.names,
+            pairs: self.pairs,
+        };
+        let value = expression(&frame, walk, at);
+        let after = self.summing(value.at.pairs);
+        let t = match value.judgement {
+            Judgement::Typed(t) => t,
+            Judgement::Refused(broken, place) => return Err(after.refusal(broken, place)),
+            Judgement::GoesOn | Judgement::Returns => unreachable!(),
+        };
+        let name = node_x(file.bytes, file.sections, node);
+        if !is_new(file, &walk.bindings, name) {
+            return Err(after.refusal(Broken::BoundTwice, node));
         }
-        bind(file, sections, work, chains, self.names, node, t);
-        row(rows, node, t, 65535);
-        Stepped::Next(self.with_name().summing(value.at.pairs))
+        walk.bindings
+            .bind(file.bytes, file.sections, self.names, node, t);
+        row(walk.rows, node, t, 65535);
+        Ok(after.with_name())
     }
 
     // The fields of the struct i.
-    pub fn fields_step(self, file: &[u8], sections: Sections, index: &[u16], i: usize) -> Stepped
-        requires { ReadyFields file.now sections index.now self i }
-        ensures { Answered file.now sections self (struct_fields i) result }
+    pub fn fields_step(self, file: &IndexedFile<'_>, i: usize) -> Result<Context, Refusal>
+        requires { ReadyFieldsAt file.now self i }
+        ensures { AnsweredAt file.now self (struct_fields i) result }
     {
-        let first = struct_first(file, sections, i);
-        let count = struct_count(file, sections, i);
-        if !types_formed(file, sections, index, first, count) {
-            return Stepped::Refused(9, self.steps, i, self.pairs);
+        let first = struct_first(file.bytes, file.sections, i);
+        let count = struct_count(file.bytes, file.sections, i);
+        if !types_formed(file, first, count) {
+            return Err(self.refusal(Broken::Undeclared, i));
         }
-        if !are_distinct(file, sections, i) {
-            return Stepped::Refused(7, self.steps, i, self.pairs);
+        if !are_distinct(file.bytes, file.sections, i) {
+            return Err(self.refusal(Broken::BoundTwice, i));
         }
-        Stepped::Next(self.with_step())
+        Ok(self.with_step())
     }
 
     // The body of the function at `node`: its parameters, then its block, which must return.
     pub fn body_step(
         self,
-        file: &[u8],
-        sections: Sections,
-        index: &[u16],
-        rows: &mut [u16],
-        work: &mut [u16],
-        chains: &mut Chains,
+        file: &IndexedFile<'_>,
+        walk: &mut Walk<'_>,
         node: usize,
-    ) -> Stepped
-        requires { ReadyBody file.now sections index.now rows.old work.old chains.old self node }
-        ensures { ToldBody file.now sections index.now rows.old work.old self node rows.new work.new chains.new result }
+    ) -> Result<Context, Refusal>
+        requires { ReadyBodyAt file.now walk.old self node }
+        ensures told { ToldBodyAt file.now walk.old self node walk.new result }
+        ensures same_buffers { SameBuffers walk.old walk.new }
     {
-        let t = node_t(file, sections, node);
-        let first = type_b(file, sections, t);
-        let count = type_c(file, sections, t);
-        if !parameters(
-            file, sections, index, rows, work, chains, self.names, node, first, count,
-        ) {
-            return Stepped::Refused(7, self.steps, node, self.pairs);
+        let t = node_t(file.bytes, file.sections, node);
+        let first = type_b(file.bytes, file.sections, t);
+        let count = type_c(file.bytes, file.sections, t);
+        if !parameters(file, walk, self.names, node, first, count) {
+            return Err(self.refusal(Broken::BoundTwice, node));
         }
-        let scope = self.names + count;
-        let result = type_a(file, sections, t);
-        let body = block(
-            file,
-            Frame {
-                sections: sections,
-                base: self.names,
-                result: result,
-            },
-            index,
-            rows,
-            work,
-            chains,
-            At {
-                node: node + 1 + count,
-                scope: scope,
-                pairs: self.pairs,
-            },
-            self.names,
-        );
-        let judgement = body.judgement;
-        if let Judgement::Refused(_, _) = judgement {
-            return refusal(judgement, self.steps, body.at.pairs);
-        }
-        let Judgement::Returns = judgement else {
-            return Stepped::Refused(14, self.steps, node, body.at.pairs);
+        let frame = Frame {
+            file: *file,
+            base: self.names,
+            result: type_a(file.bytes, file.sections, t),
         };
-        leave(file, sections, &*work, chains, scope, self.names);
-        row(rows, node, 1, 65535);
-        Stepped::Next(self.with_step().summing(body.at.pairs))
+        let at = At {
+            node: node + 1 + count,
+            scope: self.names + count,
+            pairs: self.pairs,
+        };
+        let body = block(&frame, walk, at, self.names);
+        let after = self.summing(body.at.pairs);
+        match body.judgement {
+            Judgement::Returns => {}
+            Judgement::Refused(broken, place) => return Err(after.refusal(broken, place)),
+            Judgement::GoesOn | Judgement::Typed(_) => {
+                return Err(after.refusal(Broken::WrongMark, node));
+            }
+        }
+        walk.bindings
+            .leave(file.bytes, file.sections, at.scope, self.names);
+        row(walk.rows, node, 1, 65535);
+        Ok(after.with_step())
     }
 }

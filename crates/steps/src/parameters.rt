@@ -1,39 +1,38 @@
 // The parameters of a function.
-ghost use Rattle.steps.specs.Contract.{ReadyParameters, ToldParameters};
+ghost use Rattle.answers.specs.Walks.{SameBuffers};
+ghost use Rattle.steps.specs.Contract.{ReadyParametersAt, ToldParametersAt};
 
-use answers::answer::row;
-use bindings::{Chains, bind, is_fresh};
-use file_sections::Sections;
+use answers::answer::{Walk, row};
+use answers::file::IndexedFile;
 use file_sections::records::{list_entry, node_x};
 
 // Binds the `count` parameters of the function at `node`, from the height `base` on, with the types that stand in the type list from
 // the entry `first` on, and writes their rows; not where two have one name.
 pub fn parameters(
-    file: &[u8],
-    sections: Sections,
-    index: &[u16],
-    rows: &mut [u16],
-    work: &mut [u16],
-    chains: &mut Chains,
+    file: &IndexedFile<'_>,
+    walk: &mut Walk<'_>,
     base: usize,
     node: usize,
     first: usize,
     count: usize,
 ) -> bool
-    requires { ReadyParameters file.now sections index.now rows.old work.old chains.old base node first count }
-    ensures { ToldParameters file.now sections index.now base node first count rows.old work.old rows.new work.new chains.new result }
+    requires { ReadyParametersAt file.now walk.old base node first count }
+    ensures told { ToldParametersAt file.now walk.old base node first count walk.new result }
+    ensures same_buffers { SameBuffers walk.old walk.new }
 {
-    let mut i = 0;
-    while i < count {
+    for i in 0..count {
         let at = node + 1 + i;
-        let name = node_x(file, sections, at);
-        if !is_fresh(file, sections, &*work, &*chains, base, name) {
+        let name = node_x(file.bytes, file.sections, at);
+        if !walk
+            .bindings
+            .is_fresh(file.bytes, file.sections, base, name)
+        {
             return false;
         }
-        let t = list_entry(file, sections, first + i);
-        bind(file, sections, work, chains, base + i, at, t);
-        row(rows, at, t, 65535);
-        i += 1;
+        let t = list_entry(file.bytes, file.sections, first + i);
+        walk.bindings
+            .bind(file.bytes, file.sections, base + i, at, t);
+        row(walk.rows, at, t, 65535);
     }
     true
 }

@@ -1,17 +1,16 @@
 -- What the contract of `check` cites, on every input, and demand 3 for the code. F is the file, R the rows, W the work buffer; a prime
 -- marks a buffer after the call. Within the check a file is spoken of under the widest limits, which any limits in range are within.
 -- Assumes nothing.
-use Rattle.std.specs.Prelude.{◌≡◌, true, List, ◌⊎◌, ℕ, ◌*◌, ◌≤◌, ◌<◌, length, drop, replicate}
+use Rattle.std.specs.Prelude.{◌≡◌, true, List, ◌⊎◌, ℕ, ◌*◌, ◌≤◌, ◌<◌, length, drop, replicate, Result, Ok, Err}
 use Rattle.oat.specs.ProgramFile.{Limits, in_range, widest, Program, IsFile}
 use Rattle.typing_rules.specs.Check.{check_of}
 use Rattle.file_sections.specs.declared.Sections.{Sections}
-use Rattle.file_sections.specs.declared.Reading.TheVariants.{Good}
 use Rattle.program_file.specs.Reading.{reading_within, reading_of}
+use Rattle.answers.specs.Answers.{broken_number}
 use Rattle.demand3.specs.CheckFile.{needed, Outcome, outcome, Checks}
 use Rattle.demand3.specs.Demand3.{Demand3}
 use Rattle.steps.specs.declared.context.Context.{Context}
-use Rattle.steps.specs.declared.context.Stepped.{Stepped}
-use Rattle.steps.specs.declared.context.Stepped.TheVariants.{Next, Refused}
+use Rattle.steps.specs.declared.context.Refusal.{Refusal}
 use Rattle.typing.specs.declared.check.Answer.{Answer}
 
 abbrev pub outcome_of : Answer → List ℕ → Outcome
@@ -31,30 +30,30 @@ pub record Demands (limits : Limits) (F R W R' : List ℕ) (r : Answer) : Type 0
 -- the file was read under some limits, with these sections
 pub record WasRead (F : List ℕ) (S : Sections) : Type 0 where
   pub limits : Limits
-  pub reads : reading_of limits F ≡ Good S
+  pub reads : reading_of limits F ≡ Ok S
 
 -- what `check` promises, under all limits under which the file has these sections
 pub record ToldSections (F : List ℕ) (S : Sections) (R W R' W' : List ℕ) (r : Answer) : Type 0 where
-  pub checked : (limits : Limits) → reading_of limits F ≡ Good S → Checked limits F R W R' W' r
-  pub demands : (limits : Limits) → reading_of limits F ≡ Good S → Demands limits F R W R' r
+  pub checked : (limits : Limits) → reading_of limits F ≡ Ok S → Checked limits F R W R' W' r
+  pub demands : (limits : Limits) → reading_of limits F ≡ Ok S → Demands limits F R W R' r
 
 -- the answer after the last step, and the rows: a refusal fills them
-abbrev pub answer_of : Stepped → Answer
-answer_of (Next c) = record { number = 0; step = c.steps; place = 0; pairs = c.pairs }
-answer_of (Refused n s q k) = record { number = n; step = s; place = q; pairs = k }
+abbrev pub answer_of : Result Context Refusal → Answer
+answer_of (Ok c) = record { number = 0; step = c.steps; place = 0; pairs = c.pairs }
+answer_of (Err e) = record { number = broken_number e.broken; step = e.step; place = e.place; pairs = e.pairs }
 
-abbrev pub rows_after : Stepped → List ℕ → List ℕ
-rows_after (Next c) R = R
-rows_after (Refused n s q k) R = replicate (length R) 65535
+abbrev pub rows_after : Result Context Refusal → List ℕ → List ℕ
+rows_after (Ok c) R = R
+rows_after (Err e) R = replicate (length R) 65535
 
 -- the numbers of the answer have 16 bits, with one to spare, and the sum of pairs has 32
-pub record Small (r : Stepped) : Type 0 where
-  pub next : (c : Context) → r ≡ Next c → (c.steps < 65535) × (c.pairs ≤ 4294967295)
-  pub refused : (n s q k : ℕ) → r ≡ Refused n s q k → (n ≤ 16) × (s < 65535) × (q < 65535) × (k ≤ 4294967295)
+pub record Small (r : Result Context Refusal) : Type 0 where
+  pub next : (c : Context) → r ≡ Ok c → (c.steps < 65535) × (c.pairs ≤ 4294967295)
+  pub refused : (e : Refusal) → r ≡ Err e → (e.step < 65535) × (e.place < 65535) × (e.pairs ≤ 4294967295)
 
 -- a readable file, whose rows and work are of the length needed
 pub record ReadyCheck (F : List ℕ) (S : Sections) (R W : List ℕ) : Type 0 where
-  pub reads : reading_within widest F ≡ Good S
+  pub reads : reading_within widest F ≡ Ok S
   pub program : Program
   pub file : IsFile widest F program
   pub rows_long : length R ≡ S.nodes * 2

@@ -1,6 +1,6 @@
 -- What the contracts of the groups of steps cite: steps that run one after another. F is the file, S its sections, X the index of types,
 -- R the rows, W the stack, K the chains; a prime marks a buffer after the call. Assumes nothing.
-use Rattle.std.specs.Prelude.{◌≡◌, List, [], ◌∷◌, ◌++◌, ℕ, ◌+◌, ◌*◌, ◌≤◌, ◌<◌, length, get_or}
+use Rattle.std.specs.Prelude.{◌≡◌, List, [], ◌∷◌, ◌++◌, ℕ, ◌+◌, ◌*◌, ◌≤◌, ◌<◌, length, get_or, Result, Ok, Err}
 use Rattle.oat.specs.Basics.{tabulate}
 use Rattle.oat.specs.Tables.{Tables}
 use Rattle.oat.specs.Syntax.{Decl, size_decl}
@@ -13,10 +13,13 @@ use Rattle.file_sections.specs.Layout.{tables_of, GoodTables}
 use Rattle.file_sections.specs.Frames.{ListAt}
 use Rattle.program_file.specs.Opened.{Declares}
 use Rattle.type_index.specs.Index.{Indexed}
+use Rattle.bindings.specs.declared.Bindings.{Bindings}
+use Rattle.answers.specs.declared.answer.Walk.{Walk}
+use Rattle.answers.specs.declared.file.IndexedFile.{IndexedFile}
+use Rattle.answers.specs.Answers.{broken_number}
 use Rattle.expressions.specs.Contract.{Few}
 use Rattle.steps.specs.declared.context.Context.{Context}
-use Rattle.steps.specs.declared.context.Stepped.{Stepped}
-use Rattle.steps.specs.declared.context.Stepped.TheVariants.{Next, Refused}
+use Rattle.steps.specs.declared.context.Refusal.{Refusal}
 use Rattle.steps.specs.Contract.{context_at, summing, after_step, Held, Whole}
 
 -- the context before the first step
@@ -70,19 +73,22 @@ pub record Run (F : List ℕ) (S : Sections) (X : List ℕ) (c : Context) (ss : 
   pub kept : (i : ℕ) → (Touched i ss → ⊥) → get_or R' i 0 ≡ get_or R i 0
 
 -- the answer r to the steps ss, from the context c on, is that of the definition
-pub data Runs (F : List ℕ) (S : Sections) (X : List ℕ) (c : Context) (ss : List Step) (R W R' W' K' : List ℕ) (r : Stepped) : Type 0 where
-  goes : (gs : List Segment) (k : ℕ) → r ≡ Next (summing (c.pairs + k) (after_steps ss c)) → Run F S X c ss R W R' W' K' gs k → Runs F S X c ss R W R' W' K' r
-  stops : (p i q k : ℕ) → r ≡ Refused p i q (c.pairs + k) → Break (tables_of F S) c ss W p i q → CountsTo (tables_of F S) c ss W k → Runs F S X c ss R W R' W' K' r
+pub data Runs (F : List ℕ) (S : Sections) (X : List ℕ) (c : Context) (ss : List Step) (R W R' W' K' : List ℕ) (r : Result Context Refusal) : Type 0 where
+  goes : (gs : List Segment) (k : ℕ) → r ≡ Ok (summing (c.pairs + k) (after_steps ss c)) → Run F S X c ss R W R' W' K' gs k → Runs F S X c ss R W R' W' K' r
+  stops : (e : Refusal) (k : ℕ) → r ≡ Err e → e.pairs ≡ c.pairs + k → Break (tables_of F S) c ss W (broken_number e.broken) e.step e.place → CountsTo (tables_of F S) c ss W k → Runs F S X c ss R W R' W' K' r
 
 -- the same of steps that bind no name, write no rows and compare nothing, those on struct names and struct fields: W is the stack before and
 -- after them, and their segments are written whatever the rows hold
-pub data AnsweringAll (T : Tables) (W : List ℕ) (c : Context) (ss : List Step) (r : Stepped) : Type 0 where
-  all_next : (gs : List Segment) → r ≡ Next (after_steps ss c) → GoOn T c ss W W gs → CountsOn T c ss W W 0 → ((R : List ℕ) → Written R ss gs) → AnsweringAll T W c ss r
-  all_refused : (p i q : ℕ) → r ≡ Refused p i q c.pairs → Break T c ss W p i q → CountsTo T c ss W 0 → AnsweringAll T W c ss r
+pub data AnsweringAll (T : Tables) (W : List ℕ) (c : Context) (ss : List Step) (r : Result Context Refusal) : Type 0 where
+  all_next : (gs : List Segment) → r ≡ Ok (after_steps ss c) → GoOn T c ss W W gs → CountsOn T c ss W W 0 → ((R : List ℕ) → Written R ss gs) → AnsweringAll T W c ss r
+  all_refused : (e : Refusal) → r ≡ Err e → e.pairs ≡ c.pairs → Break T c ss W (broken_number e.broken) e.step e.place → CountsTo T c ss W 0 → AnsweringAll T W c ss r
 
 -- whatever the stack holds: these steps depend on the file alone
-pub record AnsweredAll (F : List ℕ) (S : Sections) (c : Context) (ss : List Step) (r : Stepped) : Type 0 where
+pub record AnsweredAll (F : List ℕ) (S : Sections) (c : Context) (ss : List Step) (r : Result Context Refusal) : Type 0 where
   pub tells : (W : List ℕ) → AnsweringAll (tables_of F S) W c ss r
+
+abbrev pub AnsweredAllAt : IndexedFile → Context → List Step → Result Context Refusal → Type 0
+AnsweredAllAt f c ss r = AnsweredAll f.bytes.now f.sections c ss r
 
 -- built-ins, after the struct names
 pub record ReadyBuiltIns (F : List ℕ) (S : Sections) (X W K : List ℕ) (c : Context) : Type 0 where
@@ -91,8 +97,14 @@ pub record ReadyBuiltIns (F : List ℕ) (S : Sections) (X W K : List ℕ) (c : C
   pub none : c.names ≡ 0
   pub few : c.steps < 32768
 
-pub record ToldBuiltIns (F : List ℕ) (S : Sections) (X W : List ℕ) (c : Context) (K' : List ℕ) (r : Stepped) : Type 0 where
+abbrev pub ReadyBuiltInsAt : IndexedFile → Bindings → Context → Type 0
+ReadyBuiltInsAt f b c = ReadyBuiltIns f.bytes.now f.sections f.index.now b.work.now b.chains c
+
+pub record ToldBuiltIns (F : List ℕ) (S : Sections) (X W : List ℕ) (c : Context) (K' : List ℕ) (r : Result Context Refusal) : Type 0 where
   pub tells : (R : List ℕ) → Runs F S X c (tabulate S.built_ins built_in) R W R W K' r
+
+abbrev pub ToldBuiltInsAt : IndexedFile → Bindings → Context → Bindings → Result Context Refusal → Type 0
+ToldBuiltInsAt f b c b' r = ToldBuiltIns f.bytes.now f.sections f.index.now b.work.now c b'.chains r
 
 -- struct fields
 pub record ReadyStructs (F : List ℕ) (S : Sections) (X : List ℕ) (c : Context) : Type 0 where
@@ -100,6 +112,9 @@ pub record ReadyStructs (F : List ℕ) (S : Sections) (X : List ℕ) (c : Contex
   pub indexed : Indexed X (tables_of F S) S.types
   pub structs : c.structs ≡ S.structs
   pub few : c.steps < 32768
+
+abbrev pub ReadyStructsAt : IndexedFile → Context → Type 0
+ReadyStructsAt f c = ReadyStructs f.bytes.now f.sections f.index.now c
 
 -- one declaration, at n, has its step of the group `steps`, of which it may have none; there is room for what it binds and for the pairs that it
 -- compares
@@ -112,12 +127,22 @@ pub record ReadyDecl (F : List ℕ) (S : Sections) (X W K : List ℕ) (c : Conte
   pub room : c.names + size_decl declaration ≤ S.built_ins + S.nodes + 1
   pub sums : Few c.pairs (size_decl declaration)
 
-pub record ToldDecl (steps : ℕ → List Decl → List Step) (F : List ℕ) (S : Sections) (X : List ℕ) (c : Context) (n : ℕ) (R W R' W' K' : List ℕ) (r : Stepped) : Type 0 where
+abbrev pub ReadyDeclAt : IndexedFile → Bindings → Context → ℕ → Type 0
+ReadyDeclAt f b c n = ReadyDecl f.bytes.now f.sections f.index.now b.work.now b.chains c n
+
+pub record ToldDecl (steps : ℕ → List Decl → List Step) (F : List ℕ) (S : Sections) (X : List ℕ) (c : Context) (n : ℕ) (R W R' W' K' : List ℕ) (r : Result Context Refusal) : Type 0 where
   pub tells : (d : Decl) → DeclStands (tables_of F S) n d → Runs F S X c (steps n (d ∷ [])) R W R' W' K' r
 
+abbrev pub ToldDeclAt : (ℕ → List Decl → List Step) → IndexedFile → Walk → Context → ℕ → Walk → Result Context Refusal → Type 0
+ToldDeclAt steps f w c n v r =
+    ToldDecl steps f.bytes.now f.sections f.index.now c n w.rows.now w.bindings.work.now v.rows.now v.bindings.work.now v.bindings.chains r
+
 -- the heading of one, which has no rows
-pub record HeadingTold (F : List ℕ) (S : Sections) (X : List ℕ) (c : Context) (n : ℕ) (W W' K' : List ℕ) (r : Stepped) : Type 0 where
+pub record HeadingTold (F : List ℕ) (S : Sections) (X : List ℕ) (c : Context) (n : ℕ) (W W' K' : List ℕ) (r : Result Context Refusal) : Type 0 where
   pub tells : (R : List ℕ) → ToldDecl headings F S X c n R W R W' K' r
+
+abbrev pub HeadingToldAt : IndexedFile → Bindings → Context → ℕ → Bindings → Result Context Refusal → Type 0
+HeadingToldAt f b c n b' r = HeadingTold f.bytes.now f.sections f.index.now c n b.work.now b'.work.now b'.chains r
 
 -- all declarations have theirs
 pub record ReadyDecls (steps : ℕ → List Decl → List Step) (F : List ℕ) (S : Sections) (X W K : List ℕ) (c : Context) : Type 0 where
@@ -130,11 +155,21 @@ pub record ReadyDecls (steps : ℕ → List Decl → List Step) (F : List ℕ) (
   pub few : c.steps < 32768
   pub sums : Few c.pairs S.nodes
 
-pub record ToldDecls (steps : ℕ → List Decl → List Step) (F : List ℕ) (S : Sections) (X : List ℕ) (c : Context) (R W R' W' K' : List ℕ) (r : Stepped) : Type 0 where
+abbrev pub ReadyDeclsAt : (ℕ → List Decl → List Step) → IndexedFile → Bindings → Context → Type 0
+ReadyDeclsAt steps f b c = ReadyDecls steps f.bytes.now f.sections f.index.now b.work.now b.chains c
+
+pub record ToldDecls (steps : ℕ → List Decl → List Step) (F : List ℕ) (S : Sections) (X : List ℕ) (c : Context) (R W R' W' K' : List ℕ) (r : Result Context Refusal) : Type 0 where
   pub tells : (ds : List Decl) → Declares F S ds → Runs F S X c (steps 0 ds) R W R' W' K' r
 
-pub record HeadingsTold (F : List ℕ) (S : Sections) (X : List ℕ) (c : Context) (W W' K' : List ℕ) (r : Stepped) : Type 0 where
+abbrev pub ToldDeclsAt : (ℕ → List Decl → List Step) → IndexedFile → Walk → Context → Walk → Result Context Refusal → Type 0
+ToldDeclsAt steps f w c v r =
+    ToldDecls steps f.bytes.now f.sections f.index.now c w.rows.now w.bindings.work.now v.rows.now v.bindings.work.now v.bindings.chains r
+
+pub record HeadingsTold (F : List ℕ) (S : Sections) (X : List ℕ) (c : Context) (W W' K' : List ℕ) (r : Result Context Refusal) : Type 0 where
   pub tells : (R : List ℕ) → ToldDecls headings F S X c R W R W' K' r
+
+abbrev pub HeadingsToldAt : IndexedFile → Bindings → Context → Bindings → Result Context Refusal → Type 0
+HeadingsToldAt f b c b' r = HeadingsTold f.bytes.now f.sections f.index.now c b.work.now b'.work.now b'.chains r
 
 -- all steps of the file
 pub record ReadyRun (F : List ℕ) (S : Sections) (X W K : List ℕ) : Type 0 where
@@ -142,16 +177,25 @@ pub record ReadyRun (F : List ℕ) (S : Sections) (X W K : List ℕ) : Type 0 wh
   pub declarations : List Decl
   pub declares : Declares F S declarations
 
+abbrev pub ReadyRunAt : IndexedFile → Bindings → Type 0
+ReadyRunAt f b = ReadyRun f.bytes.now f.sections f.index.now b.work.now b.chains
+
 -- struct names, built-ins and function headings
 abbrev pub first_steps : Sections → List Decl → List Step
 first_steps S ds = tabulate S.structs struct_name ++ (tabulate S.built_ins built_in ++ headings 0 ds)
 
-pub record ToldFirst (F : List ℕ) (S : Sections) (X W W' K' : List ℕ) (r : Stepped) : Type 0 where
+pub record ToldFirst (F : List ℕ) (S : Sections) (X W W' K' : List ℕ) (r : Result Context Refusal) : Type 0 where
   pub tells : (R : List ℕ) (ds : List Decl) → Declares F S ds → Runs F S X start (first_steps S ds) R W R W' K' r
+
+abbrev pub ToldFirstAt : IndexedFile → Bindings → Bindings → Result Context Refusal → Type 0
+ToldFirstAt f b b' r = ToldFirst f.bytes.now f.sections f.index.now b.work.now b'.work.now b'.chains r
 
 -- all of them, in the definition's order
 abbrev pub program_of : List ℕ → Sections → List Decl → Program
 program_of F S ds = record { tables = tables_of F S; declarations = ds }
 
-pub record ToldRun (F : List ℕ) (S : Sections) (X R W R' W' K' : List ℕ) (r : Stepped) : Type 0 where
+pub record ToldRun (F : List ℕ) (S : Sections) (X R W R' W' K' : List ℕ) (r : Result Context Refusal) : Type 0 where
   pub tells : (ds : List Decl) → Declares F S ds → Runs F S X start (steps_of (program_of F S ds)) R W R' W' K' r
+
+abbrev pub ToldRunAt : IndexedFile → Walk → Walk → Result Context Refusal → Type 0
+ToldRunAt f w v r = ToldRun f.bytes.now f.sections f.index.now w.rows.now w.bindings.work.now v.rows.now v.bindings.work.now v.bindings.chains r
