@@ -1,24 +1,16 @@
--- A text written byte by byte: the first i bytes are there. Assumes nothing.
+-- A text put in the place of as many bytes. Assumes nothing.
+use Rattle.std.proofs.Common.{append_assoc}
 use mathlib.Core.Path.{◌≡◌, ap, sym, ◌∙◌}
-use mathlib.Core.List.{List}
-use Prim.Native.Nat.{ℕ, ◌+◌, ◌≤◌, ◌<◌}
-use native.Mathlib.Numerals.{add-one}
+use mathlib.Core.List.{List, ◌++◌}
+use Prim.Native.Nat.{ℕ, ◌+◌, ◌-◌}
 use native.Mathlib.Omega.{arith}
-use lib.ListN.{length, get_or, set, take}
-use lib.Seq.{take_all, take-suc, length-take-le}
+use lib.ListN.{length, take, drop}
+use lib.Seq.{drop-drop}
+use borrow.Rule.Slice.PartMut.{put_mid}
 use Rattle.writing.specs.Placed.{placed}
-use Rattle.writing.proofs.LawsPlaced.{placed_none, placed_snoc}
 
-module _ (out₀ : List ℕ) (at : ℕ) (text : List ℕ) where
-  pub text_none : out₀ ≡ placed out₀ at (take 0 text)
-  text_none = placed_none out₀ at
-
-  pub text_more : (out : List ℕ) (i : ℕ) → at + length text ≤ length out₀ → i < length text → out ≡ placed out₀ at (take i text)
-      → set out (at + i) (get_or text i 0) ≡ placed out₀ at (take (i + 1) text)
-  text_more out i h l e =
-      let long = length-take-le i text (omega arith) in
-      placed_snoc out₀ at (take i text) e (ap (λ k. at + k) (sym long)) (get_or text i 0) (omega (arith, long))
-      ∙ ap (placed out₀ at) (sym (ap (λ k. take k text) (add-one i) ∙ take-suc text i 0 l))
-
-  pub text_all : (out : List ℕ) (i : ℕ) → length text ≤ i → out ≡ placed out₀ at (take i text) → out ≡ placed out₀ at text
-  text_all out i l e = e ∙ ap (placed out₀ at) (take_all i text l)
+pub text_put : (out text new : List ℕ) (at : ℕ) → new ≡ text → put_mid at (at + length text - at) out new ≡ placed out at text
+unfolding placed
+text_put out text new at e =
+    let width : at + length text - at ≡ length text = omega arith in
+    rw e (ap (λ r. take at out ++ (text ++ r)) (ap (λ k. drop k (drop at out)) width ∙ drop-drop (length text) at out) ∙ sym (append_assoc (take at out) text (drop (at + length text) out)))

@@ -1,4 +1,3 @@
 pub mod LawsPlaced
 pub mod LawsText
 pub mod LawsNumbers
-pub mod LawsCopy

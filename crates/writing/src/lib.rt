@@ -10,11 +10,7 @@ pub fn write_text(out: &mut [u8], at: usize, text: &[u8])
     requires { at + length text.now ≤ length out.old }
     ensures { out.new ≡ placed out.old at text.now }
 {
-    let mut i = 0;
-    while i < text.len() {
-        out[at + i] = text[i];
-        i += 1;
-    }
+    out[at..at + text.len()].copy_from_slice(text);
 }
 
 // Writes a number from `at` on, low byte first.
@@ -31,9 +27,5 @@ pub fn copy(from: &[u16], to: &mut [u16], count: usize)
     requires { (count ≤ length from.now) × (count ≤ length to.old) }
     ensures { to.new ≡ take count from.now ++ drop count to.old }
 {
-    let mut i = 0;
-    while i < count {
-        to[i] = from[i];
-        i += 1;
-    }
+    to[..count].copy_from_slice(&from[..count]);
 }
