@@ -1,4 +1,5 @@
 -- Laws of what `print` does: which nodes have a line, and the buffer at each of its returns. Assumes nothing.
+use Rattle.std.proofs.Common.{Ok, Err}
 use mathlib.Core.Path.{◌≡◌, refl, ap, sym, ◌∙◌}
 use mathlib.Core.Bool.{Bool, true, false, ◌&&◌}
 use mathlib.Core.List.{List, ◌++◌}
@@ -7,7 +8,7 @@ use native.Mathlib.Omega.{arith}
 use lib.ListN.{length, drop, length-append}
 use lib.Dec.{leb}
 use borrow.Author.Tests.{eq-eqb, ne_eqb, le-leb, lt-leb}
-use Rattle.printing.specs.declared.Printed.TheVariants.{Written, Short, NoRows}
+use Rattle.printing.specs.declared.Unprinted.TheVariants.{Short, NoRows}
 use Rattle.printing.specs.Text.{line, rows_text, listed, text_of}
 use Rattle.printing.specs.Outcome.{leaves, put, has_rows, print_of}
 use Rattle.writing.specs.Placed.{placed}
@@ -43,21 +44,21 @@ module _ (rows : List ℕ) (n : ℕ) where
 
 -- a text for the buffer
 module _ (text out : List ℕ) where
-  put_short : length out < length text → leaves (Short (length text)) out ≡ put text out
+  put_short : length out < length text → leaves (Err (Short (length text))) out ≡ put text out
   unfolding put
   put_short h = rw (lt-leb (length text) (length out) h)
 
-  put_written : length text ≤ length out → leaves (Written (length text)) (text ++ drop (length text) out) ≡ put text out
+  put_written : length text ≤ length out → leaves (Ok (length text)) (text ++ drop (length text) out) ≡ put text out
   unfolding put
   put_written h = rw (le-leb (length text) (length out) h)
 
 -- the returns
 module _ (number step place nodes : ℕ) (rows out : List ℕ) (count : ℕ) (e : count ≡ listed number nodes) where
-  pub many : 65535 < count → leaves NoRows out ≡ print_of number step place rows nodes out
+  pub many : 65535 < count → leaves (Err NoRows) out ≡ print_of number step place rows nodes out
   unfolding print_of
   many h = rw (← e, rows_many rows count h)
 
-  pub few : length rows < 2 * count → leaves NoRows out ≡ print_of number step place rows nodes out
+  pub few : length rows < 2 * count → leaves (Err NoRows) out ≡ print_of number step place rows nodes out
   unfolding print_of
   few h = rw (← e, rows_few rows count h)
 
@@ -74,17 +75,17 @@ module _ (number step place nodes : ℕ) (rows out : List ℕ) (count : ℕ) (e 
     is_put = rw (← e, rows_there rows count h k)
 
     module _ (x y : ℕ) (f : x ≡ length (line number step place)) (g : y ≡ length (rows_text rows count)) where
-      pub short : length out < x + y → leaves (Short (x + y)) out ≡ print_of number step place rows nodes out
+      pub short : length out < x + y → leaves (Err (Short (x + y))) out ≡ print_of number step place rows nodes out
       short l =
           let long = text_long x y f g in
-          ap (λ n. leaves (Short n) out) long ∙ put_short (text_of number step place rows nodes) out (omega arith) ∙ is_put
+          ap (λ n. leaves (Err (Short n)) out) long ∙ put_short (text_of number step place rows nodes) out (omega arith) ∙ is_put
 
       pub written : (out₁ out₂ : List ℕ) (next : ℕ) → x + y ≤ length out → next ≡ 0 + length (line number step place) → out₁ ≡ placed out 0 (line number step place) → out₂ ≡ placed out₁ next (rows_text rows count)
-          → leaves (Written (x + y)) out₂ ≡ print_of number step place rows nodes out
+          → leaves (Ok (x + y)) out₂ ≡ print_of number step place rows nodes out
       written out₁ out₂ next l n o w =
           let long = text_long x y f g in
-          ap (λ m. leaves (Written m) out₂) long
-          ∙ ap (leaves (Written (length (text_of number step place rows nodes)))) (whole ∙ ap (placed out 0) (sym text_is) ∙ placed_front out (text_of number step place rows nodes))
+          ap (λ m. leaves (Ok m) out₂) long
+          ∙ ap (leaves (Ok (length (text_of number step place rows nodes)))) (whole ∙ ap (placed out 0) (sym text_is) ∙ placed_front out (text_of number step place rows nodes))
           ∙ put_written (text_of number step place rows nodes) out (omega arith)
           ∙ is_put
         where

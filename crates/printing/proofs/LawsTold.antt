@@ -1,4 +1,5 @@
 -- What a caller of `print` knows by its answer, and how long a text can be. Assumes nothing.
+use Rattle.std.proofs.Common.{Result, Ok, Err}
 use mathlib.Core.Path.{◌≡◌, refl, ap, sym, ◌∙◌}
 use mathlib.Core.Bool.{Bool, true, false, cond}
 use mathlib.Core.List.{List, ◌++◌}
@@ -8,8 +9,8 @@ use lib.ListN.{length, get_or, take, drop, length-append, length-take}
 use lib.Seq.{take_at, drop_at}
 use lib.Dec.{eqb, leb}
 use borrow.Author.Tests.{leb-false}
-use Rattle.printing.specs.declared.Printed.{Printed}
-use Rattle.printing.specs.declared.Printed.TheVariants.{Written, Short, NoRows}
+use Rattle.printing.specs.declared.Unprinted.{Unprinted}
+use Rattle.printing.specs.declared.Unprinted.TheVariants.{Short, NoRows}
 use Rattle.printing.specs.Text.{line, rows_text, listed, text_of}
 use Rattle.printing.specs.Outcome.{leaves, put, has_rows, print_of}
 use Rattle.printing.proofs.LawsDecimal.{length_most}
@@ -17,7 +18,7 @@ use Rattle.printing.proofs.LawsLines.{line_long}
 
 -- of a text for the buffer
 module _ (text out left : List ℕ) (n : ℕ) where
-  put_written : (b : Bool) → leaves (Written n) left ≡ cond b (leaves (Written (length text)) (text ++ drop (length text) out)) (leaves (Short (length text)) out)
+  put_written : (b : Bool) → leaves (Ok n) left ≡ cond b (leaves (Ok (length text)) (text ++ drop (length text) out)) (leaves (Err (Short (length text))) out)
       → (n ≡ length text) × (take n left ≡ text) × (drop n left ≡ drop n out)
   put_written true e =
       let same : length text ≡ n = cc in
@@ -30,7 +31,7 @@ module _ (text out left : List ℕ) (n : ℕ) where
       let z : ◌≡◌ {A = ℕ} 0 1 = cc in
       absurd (omega arith)
 
-  put_short : (b : Bool) → leb (length text) (length out) ≡ b → leaves (Short n) left ≡ cond b (leaves (Written (length text)) (text ++ drop (length text) out)) (leaves (Short (length text)) out)
+  put_short : (b : Bool) → leb (length text) (length out) ≡ b → leaves (Err (Short n)) left ≡ cond b (leaves (Ok (length text)) (text ++ drop (length text) out)) (leaves (Err (Short (length text))) out)
       → (n ≡ length text) × (length out < n) × (left ≡ out)
   put_short true t e =
       let z : ◌≡◌ {A = ℕ} 0 1 = cc in
@@ -40,43 +41,43 @@ module _ (text out left : List ℕ) (n : ℕ) where
       (same, omega (arith, leb-false (length text) (length out) t), cc)
 
 -- of an answer r, with what is left in the buffer
-module _ (number step place nodes : ℕ) (rows out left : List ℕ) (r : Printed) (told : leaves r left ≡ print_of number step place rows nodes out) where
+module _ (number step place nodes : ℕ) (rows out left : List ℕ) (r : Result ℕ Unprinted) (told : leaves r left ≡ print_of number step place rows nodes out) where
   -- the first n bytes are the text, and what lies past them is as it was
-  pub written_told : (n : ℕ) → r ≡ Written n → (n ≡ length (text_of number step place rows nodes)) × (take n left ≡ text_of number step place rows nodes) × (drop n left ≡ drop n out)
+  pub written_told : (n : ℕ) → r ≡ Ok n → (n ≡ length (text_of number step place rows nodes)) × (take n left ≡ text_of number step place rows nodes) × (drop n left ≡ drop n out)
   unfolding print_of put
   written_told n e = go (has_rows rows (listed number nodes)) (ap (λ x. leaves x left) (sym e) ∙ told)
     where
       text : List ℕ
       text = text_of number step place rows nodes
 
-      go : (b : Bool) → leaves (Written n) left ≡ cond b (put text out) (leaves NoRows out) → (n ≡ length text) × (take n left ≡ text) × (drop n left ≡ drop n out)
+      go : (b : Bool) → leaves (Ok n) left ≡ cond b (put text out) (leaves (Err NoRows) out) → (n ≡ length text) × (take n left ≡ text) × (drop n left ≡ drop n out)
       go true f = put_written text out left n (leb (length text) (length out)) f
       go false f =
           let z : ◌≡◌ {A = ℕ} 0 1 = cc in
           absurd (omega arith)
 
   -- the buffer has n bytes
-  pub written_room : (n : ℕ) → r ≡ Written n → n ≤ length left
+  pub written_room : (n : ℕ) → r ≡ Ok n → n ≤ length left
   written_room n e =
       let (same, front, past) = written_told n e in
       omega (arith, length-take n left, ap length front)
 
   -- the text has n bytes, for which there is no room, and the buffer is as it was
-  pub short_told : (n : ℕ) → r ≡ Short n → (n ≡ length (text_of number step place rows nodes)) × (length out < n) × (left ≡ out)
+  pub short_told : (n : ℕ) → r ≡ Err (Short n) → (n ≡ length (text_of number step place rows nodes)) × (length out < n) × (left ≡ out)
   unfolding print_of put
   short_told n e = go (has_rows rows (listed number nodes)) (ap (λ x. leaves x left) (sym e) ∙ told)
     where
       text : List ℕ
       text = text_of number step place rows nodes
 
-      go : (b : Bool) → leaves (Short n) left ≡ cond b (put text out) (leaves NoRows out) → (n ≡ length text) × (length out < n) × (left ≡ out)
+      go : (b : Bool) → leaves (Err (Short n)) left ≡ cond b (put text out) (leaves (Err NoRows) out) → (n ≡ length text) × (length out < n) × (left ≡ out)
       go true f = put_short text out left n (leb (length text) (length out)) refl f
       go false f =
           let z : ◌≡◌ {A = ℕ} 0 1 = cc in
           absurd (omega arith)
 
   -- the rows are not all there, and the buffer is as it was
-  pub no_rows_told : r ≡ NoRows → (has_rows rows (listed number nodes) ≡ false) × (left ≡ out)
+  pub no_rows_told : r ≡ Err NoRows → (has_rows rows (listed number nodes) ≡ false) × (left ≡ out)
   unfolding print_of put
   no_rows_told e =
       go
@@ -87,7 +88,7 @@ module _ (number step place nodes : ℕ) (rows out left : List ℕ) (r : Printed
       text : List ℕ
       text = text_of number step place rows nodes
 
-      go : (b t : Bool) → leaves NoRows left ≡ cond b (cond t (leaves (Written (length text)) (text ++ drop (length text) out)) (leaves (Short (length text)) out)) (leaves NoRows out) → (b ≡ false) × (left ≡ out)
+      go : (b t : Bool) → leaves (Err NoRows) left ≡ cond b (cond t (leaves (Ok (length text)) (text ++ drop (length text) out)) (leaves (Err (Short (length text))) out)) (leaves (Err NoRows) out) → (b ≡ false) × (left ≡ out)
       go true true f =
           let z : ◌≡◌ {A = ℕ} 0 1 = cc in
           absurd (omega arith)

@@ -10,11 +10,10 @@ ghost use Rattle.printing.specs.Outcome.{leaves, print_of};
 
 use crate::lines::{line_length, rows_length, write_line, write_rows};
 
-// What became of a text: it is at the front of the buffer, with its length; the buffer is shorter, with the text's length; or there
-// is none, for want of two numbers in `rows` for each node, or with more nodes than a u16 counts.
-#[derive(Clone, Copy)]
-pub enum Printed {
-    Written(usize),
+// Why a text is not written: the buffer is shorter, with the text's length; or there is no text, for want of two numbers in `rows` for each node, or with
+// more nodes than a u16 counts.
+#[derive(Clone, Copy, PartialEq, Eq)]
+pub enum Unprinted {
     Short(usize),
     NoRows,
 }
@@ -29,8 +28,8 @@ fn lines_wanted(number: u16, nodes: usize) -> usize
     0
 }
 
-// Writes the answer and, where its number is 0, the rows of the nodes to the front of `out`. What lies past the text stays, and all of
-// `out` does where nothing is written.
+// Writes the answer and, where its number is 0, the rows of the nodes to the front of `out`, and answers the text's length. What lies past the text stays,
+// and all of `out` does where nothing is written.
 pub fn print(
     number: u16,
     step: u16,
@@ -38,21 +37,21 @@ pub fn print(
     rows: &[u16],
     nodes: usize,
     out: &mut [u8],
-) -> Printed
+) -> Result<usize, Unprinted>
     ensures { leaves result out.new ≡ print_of number step place rows.now nodes out.old }
 {
     let count = lines_wanted(number, nodes);
     if 65535 < count {
-        return Printed::NoRows;
+        return Err(Unprinted::NoRows);
     }
     if rows.len() < 2 * count {
-        return Printed::NoRows;
+        return Err(Unprinted::NoRows);
     }
     let length = line_length(number, step, place) + rows_length(rows, count);
     if out.len() < length {
-        return Printed::Short(length);
+        return Err(Unprinted::Short(length));
     }
     let next = write_line(out, 0, number, step, place);
     write_rows(out, next, rows, count);
-    Printed::Written(length)
+    Ok(length)
 }

@@ -45,10 +45,8 @@ pub(crate) fn rows_length(rows: &[u16], nodes: usize) -> usize
     ensures { (result ≡ length (rows_text rows.now nodes)) × (result ≤ 18 * nodes) }
 {
     let mut sum = 0;
-    let mut i = 0;
-    while i < nodes {
+    for i in 0..nodes {
         sum += line_length(i as u16, result_at(rows, i), binder_at(rows, i));
-        i += 1;
     }
     sum
 }
@@ -60,11 +58,13 @@ pub(crate) fn write_rows(out: &mut [u8], at: usize, rows: &[u16], nodes: usize)
     ensures { out.new ≡ placed out.old at (rows_text rows.now nodes) }
 {
     let mut next = at;
-    let mut i = 0;
-    while i < nodes {
-        let result = result_at(rows, i);
-        let binder = binder_at(rows, i);
-        next = write_line(&mut *out, next, i as u16, result, binder);
-        i += 1;
+    for i in 0..nodes {
+        next = write_line(
+            &mut *out,
+            next,
+            i as u16,
+            result_at(rows, i),
+            binder_at(rows, i),
+        );
     }
 }

@@ -4,10 +4,10 @@ use Rattle.printing.proofs.LawsRows.{sum_none, sum_more, sum_all}
 use Rattle.printing.proofs.lines.rows_length.Goals as goal
 
 pub loop-i-init : goal.loop-i-init
-loop-i-init c = (search rules, search (sum_none, rules), search rules)
+loop-i-init c = (search (sum_none, rules), search rules)
 
 pub loop-i-preserved : goal.loop-i-preserved
-loop-i-preserved c = (search rules, search (sum_more, rules), search rules)
+loop-i-preserved c = (search (sum_more, rules), search rules)
 
 pub returns : goal.returns
 returns c = (search (sum_all, rules), search rules)

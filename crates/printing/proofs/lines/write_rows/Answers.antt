@@ -5,13 +5,13 @@ use Rattle.printing.proofs.LawsRows.{rows_start, rows_room, rows_more, rows_done
 use Rattle.printing.proofs.lines.write_rows.Goals as goal
 
 pub loop-i-init : goal.loop-i-init
-loop-i-init c = (search rules, search (next_none, rules), refl, search (rows_start, rules))
+loop-i-init c = (search (next_none, rules), refl, search (rows_start, rules))
 
 pub write_line-next-requires : goal.write_line-next-requires
 write_line-next-requires c = search (rows_room, rules)
 
 pub loop-i-preserved : goal.loop-i-preserved
-loop-i-preserved c = (search rules, search (next_more, rules), search rules, search (rows_more, rules))
+loop-i-preserved c = (search (next_more, rules), search rules, search (rows_more, rules))
 
 pub returns : goal.returns
 returns c = search (rows_done, rules)
