@@ -7,8 +7,8 @@ use Prim.Native.Nat.{ℕ, zero, suc, ◌+◌, ◌≤◌, ◌<◌}
 use native.Mathlib.Nat.{not-suc-le-zero, le_of_suc-le-suc}
 use native.Mathlib.Omega.{arith}
 use lib.ListN.{length}
-use lib.Dec.{eqb, ltb}
-use borrow.Author.Tests.{lt-ltb, le-ltb, eq-eqb, ne_eqb, not-true, not-false}
+use lib.Dec.{eqb, ltb, leb}
+use borrow.Author.Tests.{lt-ltb, le-ltb, ltb-true, lt-leb, eq-eqb, ne_eqb, not-true, not-false}
 use Rattle.oat.specs.Basics.{pick, all_below, sum_below, tabulate}
 use Rattle.oat.specs.Tables.{Tables, type_at, field_at, struct_at}
 use Rattle.oat.specs.TypeRules.{kind_at}
@@ -26,7 +26,7 @@ use Rattle.subtyping.specs.Numbered.{same_field, same_fields}
 
 -- one field
 module _ (T : Tables) (i j m n : ℕ) (em : m ≡ (field_at T i).name) (en : n ≡ (field_at T j).name) where
-  pub names_differ : (m ≡ n → ⊥) → false ≡ same_field T i j
+  pub names_differ : (m ≡ n → ⊥) → eqb m n ≡ same_field T i j
   unfolding same_field
   names_differ h = rw (← em, ← en, ne_eqb m n h)
 
@@ -83,9 +83,9 @@ begins_all f g (suc m) (suc n) h =
 
 -- the fields of the struct j begin those of the struct i
 module _ (T : Tables) (i j m n : ℕ) (em : m ≡ (struct_at T i).count) (en : n ≡ (struct_at T j).count) where
-  pub fewer : m < n → false ≡ begins_with (struct_of T i).fields (struct_of T j).fields
+  pub fewer : m < n → leb n m ≡ begins_with (struct_of T i).fields (struct_of T j).fields
   unfolding struct_of
-  fewer h = sym (begins_short _ _ (struct_at T i).count (struct_at T j).count (omega arith))
+  fewer h = lt-leb n m h ∙ sym (begins_short _ _ (struct_at T i).count (struct_at T j).count (omega arith))
 
   module _ (l : n ≤ m) (p q : ℕ) (ep : p ≡ (struct_at T i).first) (eq : q ≡ (struct_at T j).first) where
     pub fields_same : (r : Bool) → r ≡ same_fields T p q n → r ≡ begins_with (struct_of T i).fields (struct_of T j).fields
@@ -157,12 +157,17 @@ module _ (s : List ℕ) (S : Sections) where
           struct_decides T (type_at T a).a (type_at T b).a
           ∙ rw (named_is a first ea la ka, named_is b second eb lb kb, structs_long s S)
 
-      pub first_missing : S.structs ≤ first → false ≡ struct_below (declared T) (type_at T a).a (type_at T b).a
-      first_missing h = sym (decides ∙ rw (le-ltb first S.structs h))
+      -- `v` is what the tests on the records say
+      module _ (v : Bool) where
+        pub first_told : S.structs ≤ first → v ≡ ltb first S.structs → v ≡ true → ⊥
+        first_told h ev e = absurd (omega (arith, ltb-true first S.structs (sym ev ∙ e)))
 
-      module _ (here : first < S.structs) where
-        pub second_missing : S.structs ≤ second → false ≡ struct_below (declared T) (type_at T a).a (type_at T b).a
-        second_missing h = sym (decides ∙ rw (lt-ltb first S.structs here, le-ltb second S.structs h))
+        pub first_missing : S.structs ≤ first → v ≡ ltb first S.structs → v ≡ struct_below (declared T) (type_at T a).a (type_at T b).a
+        first_missing h ev = ev ∙ le-ltb first S.structs h ∙ sym (decides ∙ rw (le-ltb first S.structs h))
 
-        pub both_declared : (r : Bool) → second < S.structs → r ≡ begins_with (struct_of T first).fields (struct_of T second).fields → r ≡ struct_below (declared T) (type_at T a).a (type_at T b).a
-        both_declared r there e = e ∙ sym (decides ∙ rw (lt-ltb first S.structs here, lt-ltb second S.structs there))
+        module _ (here : first < S.structs) (ev : v ≡ ltb second S.structs) where
+          pub second_missing : v ≡ false → v ≡ struct_below (declared T) (type_at T a).a (type_at T b).a
+          second_missing e = e ∙ sym (decides ∙ rw (lt-ltb first S.structs here, ← ev, e))
+
+          pub both_declared : (r : Bool) → v ≡ true → r ≡ begins_with (struct_of T first).fields (struct_of T second).fields → r ≡ struct_below (declared T) (type_at T a).a (type_at T b).a
+          both_declared r e er = er ∙ sym (decides ∙ rw (lt-ltb first S.structs here, ← ev, e))

@@ -113,10 +113,10 @@ module _ (c d : Pairs.Compared) (q : Compared) (m : Matches q c) where
       let e = sym m.holds ∙ not-true q.holds n in
       record { holds = m.holds ∙ e ∙ sym (and_left c.holds d.holds e); pairs = m.pairs ∙ rw e (omega arith) }
 
-  goes_on : (v : Compared) → not q.holds ≡ false → Matches v d → Matches (record { holds = v.holds; pairs = q.pairs + v.pairs }) (and_next c d)
-  goes_on v n w =
+  goes_on : (v r : Compared) → r ≡ record { holds = v.holds; pairs = q.pairs + v.pairs } → not q.holds ≡ false → Matches v d → Matches r (and_next c d)
+  goes_on v r er n w =
       let e = sym m.holds ∙ not-false q.holds n in
-      record { holds = rw e w.holds; pairs = rw e (ap₂ ◌+◌ m.pairs w.pairs) }
+      record { holds = rw e (ap (λ x. x.holds) er ∙ w.holds); pairs = rw e (ap (λ x. x.pairs) er ∙ ap₂ ◌+◌ m.pairs w.pairs) }
 
 module _ (s : List ℕ) (S : Sections) where
   abbrev pub T : Tables
@@ -288,13 +288,12 @@ module _ (s : List ℕ) (S : Sections) where
           unfolding compare_functions
           of-one-number = rw (← ep, ← eq, ← em, ← en, ← same, eq-eqb m m refl)
 
-          pub params_fail : not t.holds ≡ true → Matches (record { holds = false; pairs = 1 + t.pairs }) (compare_functions T a b)
-          params_fail h =
-              pair_on _ t (ap (λ x. record { holds = x; pairs = 1 + t.pairs }) (sym (not-true t.holds h))) (stops _ _ t et h) of-one-number
+          pub params_fail : (r : Compared) → r ≡ record { holds = t.holds; pairs = 1 + t.pairs } → not t.holds ≡ true → Matches r (compare_functions T a b)
+          params_fail r er h = pair_on r t er (stops _ _ t et h) of-one-number
 
-          pub returns_are : (x y : ℕ) (v : Compared) → not t.holds ≡ false → x ≡ (type_at T a).a → y ≡ (type_at T b).a → Says T x y v → Matches (record { holds = v.holds; pairs = 1 + t.pairs + v.pairs }) (compare_functions T a b)
-          returns_are x y v h ex ey ev =
-              pair_on _ (record { holds = v.holds; pairs = t.pairs + v.pairs }) (ap (λ k. record { holds = v.holds; pairs = k }) (omega arith)) (goes_on _ _ t et v h (as_compared T x y v ev))
+          pub returns_are : (x y : ℕ) (v r : Compared) → r ≡ record { holds = v.holds; pairs = 1 + t.pairs + v.pairs } → not t.holds ≡ false → x ≡ (type_at T a).a → y ≡ (type_at T b).a → Says T x y v → Matches r (compare_functions T a b)
+          returns_are x y v r er h ex ey ev =
+              pair_on r (record { holds = v.holds; pairs = t.pairs + v.pairs }) (er ∙ ap (λ k. record { holds = v.holds; pairs = k }) (omega arith)) (goes_on _ _ t et v _ refl h (as_compared T x y v ev))
               (of-one-number ∙ ap₂ (λ i j. pair (and_next (compare_params T p q m) (compare_at T i j))) (sym ex) (sym ey))
 
   -- parameters: the first one, and the others
@@ -323,5 +322,5 @@ module _ (s : List ℕ) (S : Sections) where
       pub first_fails : not t.holds ≡ true → Matches t (compare_params T p q count)
       first_fails h = rw first_decides (stops _ _ t (as_compared T x y t et) h)
 
-      pub others_decide : (r : Compared) → not t.holds ≡ false → Matches r (compare_params T (p + 1) (q + 1) (count - 1)) → Matches (record { holds = r.holds; pairs = t.pairs + r.pairs }) (compare_params T p q count)
-      others_decide r h er = rw first_decides (goes_on _ _ t (as_compared T x y t et) r h er)
+      pub others_decide : (v r : Compared) → r ≡ record { holds = v.holds; pairs = t.pairs + v.pairs } → not t.holds ≡ false → Matches v (compare_params T (p + 1) (q + 1) (count - 1)) → Matches r (compare_params T p q count)
+      others_decide v r er h ev = rw first_decides (goes_on _ _ t (as_compared T x y t et) v r er h ev)

@@ -63,16 +63,16 @@ function_below-below-returns-requires t c =
 pub function_below-returns : goal.function_below-returns
 function_below-returns t c =
     let P = c.requires in
-    returns_are _ _ P.0 _ _ P.2 P.3 _ _ c.type_c-count.ensures.0 c.type_c.ensures.0 c.if-count-type_c.false _ _ _ c.type_b.ensures.0 c.type_b-2.ensures.0 c.params_below-params.ensures.0 _ _ _ c.if-not-params.false c.type_a.ensures.0 c.type_a-2.ensures.0 c.below-returns.ensures.holds_value
+    returns_are _ _ P.0 _ _ P.2 P.3 _ _ c.type_c-count.ensures.0 c.type_c.ensures.0 c.if-count-type_c.false _ _ _ c.type_b.ensures.0 c.type_b-2.ensures.0 c.params_below-params.ensures.0 _ _ _ _ c.after-2.ensures c.if-not-params.false c.type_a.ensures.0 c.type_a-2.ensures.0 c.below-returns.ensures.holds_value
 
-pub kind_below-equal-requires : goal.kind_below-equal-requires
-kind_below-equal-requires t c =
+pub kind_below-equal-elements-requires : goal.kind_below-equal-elements-requires
+kind_below-equal-elements-requires t c =
     let x : c.type_a.result < c.args.a = search (array_lower, rules) in
     let y : c.type_a-in-5.result < c.args.b = search (array_lower, rules) in
     search rules
 
-pub kind_below-below-requires : goal.kind_below-below-requires
-kind_below-below-requires t c =
+pub kind_below-below-references-requires : goal.kind_below-below-references-requires
+kind_below-below-references-requires t c =
     let x : c.type_a-in-7.result < c.args.a = search (nullable_lower, rules) in
     let y : c.type_a-in-7-2.result < c.args.b = search (nullable_lower, rules) in
     (omega arith, search rules)
@@ -107,8 +107,8 @@ params_below-returns-then-not-first t c = (search (first_fails, rules), search r
 pub params_below-params_below-others-requires : goal.params_below-params_below-others-requires
 params_below-params_below-others-requires t c = (omega arith, (search rules, search rules, search rules, search rules, search (other_params, rules), search (other_params, rules)))
 
-pub params_below-overflow_add-result : goal.params_below-overflow_add-result
-params_below-overflow_add-result t c =
+pub params_below-after-requires : goal.params_below-after-requires
+params_below-after-requires t c =
     let P = c.requires in
     omega (arith, c.params_below-others.ensures.1, c.below-first.ensures.pairs_bound.1, P.4.listed, P.0.laid.list_most)
 
