@@ -319,8 +319,8 @@ module _ {F : List ℕ} {S : Sections} {X R W K : List ℕ} {base n s π left ow
               let laid = g.fine.good_tables.laid in
               (omega (arith, l, inits_here), omega (arith, inits_here, laid.nodes_most), omega (arith, k, laid.types_most), omega arith)
 
-          pub inits_tested : GoodTables F S × Indexed X (tables_of F S) S.types × (t < S.types) × (owner < S.structs)
-          inits_tested = (g.fine.good_tables, g.fine.indexed, child_within inits_ready m₁ y, g.declared_there)
+          pub inits_tested : (t < S.types) × (owner < S.structs)
+          inits_tested = (child_within inits_ready m₁ y, g.declared_there)
 
           pub inits_level : r₁.at.scope ≡ s
           inits_level = child_scope inits_ready m₁ y ∙ level

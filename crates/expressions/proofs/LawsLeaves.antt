@@ -41,17 +41,14 @@ leaf_typing {F} {S} {X} {R} {W} {K} {base} {n} {s} {π} {t} {b} {R'} {r} {Γ} g 
 
 -- what the dispatcher gives `null`, and what its answer is
 module _ {F : List ℕ} {S : Sections} {X R W K : List ℕ} {base n s π : ℕ} (g : Ready F S X R W K base n s π) where
-  pub leaf_node : Has F S n S.nodes
-  leaf_node = has_node g.fine.good_tables g.within
-
   module _ (kind : (node_at (tables_of F S) n).kind ≡ 10) where
     null_within : (node_at (tables_of F S) n).t < S.types
     null_within =
         on_null (λ e. (node_at (tables_of F S) n).t < S.types)
         (λ t h. subst (λ i. i < S.types) (sym h.0.t_is) (kind_within g.fine.good_tables 7 h.1)) kind g.tree g.stands
 
-    pub null_asked : Has F S n S.nodes × Entered X (node_at (tables_of F S) n).t × (S.nodes * 2 ≤ length R)
-    null_asked = (leaf_node, type_entered g.fine null_within, g.fine.rows_long)
+    pub null_asked : (n < S.nodes) × Entered X (node_at (tables_of F S) n).t × (S.nodes * 2 ≤ length R)
+    null_asked = (g.within, type_entered g.fine null_within, g.fine.rows_long)
 
     null_formed : (t : ℕ) (b : Bool) → (node_at (tables_of F S) n).t ≡ t → formed_entry X (node_at (tables_of F S) n).t ≡ b
         → formed (tables_of F S) (context_of (tables_of F S) W base) t ≡ b
@@ -75,8 +72,8 @@ module _ {F : List ℕ} {S : Sections} {X R W K : List ℕ} {base n s π : ℕ} 
         go t e false f = stops _ 9 n _ _ (null_formed t false e f) (a.unformed f)
 
   -- `literal`
-  pub literal_asked : Has F S n S.nodes × (S.nodes * 2 ≤ length R)
-  literal_asked = (leaf_node, g.fine.rows_long)
+  pub literal_asked : (n < S.nodes) × (S.nodes * 2 ≤ length R)
+  literal_asked = (g.within, g.fine.rows_long)
 
   pub literal_told : {R' : List ℕ} {r : Judged} → 11 ≤ (node_at (tables_of F S) n).kind → (node_at (tables_of F S) n).kind ≤ 14
       → LeafAnswer (literal_kind (node_at (tables_of F S) n).kind) n s π r → R' ≡ with_row R n (literal_kind (node_at (tables_of F S) n).kind) 65535

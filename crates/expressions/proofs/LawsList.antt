@@ -326,8 +326,8 @@ module _ {F : List ℕ} {S : Sections} {X R W K : List ℕ} {base n s π left : 
                 p.rest (omega (arith, p.counted, more)) p.stand))
 
         module _ {t : ℕ} (y : r₁.judgement ≡ Typed t) where
-          pub list_tested : GoodTables F S × Indexed X (tables_of F S) S.types × (t < S.types) × Expecting (tables_of F S) S x (i + 1)
-          list_tested = (g.fine.good_tables, g.fine.indexed, child_within list_ready m₁ y, list_expecting)
+          pub list_tested : (t < S.types) × Expecting (tables_of F S) S x (i + 1)
+          list_tested = (child_within list_ready m₁ y, list_expecting)
 
           pub list_level : r₁.at.scope ≡ s
           list_level = child_scope list_ready m₁ y ∙ level

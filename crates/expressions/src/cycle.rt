@@ -258,7 +258,7 @@ fn array_value(frame: &Frame<'_>, walk: &mut Walk<'_>, at: At, value: At) -> Jud
         return Judged::refused(Broken::NotSubtype, at.node, end);
     }
     Judged {
-        judgement: one.judgement,
+        judgement: Judgement::Typed(v),
         at: At {
             scope: at.scope,
             ..end
