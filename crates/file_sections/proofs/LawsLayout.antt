@@ -6,7 +6,7 @@ use mathlib.Core.List.{List}
 use Prim.Native.Nat.{ℕ, ◌+◌, ◌*◌, ◌≤◌}
 use native.Mathlib.Omega.{arith}
 use lib.ListN.{length}
-use borrow.Author.Tests.{le-ltb, eq-eqb, ltb-false}
+use borrow.Author.Tests.{le-ltb, ltb-false}
 use Rattle.std.specs.Prelude.{Result, Ok, Err}
 use Rattle.oat.specs.Basics.{pick}
 use Rattle.file_sections.specs.Numbers.{number_at}
@@ -88,4 +88,4 @@ front_stood s r S e f =
 -- all six sections
 pub sections_good : (s : List ℕ) (F : Sections) (structs built_ins nodes : Section) → Ok F ≡ front_of s → Ok structs ≡ section_of s F.structs_at 256 3 → Ok built_ins ≡ section_of s structs.next 128 2 → Ok nodes ≡ section_of s built_ins.next 4096 4 → length s ≡ nodes.next * 2 → Ok (all_sections F structs.count structs.next built_ins.count built_ins.next nodes.count) ≡ sections_of s
 unfolding sections_of
-sections_good s F structs built_ins nodes f a b c l = rw (← f, ← a, ← b, ← c, eq-eqb _ _ l)
+sections_good s F structs built_ins nodes f a b c l = rw (← f, ← a, ← b, ← c) (grind arith)
