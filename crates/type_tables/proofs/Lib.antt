@@ -1,3 +1,2 @@
-pub mod LawsTypes
 pub mod LawsTables
 pub mod LawsParts

@@ -13,15 +13,14 @@ fn fields_right(file: &[u8], sections: Sections) -> bool
     requires { Laid file.now sections }
     ensures { result ≡ all_below sections.fields (field_rule (tables_of file.now sections)) }
 {
-    (0..sections.fields).all(|i| lower_value(
-        file,
-        sections,
-        sections.types,
-        field_type(file, sections, i),
-    ))
+    (0..sections.fields).all(|i| {
+        let t = field_type(file, sections, i);
+        lower_value(file, sections, sections.types, t)
+    })
 }
 
 // Every struct begins where the one before ends, and the fields are used up.
+#[tactic(auto, using(oat::proofs::LawsBasics::sum_more, oat::proofs::LawsBasics::all_more, oat::proofs::LawsBasics::all_false, file_sections::proofs::LawsRecords::structs_long, file_sections::proofs::LawsRecords::fields_long), unfolding(oat::specs::TableRules::structs_right, oat::specs::TableRules::struct_rule, oat::specs::TableRules::fields_before))]
 fn structs_right(file: &[u8], sections: Sections) -> bool
     requires { Laid file.now sections }
     ensures { result ≡ structs_right (tables_of file.now sections) }
@@ -37,6 +36,7 @@ fn structs_right(file: &[u8], sections: Sections) -> bool
 }
 
 // The type t of the file is of the kind k.
+#[tactic(auto, using(file_sections::proofs::LawsRecords::types_long), unfolding(oat::specs::TableRules::has_kind))]
 pub fn has_kind(file: &[u8], sections: Sections, t: usize, k: usize) -> bool
     requires { Laid file.now sections }
     ensures { result ≡ has_kind (tables_of file.now sections) t k }
@@ -53,6 +53,7 @@ fn built_ins_right(file: &[u8], sections: Sections) -> bool
 }
 
 // The rules on fields, structs and built-ins.
+#[tactic(auto, using(file_sections::proofs::LawsRecords::fields_long, file_sections::proofs::LawsRecords::built_ins_long), unfolding(oat::specs::TableRules::tables_right))]
 pub fn tables_right(file: &[u8], sections: Sections) -> bool
     requires { Laid file.now sections }
     ensures { result ≡ tables_right (tables_of file.now sections) }

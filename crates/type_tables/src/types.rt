@@ -10,6 +10,7 @@ use file_sections::Sections;
 use file_sections::records::{list_entry, type_a, type_b, type_c, type_kind};
 
 // The type j is lower than i, and it isn't void.
+#[tactic(auto, unfolding(oat::specs::TypeRules::is_lower_value))]
 pub fn lower_value(file: &[u8], sections: Sections, i: usize, j: usize) -> bool
     requires { Laid file.now sections × (i ≤ sections.types) }
     ensures { result ≡ is_lower_value (tables_of file.now sections) i j }
@@ -18,6 +19,7 @@ pub fn lower_value(file: &[u8], sections: Sections, i: usize, j: usize) -> bool
 }
 
 // The kinds that a nullable may hold.
+#[tactic(auto, unfolding(oat::specs::TypeRules::is_reference_kind))]
 pub fn reference_kind(kind: usize) -> bool
     ensures { result ≡ is_reference_kind kind }
 {
@@ -25,6 +27,7 @@ pub fn reference_kind(kind: usize) -> bool
 }
 
 // How many entries of the type list the type i takes: a function's parameters.
+#[tactic(auto, unfolding(oat::specs::TypeRules::param_count))]
 pub fn param_count(file: &[u8], sections: Sections, i: usize) -> usize
     requires { Has file.now sections i sections.types }
     ensures { (result ≡ param_count (type_at (tables_of file.now sections) i)) × (result < 65536) }
@@ -37,6 +40,7 @@ pub fn param_count(file: &[u8], sections: Sections, i: usize) -> usize
 }
 
 // b and c of the type i are 0.
+#[tactic(auto, unfolding(oat::specs::TypeRules::unused_bc))]
 fn unused(file: &[u8], sections: Sections, i: usize) -> bool
     requires { Has file.now sections i sections.types }
     ensures { result ≡ unused_bc (type_at (tables_of file.now sections) i) }
@@ -45,6 +49,7 @@ fn unused(file: &[u8], sections: Sections, i: usize) -> bool
 }
 
 // The rule of the types 0 to 3.
+#[tactic(auto, unfolding(oat::specs::TypeRules::base_rule))]
 fn base_right(file: &[u8], sections: Sections, i: usize) -> bool
     requires { Has file.now sections i sections.types }
     ensures { result ≡ base_rule i (type_at (tables_of file.now sections) i) }
@@ -53,6 +58,7 @@ fn base_right(file: &[u8], sections: Sections, i: usize) -> bool
 }
 
 // The parts of the array type i, or none where it breaks its rule.
+#[tactic(auto, using(crate::proofs::LawsParts::array_parts), unfolding(oat::specs::TypeRules::array_rule, oat::specs::TypeRules::is_lower_value))]
 fn array_parts(file: &[u8], sections: Sections, parts: &[u16], i: usize) -> Option<usize>
     requires has { Has file.now sections i sections.types × Measured parts.now (tables_of file.now sections) i }
     requires i_value { (type_at (tables_of file.now sections) i).kind ≡ 5 }
@@ -67,6 +73,7 @@ fn array_parts(file: &[u8], sections: Sections, parts: &[u16], i: usize) -> Opti
 }
 
 // The parts of the nullable type i, or none where it breaks its rule.
+#[tactic(auto, using(crate::proofs::LawsParts::nullable_parts), unfolding(oat::specs::TypeRules::nullable_rule))]
 fn nullable_parts(file: &[u8], sections: Sections, parts: &[u16], i: usize) -> Option<usize>
     requires has { Has file.now sections i sections.types × Measured parts.now (tables_of file.now sections) i }
     requires i_value { (type_at (tables_of file.now sections) i).kind ≡ 7 }
@@ -81,6 +88,7 @@ fn nullable_parts(file: &[u8], sections: Sections, parts: &[u16], i: usize) -> O
 }
 
 // The parts of `count` parameters of the type i that begin at the entry `first`, or none where one is void or isn't a lower type.
+#[tactic(auto, using(oat::proofs::LawsBasics::all_more, oat::proofs::LawsBasics::all_false, oat::proofs::LawsBasics::sum_more, crate::proofs::LawsParts::lower_below), unfolding(oat::specs::TypeRules::params_right, crate::specs::Parts::param_parts))]
 fn params_parts(
     file: &[u8],
     sections: Sections,
@@ -105,6 +113,7 @@ fn params_parts(
 }
 
 // The parts of the function type i, whose parameters begin at the entry `taken` of the type list, or none where it breaks its rule.
+#[tactic(auto, using(crate::proofs::LawsParts::function_parts, file_sections::proofs::LawsRecords::list_long), unfolding(oat::specs::TypeRules::function_rule))]
 fn function_parts(
     file: &[u8],
     sections: Sections,
@@ -127,6 +136,7 @@ fn function_parts(
 }
 
 // The parts of the type i, from those of lower types, or none where it breaks its rule.
+#[tactic(auto, using(crate::proofs::LawsParts::leaf_parts), unfolding(oat::specs::TypeRules::type_rule, oat::specs::TypeRules::base_rule))]
 fn type_parts(
     file: &[u8],
     sections: Sections,
@@ -151,6 +161,7 @@ fn type_parts(
 }
 
 // Every type keeps its rule and has at most `most` parts, and the type list is used up; `parts` is filled.
+#[tactic(auto, using(oat::proofs::LawsBasics::all_more, oat::proofs::LawsBasics::all_false, oat::proofs::LawsBasics::sum_more, crate::proofs::LawsParts::measured_more, file_sections::proofs::LawsRecords::types_long, file_sections::proofs::LawsRecords::list_long), unfolding(oat::specs::TypeRules::each_type_right, crate::specs::Parts::keeps, oat::specs::TypeRules::taken_before))]
 fn each_type(file: &[u8], sections: Sections, parts: &mut [u16], most: usize) -> bool
     requires { Laid file.now sections × (most ≤ 200) × (512 ≤ length parts.old) }
     ensures { result ≡ each_type_right most (tables_of file.now sections) }
@@ -170,6 +181,7 @@ fn each_type(file: &[u8], sections: Sections, parts: &mut [u16], most: usize) ->
 }
 
 // The rules on types and the type list.
+#[tactic(auto, using(file_sections::proofs::LawsRecords::types_long), unfolding(oat::specs::TypeRules::types_right))]
 pub fn types_right(file: &[u8], sections: Sections, most: usize) -> bool
     requires { Laid file.now sections × (most ≤ 200) }
     ensures { result ≡ types_right most (tables_of file.now sections) }
