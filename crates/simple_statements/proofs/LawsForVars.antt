@@ -25,7 +25,7 @@ use Rattle.answers.specs.declared.answer.Judgement.TheVariants.{GoesOn}
 use Rattle.answers.specs.declared.answer.Judged.{Judged}
 use Rattle.answers.specs.Answers.{AnswerIs}
 use Rattle.expressions.specs.Contract.{context_of, After, Meets, accepts, refuses, Few}
-use Rattle.expressions.proofs.LawsMeets.{Unlisted, goes_unrefused, pairs_told, part_of}
+use Rattle.expressions.proofs.LawsMeets.{Unlisted, goes_unrefused, pairs_told, refuses_with, part_of}
 use Rattle.expressions.proofs.LawsChild.{few_parts_in}
 use Rattle.expressions.proofs.LawsList.{no_more}
 use Rattle.expressions.proofs.LawsAfter.{after_none}
@@ -74,7 +74,7 @@ module _ {F : List ℕ} {S : Sections} {X : List ℕ} {base start n k s : ℕ} {
       → ((d : Done) (L : List (Label ℕ)) → o ≡ ok d L → d.mark ≡ 0)
       → Unlisted r → {h : ℕ} → h ≡ π + l → Meets (Marking F S X base start n k s R W R₁ W₁ K₁ r) r h o i → Meets Q r π (and_then (and_then o f) e) (l + (i + pairs_after o m))
   marking_no l o f m e h u z (accepts d L i p j) = absurd (u.never (p.mark ∙ ap marked (h d L refl)))
-  marking_no l o f m e h u z (refuses p q i g j) = refuses p q (l + (i + 0)) g (omega arith)
+  marking_no l o f m e h u z (refuses p q i g) = refuses_with p q (l + (i + 0)) g (omega arith)
 
 -- vars of which there is one; of which there is none
 on_some : (P : Vars → Type 0) → ((x : ℕ) (a : Expr) (vs : Vars) → P (next_var x a vs)) → (vs : Vars) → 1 ≤ count_vars vs → P vs

@@ -108,7 +108,7 @@ pub fn variables(
     ensures same_buffers { SameBuffers walk.old walk.new }
 {
     let mut here = at;
-    for _ in 0..count {
+    for _passed in 0..count {
         let one = variable(frame, walk, here, start);
         let Judgement::GoesOn = one.judgement else {
             return one;

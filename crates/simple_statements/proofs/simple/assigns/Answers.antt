@@ -7,4 +7,4 @@ returns-then-node_kind-ne15 c = assigns_other c.node_kind.ensures.0 c.if-node_ki
 
 pub returns : goal.returns
 returns c =
-    assigns_name c.node_kind.ensures.0 c.if-node_kind-ne15.false c.node_x.ensures.0 c.is_assignable.ensures
+    assigns_name c.node_kind.ensures.0 c.if-node_kind-ne15.false c.node_x-name.ensures.0 c.is_assignable.ensures

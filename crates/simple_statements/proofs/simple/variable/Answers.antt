@@ -9,42 +9,42 @@ use Rattle.simple_statements.proofs.LawsMarks.{mark_fits}
 use Rattle.simple_statements.proofs.LawsVariable.{variable_first, variable_no, variable_fine, variable_some, variable_bindable, variable_taken, variable_ok}
 use Rattle.simple_statements.proofs.simple.variable.Goals as goal
 
-pub overflow_add-at : goal.overflow_add-at
-overflow_add-at c =
+pub overflow_add-value : goal.overflow_add-value
+overflow_add-value c =
     omega (arith, c.requires.ready_stmt.within, c.requires.ready_stmt.fine.good_tables.laid.nodes_most)
 
 pub expression-one-requires : goal.expression-one-requires
 expression-one-requires c =
     variable_first c.requires.ready_stmt c.requires.node_value
 
-pub returns-in_default : goal.returns-in_default
-returns-in_default c =
-    variable_no c.requires.ready_stmt c.requires.node_value c.expression-one.ensures (untyped _ c.in_default.not-Typed)
+pub returns-in_default-clause-told : goal.returns-in_default-clause-told
+returns-in_default-clause-told c =
+    variable_no c.requires.ready_stmt c.requires.node_value c.expression-one.ensures.told (untyped _ c.in_default.not-Typed)
 
-pub node_x-requires : goal.node_x-requires
-node_x-requires c =
+pub node_x-name-requires : goal.node_x-name-requires
+node_x-name-requires c =
     has_node c.requires.ready_stmt.fine.good_tables c.requires.ready_stmt.within
 
 pub is_fresh-requires : goal.is_fresh-requires
 is_fresh-requires c =
-    variable_some c.requires.ready_stmt c.requires.node_value c.expression-one.ensures c.in-Typed.is
+    variable_some c.requires.ready_stmt c.requires.node_value c.expression-one.ensures.told c.in-Typed.is
 
-pub returns-then-not-is_fresh : goal.returns-then-not-is_fresh
-returns-then-not-is_fresh c =
-    variable_taken c.requires.ready_stmt c.requires.node_value c.expression-one.ensures c.in-Typed.is c.node_x.ensures.0 c.is_fresh.ensures (ap not c.if-not-is_fresh.true) c.refused.ensures.0
+pub returns-then-not-is_fresh-clause-told : goal.returns-then-not-is_fresh-clause-told
+returns-then-not-is_fresh-clause-told c =
+    variable_taken c.requires.ready_stmt c.requires.node_value c.expression-one.ensures.told c.in-Typed.is c.node_x-name.ensures.0 c.is_fresh.ensures (ap not c.if-not-is_fresh.true) c.refused.ensures.0
 
 pub bind-requires : goal.bind-requires
 bind-requires c =
-    variable_bindable c.requires.ready_stmt c.requires.node_value c.expression-one.ensures c.in-Typed.is
+    variable_bindable c.requires.ready_stmt c.requires.node_value c.expression-one.ensures.told c.in-Typed.is
 
-pub overflow_add-at-2 : goal.overflow_add-at-2
-overflow_add-at-2 c =
+pub overflow_add-after : goal.overflow_add-after
+overflow_add-after c =
     omega (arith, c.requires.ready_stmt.fine.scoped.high, c.requires.ready_stmt.fine.good_tables.laid.nodes_most, c.requires.ready_stmt.fine.good_tables.laid.built_ins_most)
 
 pub ends-requires : goal.ends-requires
 ends-requires c =
-    mark_fits (variable_fine c.requires.ready_stmt c.requires.node_value c.expression-one.ensures c.in-Typed.is) c.requires.ready_stmt.within (omega arith)
+    mark_fits (variable_fine c.requires.ready_stmt c.requires.node_value c.expression-one.ensures.told c.in-Typed.is) c.requires.ready_stmt.within (omega arith)
 
-pub returns : goal.returns
-returns c =
-    variable_ok c.requires.ready_stmt c.requires.node_value c.expression-one.ensures c.in-Typed.is c.node_x.ensures.0 c.is_fresh.ensures (ap not c.if-not-is_fresh.false) c.bind.ensures (answered c.ends.ensures.value refl refl refl) c.ends.ensures.rows_after
+pub returns-clause-told : goal.returns-clause-told
+returns-clause-told c =
+    variable_ok c.requires.ready_stmt c.requires.node_value c.expression-one.ensures.told c.in-Typed.is c.node_x-name.ensures.0 c.is_fresh.ensures (ap not c.if-not-is_fresh.false) c.bind.ensures.bound (answered c.ends.ensures.value refl refl refl) c.ends.ensures.rows_after

@@ -1,4 +1,4 @@
--- `simple::variables` meets its contract. Assumes nothing.
+-- `simple::variables` meets its contract. The loop keeps: the vars passed are accepted, and the others stand from the node come to.
 use borrow.Author.Rules.{rules}
 use native.Mathlib.Omega.{arith}
 use mathlib.Core.Path.{refl}
@@ -7,32 +7,23 @@ use Rattle.expressions.proofs.LawsMeets.{unlisted}
 use Rattle.simple_statements.proofs.LawsForVars.{vars_start, vars_kind, vars_ready, vars_no, vars_again, vars_done}
 use Rattle.simple_statements.proofs.simple.variables.Goals as goal
 
-pub loop-i-init : goal.loop-i-init
-loop-i-init c = (vars_start c.requires, refl, refl)
+pub loop-passed-init : goal.loop-passed-init
+loop-passed-init c = (vars_start c.requires, (refl, refl))
 
 pub variable-one-requires : goal.variable-one-requires
 variable-one-requires c =
-    record { ready_stmt = vars_ready c.requires c.loop-i.invariant.0 c.loop-i-test.true; node_value = vars_kind c.requires c.loop-i.invariant.0 c.loop-i-test.true }
+    record { ready_stmt = vars_ready c.requires c.loop-passed.invariant.0 c.loop-passed-test.true; node_value = vars_kind c.requires c.loop-passed.invariant.0 c.loop-passed-test.true }
 
-pub returns-in_default : goal.returns-in_default
-returns-in_default c =
-    vars_no c.requires c.loop-i.invariant.0 c.loop-i-test.true c.variable-one.ensures (unlisted _ c.in_default.not-GoesOn)
+pub returns-in_default-clause-told : goal.returns-in_default-clause-told
+returns-in_default-clause-told c =
+    vars_no c.requires c.loop-passed.invariant.0 c.loop-passed-test.true c.variable-one.ensures.told (unlisted _ c.in_default.not-GoesOn)
 
-pub overflow_add-i : goal.overflow_add-i
-overflow_add-i c =
-    omega (arith, c.loop-i-test.true, c.ranges.count)
-
-pub loop-i-smaller : goal.loop-i-smaller
-loop-i-smaller c =
-    omega (arith, c.loop-i-test.true)
-
-pub loop-i-preserved : goal.loop-i-preserved
-loop-i-preserved c = (
-  vars_again c.requires c.loop-i.invariant.0 c.loop-i-test.true c.variable-one.ensures c.in-GoesOn.is,
-  search rules,
+pub loop-passed-preserved : goal.loop-passed-preserved
+loop-passed-preserved c = (
+  vars_again c.requires c.loop-passed.invariant.0 c.loop-passed-test.true c.variable-one.ensures.told c.in-GoesOn.is,
   search rules,
 )
 
-pub returns : goal.returns
-returns c =
-    vars_done c.requires c.loop-i.invariant.0 c.loop-i-test.false (answered c.goes_on.ensures refl refl refl)
+pub returns-clause-told : goal.returns-clause-told
+returns-clause-told c =
+    vars_done c.requires c.loop-passed.invariant.0 c.loop-passed-test.false (answered c.goes_on.ensures refl refl refl)
