@@ -9,39 +9,29 @@ use subtyping::below::Compared;
 // The premise that is broken: why a file that can be read is refused.
 #[derive(Clone, Copy, PartialEq, Eq)]
 pub enum Broken {
-    BoundTwice,
-    Unknown,
-    Undeclared,
-    WrongSort,
-    NotSubtype,
-    Mismatch,
-    VoidOrValue,
-    WrongMark,
-    FunctionAssigned,
-    NoDefault,
+    BoundTwice = 7,
+    Unknown = 8,
+    Undeclared = 9,
+    WrongSort = 10,
+    NotSubtype = 11,
+    Mismatch = 12,
+    VoidOrValue = 13,
+    WrongMark = 14,
+    FunctionAssigned = 15,
+    NoDefault = 16,
 }
 
 impl Broken {
-    // Document 01's number.
+    // The number that the documents give it.
     pub fn number(self) -> u16
         ensures { result ≡ broken_number self }
     {
-        match self {
-            Broken::BoundTwice => 7,
-            Broken::Unknown => 8,
-            Broken::Undeclared => 9,
-            Broken::WrongSort => 10,
-            Broken::NotSubtype => 11,
-            Broken::Mismatch => 12,
-            Broken::VoidOrValue => 13,
-            Broken::WrongMark => 14,
-            Broken::FunctionAssigned => 15,
-            Broken::NoDefault => 16,
-        }
+        self as u16
     }
 }
 
 // A type, a mark (goes on, returns), or the premise and the place of a refusal. A list of expressions goes on.
+// A refusal is a case of it, and no Err: document 01's form.
 #[derive(Clone, Copy)]
 pub enum Judgement {
     Typed(usize),
@@ -124,7 +114,7 @@ pub fn row(rows: &mut [u16], node: usize, res: usize, binder: usize)
     rows[node * 2 + 1] = binder as u16;
 }
 
-// An expression of the type t that is no name: its row and its answer.
+// An expression of the type t that is no name: its row and its answer. 65535 is a row's word for no binder: the C interface.
 pub fn typed(rows: &mut [u16], node: usize, t: usize, after: At) -> Judged
     requires { (node * 2 + 1 < length rows.old) × (node < 65536) × (t < 65536) }
     ensures value { result ≡ record { judgement = Judgement.Typed t; at = after } }

@@ -1,14 +1,13 @@
 // Expressions without children, and tests on types.
-ghost use Rattle.std.specs.Prelude.{◌≡◌, true, false, ◌+◌, ◌*◌, ◌≤◌, ◌<◌, length};
+ghost use Rattle.std.specs.Prelude.{◌≡◌, false, ◌+◌, ◌*◌, ◌≤◌, ◌<◌, length};
 ghost use Rattle.oat.specs.Tables.{node_at};
 ghost use Rattle.oat.specs.Types.{struct_of};
 ghost use Rattle.typing_rules.specs.Operators.{unary_type};
 ghost use Rattle.typing_rules.specs.Rules.{member};
 ghost use Rattle.typing_rules.specs.Judge.{has_default, asked, member_asked};
-ghost use Rattle.file_sections.specs.Layout.{Laid, Has, tables_of, GoodTables};
-ghost use Rattle.type_index.specs.Index.{Entered, Indexed};
+ghost use Rattle.type_index.specs.Index.{Entered};
 ghost use Rattle.bindings.specs.Bindings.{Some as Holding};
-ghost use Rattle.answers.specs.Answers.{structs_alone, with_row, LeafAnswer, AndAsked, operator_of, literal_kind, Expecting, expected_at, NullAnswer, NameAnswer};
+ghost use Rattle.answers.specs.Answers.{tables, structs_alone, with_row, LeafAnswer, AndAsked, operator_of, literal_kind, Expecting, expected_at, NullAnswer, NameAnswer};
 
 use crate::answer::{At, Broken, Judged, Judgement, row, typed};
 use crate::file::IndexedFile;
@@ -109,14 +108,13 @@ pub fn has_default(file: &IndexedFile<'_>, t: usize) -> bool
 pub fn unary_type(operator: usize) -> usize
     ensures { result ≡ unary_type operator }
 {
-    if operator == 1 {
-        return 1;
-    }
-    0
+    usize::from(operator == 1)
 }
 
 // What a binary operator takes and gives: 0 to 5, 14 and 15 ints to int, 6 to 9 ints to bool, 12 and 13 bools to bool; 10 and 11 need both
-// subtype directions. There are no others; an arm of their own would be a further test for every operator.
+// subtype directions. There are no others; an arm of their own would be a further test for every operator. Operators are numbers:
+// document 01's form.
+#[tactic(auto, unfolding(crate::specs::Answers::operator_of))]
 pub fn operator_of(operator: usize) -> Operator
     ensures { result ≡ operator_of operator }
 {
@@ -124,7 +122,7 @@ pub fn operator_of(operator: usize) -> Operator
         6..=9 => Operator::Fixed(0, 1),
         10..=11 => Operator::Equality,
         12..=13 => Operator::Fixed(1, 1),
-        0..=5 | 14..=15 | _ => Operator::Fixed(0, 0),
+        _ => Operator::Fixed(0, 0),
     }
 }
 
@@ -137,18 +135,14 @@ pub fn null(file: &IndexedFile<'_>, rows: &mut [u16], at: At) -> Judged
     if !is_formed(file.index, t) {
         return Judged::refused(Broken::Undeclared, at.node, at);
     }
-    typed(
-        rows,
-        at.node,
-        t,
-        At {
-            node: at.node + 1,
-            ..at
-        },
-    )
+    let after = At {
+        node: at.node + 1,
+        ..at
+    };
+    typed(rows, at.node, t, after)
 }
 
-// The type of a literal of this kind.
+// The type of a literal of this kind: 11 and 12 the Booleans, 13 an integer, 14 a string. Node kinds are numbers: document 01's form.
 fn literal_type(kind: usize) -> usize
     ensures { (result ≡ literal_kind kind) × (result < 3) }
 {
@@ -166,15 +160,11 @@ pub fn literal(file: &IndexedFile<'_>, rows: &mut [u16], at: At) -> Judged
     ensures rows_after { rows.new ≡ with_row rows.old at.node (literal_kind (node_at (tables file.now) at.node).kind) 65535 }
 {
     let t = literal_type(node_kind(file.bytes, file.sections, at.node));
-    typed(
-        rows,
-        at.node,
-        t,
-        At {
-            node: at.node + 1,
-            ..at
-        },
-    )
+    let after = At {
+        node: at.node + 1,
+        ..at
+    };
+    typed(rows, at.node, t, after)
 }
 
 // The name at `at`.
