@@ -7,6 +7,7 @@ use mathlib.Core.Logic.{◌⊎◌, inl, inr, ⊎_elim}
 use Prim.Native.Nat.{ℕ, ◌≤◌, ◌<◌}
 use native.Mathlib.Omega.{arith}
 use lib.Dec.{eqb, leb}
+use Rattle.std.specs.Prelude.{Result, Err}
 use borrow.Author.Tests.{le-leb, eqb-true}
 use Rattle.oat.specs.Basics.{pick, all_below}
 use Rattle.oat.specs.Types.{written, first_types, type_of}
@@ -17,9 +18,9 @@ use Rattle.oat.proofs.LawsBasics.{and_parts, all_at}
 use Rattle.oat.proofs.LawsBlank.{meant_twice, blank_is_file}
 use Rattle.program_file.proofs.Blank.{reading_meant}
 use Rattle.subtyping.specs.Numbered.{below_at, pairs_at}
-use Rattle.subtyping.specs.Question.{ask_of, subtype_of}
+use Rattle.subtyping.specs.Question.{answered, ask_of, subtype_of}
 use Rattle.subtyping.specs.declared.question.Answer.{Answer}
-use Rattle.subtyping.specs.declared.question.Answer.TheVariants.{Refused, Yes, No}
+use Rattle.subtyping.specs.declared.question.Refusal.{Refusal}
 use Rattle.subtyping.proofs.LawsQuestion.{question_asks, asked_yes}
 
 pub subtype_meant : (limits : Limits) (s : List ℕ) (a b : ℕ) → subtype_of limits (meant s) a b ≡ subtype_of limits s a b
@@ -49,7 +50,7 @@ four_types a b h k =
     let (same, one) = and_parts _ _ (all_at 4 (once a) (all_at 4 (λ a. all_below 4 (once a)) pairs a h) b k) in
     (agreed _ _ same, eqb-true _ 1 one)
 
-lacks : (x y : Bool) (r : Answer) → (x ≡ true) ⊎ (y ≡ true) → pick x (Refused 17) (pick y (Refused 17) r) ≡ Refused 17
+lacks : (x y : Bool) (r : Result Answer Refusal) → (x ≡ true) ⊎ (y ≡ true) → pick x (Err Refusal.NoType) (pick y (Err Refusal.NoType) r) ≡ Err Refusal.NoType
 lacks true y r l = refl
 lacks false true r l = refl
 lacks false false r l = absurd (⊎_elim (λ e. let z : ◌≡◌ {A = ℕ} 0 1 = cc in omega arith) (λ e. let z : ◌≡◌ {A = ℕ} 0 1 = cc in omega arith) l)
@@ -58,9 +59,9 @@ module _ (limits : Limits) (range : in_range limits ≡ true) (a b : ℕ) where
   blank_asks : subtype_of limits [] a b ≡ ask_of blank_tables a b
   blank_asks = question_asks limits range [] blank_program a b (blank_is_file limits range)
 
-  pub blank_below : a < 4 → b < 4 → subtype_of limits [] a b ≡ pick (eqb a b) (Yes 1) (No 1)
+  pub blank_below : a < 4 → b < 4 → subtype_of limits [] a b ≡ answered (eqb a b) 1
   blank_below h k = blank_asks ∙ asked_yes blank_tables a b h k ∙ rw ((four_types a b h k).0, (four_types a b h k).1)
 
-  pub blank_lacks : (4 ≤ a) ⊎ (4 ≤ b) → subtype_of limits [] a b ≡ Refused 17
+  pub blank_lacks : (4 ≤ a) ⊎ (4 ≤ b) → subtype_of limits [] a b ≡ Err Refusal.NoType
   unfolding ask_of
   blank_lacks l = blank_asks ∙ lacks (leb 4 a) (leb 4 b) _ (⊎_elim (λ h. inl (le-leb 4 a h)) (λ h. inr (le-leb 4 b h)) l)

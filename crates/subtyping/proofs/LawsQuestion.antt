@@ -1,13 +1,14 @@
 -- The ways through the subtype question, and what it says: yes exactly when the rules derive it (`question_yes`), and on every input what
 -- `Answers` says of its number, its yes and its count (`with_answers`). Assumes nothing.
 use mathlib.Core.Path.{◌≡◌, refl, ap, sym, ◌∙◌, subst}
-use mathlib.Core.Bool.{Bool, true, false}
+use mathlib.Core.Bool.{Bool, true, false, false≢true}
 use mathlib.Core.List.{List}
 use mathlib.Core.Logic.{◌↔◌, ◌⊎◌, inl, inr, ⊎_elim}
 use Prim.Native.Nat.{ℕ, ◌+◌, ◌≤◌, ◌<◌}
 use native.Mathlib.Omega.{arith}
 use lib.ListN.{length}
 use lib.Dec.{leb}
+use Rattle.std.specs.Prelude.{Result, Ok, Err}
 use borrow.Author.Tests.{le-leb, lt-leb, leb-true, leb-false}
 use Rattle.oat.specs.Basics.{pick}
 use Rattle.oat.specs.Tables.{Tables}
@@ -22,8 +23,7 @@ use Rattle.oat.proofs.LawsPartsWritten.{parts_written}
 use Rattle.oat.proofs.LawsSubtyping.{below_is}
 use Rattle.oat.proofs.LawsTypes.{TypesFormed, types-formed}
 use Rattle.file_sections.specs.declared.Sections.{Sections}
-use Rattle.file_sections.specs.declared.Reading.{Reading}
-use Rattle.file_sections.specs.declared.Reading.TheVariants as Readings
+use Rattle.file_sections.specs.declared.Unreadable.{Unreadable}
 use Rattle.file_sections.specs.Layout.{tables_of, GoodTables}
 use Rattle.file_sections.proofs.LawsRecords.{types_long}
 use Rattle.program_file.specs.Reading.{reading_of, number_of, IsProgramFile, Reads, ReadsTables}
@@ -31,31 +31,26 @@ use Rattle.program_file.proofs.LawsReading.{reading_in_range}
 use Rattle.program_file.proofs.Theorem.{Bytes, good_tables, reading-of, refused_numbers, read_grows}
 use Rattle.type_index.specs.Index.{declared}
 use Rattle.subtyping.specs.Numbered.{below_at, pairs_at}
-use Rattle.subtyping.specs.Question.{ask_of, subtype_of, refusal_number, yes_after, pairs_of, HasBoth, Below, AnswersOn, Answers}
+use Rattle.subtyping.specs.Question.{answered, ask_of, subtype_of, refusal_number, yes_after, pairs_of, HasBoth, Below, AnswersOn, Answers}
 use Rattle.subtyping.specs.declared.question.Answer.{Answer}
-use Rattle.subtyping.specs.declared.question.Answer.TheVariants.{Refused, Yes, No}
+use Rattle.subtyping.specs.declared.question.Refusal.{Refusal}
 
 -- yes or no
-module _ (s : List ℕ) (S : Sections) (a b : ℕ) (k : a < S.types) (l : b < S.types) (r : Bool) (n : ℕ) (e : r ≡ below_at (tables_of s S) a b) (f : n ≡ pairs_at (tables_of s S) a b) where
-  pub says_yes : r ≡ true → Yes n ≡ ask_of (tables_of s S) a b
-  unfolding ask_of
-  says_yes h = rw (types_long s S, lt-leb _ _ k, lt-leb _ _ l, ← e, h, f)
+pub both_asked : (s : List ℕ) (S : Sections) (a b : ℕ) → a < S.types → b < S.types → (q : Answer) → q ≡ record { holds = below_at (tables_of s S) a b; pairs = pairs_at (tables_of s S) a b } → Ok q ≡ ask_of (tables_of s S) a b
+unfolding ask_of
+both_asked s S a b k l q e = rw (types_long s S, lt-leb _ _ k, lt-leb _ _ l) (ap Ok e)
 
-  pub says_no : r ≡ false → No n ≡ ask_of (tables_of s S) a b
-  unfolding ask_of
-  says_no h = rw (types_long s S, lt-leb _ _ k, lt-leb _ _ l, ← e, h, f)
-
-module _ (limits : Limits) (s : List ℕ) (a b : ℕ) (r : Reading) (e : r ≡ reading_of limits s) where
-  pub not_read : (n k : ℕ) → r ≡ Readings.Refused n → k ≡ number_of r → Refused k ≡ subtype_of limits s a b
+module _ (limits : Limits) (s : List ℕ) (a b : ℕ) (r : Result Sections Unreadable) (e : r ≡ reading_of limits s) where
+  pub not_read : (u : Unreadable) → r ≡ Err u → (f : Refusal) → f ≡ Refusal.Unreadable u → Err f ≡ subtype_of limits s a b
   unfolding subtype_of
-  not_read n k h c = rw (c, ← e, h)
+  not_read u h f ef = rw (← e, h) (ap Err ef)
 
-  module _ (S : Sections) (h : r ≡ Readings.Good S) where
-    pub first_lacks : S.types ≤ a → Refused 17 ≡ subtype_of limits s a b
+  module _ (S : Sections) (h : r ≡ Ok S) where
+    pub first_lacks : S.types ≤ a → Err Refusal.NoType ≡ subtype_of limits s a b
     unfolding subtype_of ask_of
     first_lacks l = rw (← e, h, types_long (meant s) S, le-leb _ _ l)
 
-    pub second_lacks : a < S.types → S.types ≤ b → Refused 17 ≡ subtype_of limits s a b
+    pub second_lacks : a < S.types → S.types ≤ b → Err Refusal.NoType ≡ subtype_of limits s a b
     unfolding subtype_of ask_of
     second_lacks k l = rw (← e, h, types_long (meant s) S, lt-leb _ _ k, le-leb _ _ l)
 
@@ -64,16 +59,16 @@ module _ (limits : Limits) (s : List ℕ) (a b : ℕ) (r : Reading) (e : r ≡ r
       pub tables_there : GoodTables t S
       tables_there = subst (λ x. GoodTables x S) (sym is) (good_tables limits s r S e h)
 
-      pub both_there : (q : Answer) → q ≡ ask_of (tables_of t S) a b → q ≡ subtype_of limits s a b
+      pub both_there : (q : Answer) → a < S.types → b < S.types → q ≡ record { holds = below_at (tables_of t S) a b; pairs = pairs_at (tables_of t S) a b } → Ok q ≡ subtype_of limits s a b
       unfolding subtype_of
-      both_there q c = c ∙ rw (← e, h, is)
+      both_there q k l c = both_asked t S a b k l q c ∙ rw (← e, h, is)
 
 -- For every readable file under limits in range, and two types of it, the answer is yes exactly when the rules derive that the first is below the second.
-picked_yes : (c : Bool) (k : ℕ) → (pick c (Yes k) (No k) ≡ Yes k) ↔ (c ≡ true)
-picked_yes true k = (λ e. refl, λ e. refl)
-picked_yes false k = (λ e. absurd (let z : ◌≡◌ {A = ℕ} 0 1 = cc in omega arith), λ e. absurd (let z : ◌≡◌ {A = ℕ} 0 1 = cc in omega arith))
+answered_yes : (c : Bool) (k : ℕ) → (answered c k ≡ answered true k) ↔ (c ≡ true)
+answered_yes true k = (λ e. refl, λ e. refl)
+answered_yes false k = (λ e. let z = ap (yes_after 0) e in absurd (omega arith), λ e. absurd (false≢true e))
 
-pub asked_yes : (T : Tables) (a b : ℕ) → a < length T.types → b < length T.types → ask_of T a b ≡ pick (below_at T a b) (Yes (pairs_at T a b)) (No (pairs_at T a b))
+pub asked_yes : (T : Tables) (a b : ℕ) → a < length T.types → b < length T.types → ask_of T a b ≡ answered (below_at T a b) (pairs_at T a b)
 unfolding ask_of
 asked_yes T a b h k = rw (lt-leb _ _ h, lt-leb _ _ k)
 
@@ -83,17 +78,17 @@ question_asks limits range s p a b f =
     let (good, back) = reading-of limits s p f in
     rw (reading_in_range limits s range, good, back)
 
-pub question_yes : (limits : Limits) → in_range limits ≡ true → (s : List ℕ) (p : Program) (a b : ℕ) → IsFile limits s p → a < length p.tables.types → b < length p.tables.types → (subtype_of limits s a b ≡ Yes (pairs_at p.tables a b)) ↔ SubRet (declared p.tables) (type_of p.tables a) (type_of p.tables b)
+pub question_yes : (limits : Limits) → in_range limits ≡ true → (s : List ℕ) (p : Program) (a b : ℕ) → IsFile limits s p → a < length p.tables.types → b < length p.tables.types → (subtype_of limits s a b ≡ answered true (pairs_at p.tables a b)) ↔ SubRet (declared p.tables) (type_of p.tables a) (type_of p.tables b)
 question_yes limits range s p a b f h k =
     let T = p.tables in
-    let is : subtype_of limits s a b ≡ pick (below_at T a b) (Yes (pairs_at T a b)) (No (pairs_at T a b)) = question_asks limits range s p a b f ∙ asked_yes T a b h k in
-    let yes = picked_yes (below_at T a b) (pairs_at T a b) in
+    let is : subtype_of limits s a b ≡ answered (below_at T a b) (pairs_at T a b) = question_asks limits range s p a b f ∙ asked_yes T a b h k in
+    let yes = answered_yes (below_at T a b) (pairs_at T a b) in
     let derives = below_is (declared T) (type_of T a) (type_of T b) in
     (λ e. derives.0 (yes.0 (sym is ∙ e)), λ d. is ∙ yes.1 (derives.1 d))
 
 -- the answer on a file that was read, by its three tests and its count
-abbrev by_tests : Bool → Bool → Bool → ℕ → Answer
-by_tests x y z k = pick x (Refused 17) (pick y (Refused 17) (pick z (Yes k) (No k)))
+abbrev by_tests : Bool → Bool → Bool → ℕ → Result Answer Refusal
+by_tests x y z k = pick x (Err Refusal.NoType) (pick y (Err Refusal.NoType) (answered z k))
 
 -- What the number, the yes and the count of an answer say of a program and two types.
 module _ (p : Program) (parts : ℕ) (formed : TypesFormed parts p.tables) (a b : ℕ) where
@@ -168,15 +163,13 @@ unfolding ask_of
 asked_high T a b = high (leb (length T.types) a) (leb (length T.types) b) (below_at T a b) (pairs_at T a b)
 
 -- a refusal leaves what was there, and counts 0
-yes_stays : (old : ℕ) (r : Answer) → (refusal_number r ≡ 0 → ⊥) → yes_after old r ≡ old
-yes_stays old (Refused n) h = refl
-yes_stays old (Yes k) h = absurd (h refl)
-yes_stays old (No k) h = absurd (h refl)
+yes_stays : (old : ℕ) (r : Result Answer Refusal) → (refusal_number r ≡ 0 → ⊥) → yes_after old r ≡ old
+yes_stays old (Err f) h = refl
+yes_stays old (Ok q) h = absurd (h refl)
 
-counts_none : (r : Answer) → (refusal_number r ≡ 0 → ⊥) → pairs_of r ≡ 0
-counts_none (Refused n) h = refl
-counts_none (Yes k) h = absurd (h refl)
-counts_none (No k) h = absurd (h refl)
+counts_none : (r : Result Answer Refusal) → (refusal_number r ≡ 0 → ⊥) → pairs_of r ≡ 0
+counts_none (Err f) h = refl
+counts_none (Ok q) h = absurd (h refl)
 
 -- What they say of limits and bytes.
 module _ (limits : Limits) (s : List ℕ) (a b old : ℕ) where
@@ -184,13 +177,13 @@ module _ (limits : Limits) (s : List ℕ) (a b old : ℕ) where
   asked range p f =
       subst (λ x. AnswersOn p a b (refusal_number x) (yes_after old x) (pairs_of x)) (sym (question_asks limits range s p a b f)) (asked_answers p limits.parts (types-formed limits.parts p.tables f.types) a b old)
 
-  unread_is : (n : ℕ) → reading_of limits s ≡ Readings.Refused n → subtype_of limits s a b ≡ Refused n
+  unread_is : (u : Unreadable) → reading_of limits s ≡ Err u → subtype_of limits s a b ≡ Err (Refusal.Unreadable u)
   unfolding subtype_of
-  unread_is n e = rw e
+  unread_is u e = rw e
 
-  answers_at : (q : Reading) → reading_of limits s ≡ q → Reads limits s (number_of q) → let r = subtype_of limits s a b in Answers limits s a b (refusal_number r) old (yes_after old r) (pairs_of r)
-  answers_at (Readings.Refused n) e d =
-      let is = ap refusal_number (unread_is n e) in
+  answers_at : (q : Result Sections Unreadable) → reading_of limits s ≡ q → Reads limits s (number_of q) → let r = subtype_of limits s a b in Answers limits s a b (refusal_number r) old (yes_after old r) (pairs_of r)
+  answers_at (Err u) e d =
+      let is = ap refusal_number (unread_is u e) in
       record {
         out_of_range = subst (λ m. (m ≡ 25) ↔ (in_range limits ≡ false)) (sym is) d.out_of_range;
         asked = asked;
@@ -199,7 +192,7 @@ module _ (limits : Limits) (s : List ℕ) (a b old : ℕ) where
         unchanged = yes_stays old (subtype_of limits s a b);
         none = counts_none (subtype_of limits s a b);
       }
-  answers_at (Readings.Good S) e d =
+  answers_at (Ok S) e d =
       let (range, file) = d.read.0 refl in
       let is = ap refusal_number (question_asks limits range s file.program a b file.file) in
       let few = asked_high file.program.tables a b in
@@ -213,7 +206,7 @@ module _ (limits : Limits) (s : List ℕ) (a b old : ℕ) where
       }
 
 -- The answer is the definition's, and so its number, its yes and its count say this of every input.
-pub with_answers : (limits : Limits) (s : List ℕ) (a b : ℕ) (q : Reading) → (q ≡ reading_of limits s) × ReadsTables limits s q → (r : Answer) → r ≡ subtype_of limits s a b → (r ≡ subtype_of limits s a b) × ((old : ℕ) → Answers limits s a b (refusal_number r) old (yes_after old r) (pairs_of r))
+pub with_answers : (limits : Limits) (s : List ℕ) (a b : ℕ) (q : Result Sections Unreadable) → (q ≡ reading_of limits s) × ReadsTables limits s q → (r : Result Answer Refusal) → r ≡ subtype_of limits s a b → (r ≡ subtype_of limits s a b) × ((old : ℕ) → Answers limits s a b (refusal_number r) old (yes_after old r) (pairs_of r))
 with_answers limits s a b q d r e =
     (e, λ old. subst (λ x. Answers limits s a b (refusal_number x) old (yes_after old x) (pairs_of x)) (sym e) (answers_at limits s a b old q (sym d.0) d.1.reads))
 
@@ -222,11 +215,11 @@ pub subtype_grows : (l m : Limits) → in_range m ≡ true → Within l m → (s
 unfolding subtype_of
 subtype_grows l m range w s y a b k = go (reading_of l s) refl
   where
-    go : (r : Reading) → reading_of l s ≡ r → subtype_of m s a b ≡ subtype_of l s a b
-    go (Readings.Refused n) e =
-        let is = ap refusal_number (unread_is l s a b 0 n e) in
+    go : (r : Result Sections Unreadable) → reading_of l s ≡ r → subtype_of m s a b ≡ subtype_of l s a b
+    go (Err u) e =
+        let is = ap refusal_number (unread_is l s a b 0 u e) in
         absurd (⊎_elim
         (λ out. ⊎_elim (λ z. omega (arith, z, is, out)) (λ z. omega (arith, z, is, out)) k)
         (λ low. ⊎_elim (λ z. omega (arith, z, is, low.0)) (λ z. omega (arith, z, is, low.1)) k)
-        (refused_numbers l s n e))
-    go (Readings.Good S) e = rw (e, read_grows l m range w s y S e)
+        (refused_numbers l s u e))
+    go (Ok S) e = rw (e, read_grows l m range w s y S e)

@@ -10,7 +10,7 @@ use Rattle.oat.specs.Subtyping.{SubRet}
 use Rattle.oat.specs.Decide.{is_formed}
 use Rattle.oat.specs.ProgramFile.{Limits, in_range, Program, meant, IsFile}
 use Rattle.file_sections.specs.declared.Sections.{Sections}
-use Rattle.file_sections.specs.declared.Unreadable as Files
+use Rattle.file_sections.specs.declared.Unreadable.{Unreadable}
 use Rattle.file_sections.specs.Unreadable.{unreadable_number}
 use Rattle.file_sections.specs.Layout.{tables_of}
 use Rattle.program_file.specs.Reading.{reading_of, number_of, IsProgramFile}
@@ -18,27 +18,26 @@ use Rattle.type_index.specs.Index.{declared}
 use Rattle.subtyping.specs.Numbered.{below_at, pairs_at}
 use Rattle.subtyping.specs.declared.question.Answer.{Answer}
 use Rattle.subtyping.specs.declared.question.Refusal.{Refusal}
-use Rattle.subtyping.specs.declared.question.Refusal.TheVariants.{Unreadable, NoType}
 
 -- document 01's number for a refusal: that of the reading, or 17
 abbrev pub refused_number : Refusal → ℕ
-refused_number (Unreadable e) = unreadable_number e
-refused_number NoType = 17
+refused_number (Refusal.Unreadable e) = unreadable_number e
+refused_number Refusal.NoType = 17
 
 -- yes or no, after k pairs
 abbrev pub answered : Bool → ℕ → Result Answer Refusal
-answered yes k = Ok (record { holds = yes; pairs = k })
+answered holds k = Ok (record { holds = holds; pairs = k })
 
 -- the question on the tables of a file: 17 for a type that the file lacks
 unfoldable pub ask_of : Tables → ℕ → ℕ → Result Answer Refusal
 ask_of T a b =
-    pick (leb (length T.types) a) (Err NoType)
-    (pick (leb (length T.types) b) (Err NoType)
+    pick (leb (length T.types) a) (Err Refusal.NoType)
+    (pick (leb (length T.types) b) (Err Refusal.NoType)
     (answered (below_at T a b) (pairs_at T a b)))
 
 -- the question on a file that was read
-abbrev pub on_reading : Result Sections Files.Unreadable → (Sections → Result Answer Refusal) → Result Answer Refusal
-on_reading (Err e) k = Err (Unreadable e)
+abbrev pub on_reading : Result Sections Unreadable → (Sections → Result Answer Refusal) → Result Answer Refusal
+on_reading (Err e) k = Err (Refusal.Unreadable e)
 on_reading (Ok S) k = k S
 
 -- is the type a below the type b?

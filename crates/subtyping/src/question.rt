@@ -3,6 +3,7 @@ ghost use Rattle.std.specs.Prelude.{◌≡◌, ℕ, ◌<◌};
 ghost use Rattle.file_sections.specs.Layout.{tables_of, GoodTables};
 ghost use Rattle.program_file.specs.Reading.{setting_of};
 ghost use Rattle.subtyping.specs.Numbered.{below_at, pairs_at};
+ghost use Rattle.subtyping.specs.declared.question.Refusal.{Refusal};
 ghost use Rattle.subtyping.specs.Question.{refused_number, subtype_of, refusal_number, yes_after, pairs_of, Answers};
 
 use crate::below::below;
