@@ -13,8 +13,8 @@ use Rattle.oat.proofs.LawsBlank.{meant_is_file}
 use Rattle.oat.proofs.LawsKinds.{kind_most}
 use Rattle.oat.proofs.LawsLimits.{within_widest, wider}
 use Rattle.file_sections.specs.declared.Sections.{Sections}
-use Rattle.file_sections.specs.declared.Reading.{Reading}
-use Rattle.file_sections.specs.declared.Reading.TheVariants.{Refused as Unread, Good}
+use Rattle.file_sections.specs.declared.Unreadable.{Unreadable}
+use Rattle.file_sections.specs.Unreadable.{unreadable_number}
 use Rattle.file_sections.specs.Layout.{tables_of}
 use Rattle.file_sections.proofs.LawsRecords.{nodes_long}
 use Rattle.writing.specs.Placed.{placed}
@@ -57,11 +57,11 @@ module _ {F R : List ℕ} {S : Sections} (z : ReadyRows F S R) (h : (i : ℕ) �
   pub bytes_are : 20 * S.nodes + x ≡ length (page_of T R)
   bytes_are = omega (arith, page_long page_fit, nodes_long F S, ap (λ n. length (last_line (n / 50) (n % 50))) (nodes_long F S))
 
-  pub page_no_room : (O : List ℕ) → length O < 20 * S.nodes + x → Writes T R O 0 O
+  pub page_no_room : (O : List ℕ) → length O < 20 * S.nodes + x → Writes T R O None O
   page_no_room O l = no_room (page_long page_fit) (omega (arith, l, bytes_are))
 
   pub page_done : (O O₁ O₂ : List ℕ) → 20 * S.nodes + x ≤ length O → O₁ ≡ placed O 0 (row_lines T R S.nodes)
-      → O₂ ≡ placed O₁ (20 * S.nodes) (last_line (S.nodes / 50) (S.nodes % 50)) → Writes T R O (20 * S.nodes + x) O₂
+      → O₂ ≡ placed O₁ (20 * S.nodes) (last_line (S.nodes / 50) (S.nodes % 50)) → Writes T R O (Some (20 * S.nodes + x)) O₂
   page_done O O₁ O₂ l f g =
       let n = S.nodes in
       let end = last_line (n / 50) (n % 50) in
@@ -69,11 +69,11 @@ module _ {F R : List ℕ} {S : Sections} (z : ReadyRows F S R) (h : (i : ℕ) �
       let whole : O₂ ≡ page_of T R ++ drop (length (page_of T R)) O =
       placed_then O 0 (row_lines T R n) f (omega (arith, lines)) end (omega (arith, lines, e, l)) g ∙ ap (placed O 0) is_page ∙ placed_front O (page_of T R) in
       let rest = drop (length (page_of T R)) O in
-      subst (λ O₂. Writes T R O (20 * n + x) O₂) (sym whole)
-      (subst (λ b. Writes T R O b (page_of T R ++ rest)) (sym bytes_are) (writes (page_long page_fit) (omega (arith, l, bytes_are)) (on_board page_fit rest)))
+      subst (λ O₂. Writes T R O (Some (20 * n + x)) O₂) (sym whole)
+      (subst (λ b. Writes T R O (Some b) (page_of T R ++ rest)) (sym bytes_are) (writes (page_long page_fit) (omega (arith, l, bytes_are)) (on_board page_fit rest)))
 
 -- the file of an accepting check, as what writes a page speaks of it
-pub page_ready_of : {l : Limits} {F R W R' W' G : List ℕ} {S : Sections} {c : CheckAnswer} → Bytes F → reading_of l F ≡ Good S → G ≡ meant F → Checked l F R W R' W' c → c.number ≡ 0
+pub page_ready_of : {l : Limits} {F R W R' W' G : List ℕ} {S : Sections} {c : CheckAnswer} → Bytes F → reading_of l F ≡ Ok S → G ≡ meant F → Checked l F R W R' W' c → c.number ≡ 0
     → ReadyRows G S R'
 page_ready_of {l} {F} {R} {W} {R'} {S = S} {c = c} b e is k z =
     let d = opened l F S b e in
@@ -88,25 +88,25 @@ page_ready_of {l} {F} {R} {W} {R'} {S = S} {c = c} b e is k z =
     })
 
 -- what was written, or not, as an answer
-short_of : (p : Program) {c : CheckAnswer} {R O O' : List ℕ} {b : ℕ} {r : Answer} → Writes p.tables R O b O' → b ≡ 0 → r ≡ answer 18 0 0 0 → AfterAcceptance p c R O r O'
-short_of p {R = R} (writes n l o) z q = absurd (page_some p.tables R z)
+short_of : (p : Program) {c : CheckAnswer} {R O O' : List ℕ} {w : Option ℕ} {r : Answer} → Writes p.tables R O w O' → ((b : ℕ) → w ≡ Some b → ⊥) → r ≡ answer 18 0 0 0 → AfterAcceptance p c R O r O'
+short_of p (writes n l o) z q = absurd (z _ refl)
 short_of p (no_room n l) z q = rw q (short l)
 
-printed_of : (p : Program) {c : CheckAnswer} {R O O' : List ℕ} {b : ℕ} {r : Answer} → Writes p.tables R O b O' → (b ≡ 0 → ⊥) → r ≡ same_answer c b
+printed_of : (p : Program) {c : CheckAnswer} {R O O' : List ℕ} {w : Option ℕ} {b : ℕ} {r : Answer} → Writes p.tables R O w O' → w ≡ Some b → r ≡ same_answer c b
     → AfterAcceptance p c R O r O' × OnBoard p.tables R O' r.bytes
-printed_of p (writes n l o) z q = rw q (printed l, o)
-printed_of p (no_room n l) z q = absurd (z refl)
+printed_of p {c = c} (writes n l o) z q = let e : _ ≡ same_answer c _ = q ∙ sym (ap (same_answer c) (some_same z)) in rw e (printed l, o)
+printed_of p (no_room n l) z q = absurd (cc z)
 
-long_of : {T : Tables} {R O O' : List ℕ} {b : ℕ} → Writes T R O b O' → PageLong T R
+long_of : {T : Tables} {R O O' : List ℕ} {w : Option ℕ} → Writes T R O w O' → PageLong T R
 long_of (writes n l o) = n
 long_of (no_room n l) = n
 
 -- the answers of `page`: of a file that is not read
-pub page_unread : {l : Limits} {F R W O : List ℕ} {r : Answer} {g : Reading} {n m : ℕ} → g ≡ reading_of l F → g ≡ Unread n → m ≡ number_of g → r ≡ answer m 0 0 0
+pub page_unread : {l : Limits} {F R W O : List ℕ} {r : Answer} {g : Result Sections Unreadable} {n : Unreadable} {m : ℕ} → g ≡ reading_of l F → g ≡ Err n → m ≡ number_of g → r ≡ answer m 0 0 0
     → Paged l F R W O R W O r
 page_unread {l} {F} {R} {W} {r = r} {n = n} {m = m} e h k q =
     let (c, d) = with_demands (check_unread {R = R} {W = W} e h k refl) in
-    let same : m ≡ n = k ∙ ap number_of h in
+    let same : m ≡ unreadable_number n = k ∙ ap number_of h in
     record {
       check = record { number = m; step = 0; place = 0; pairs = 0 };
       checked = c;
@@ -117,11 +117,11 @@ page_unread {l} {F} {R} {W} {r = r} {n = n} {m = m} e h k q =
       on_board = λ z p f. absurd (not_accepted (sym (ap (λ (a : Answer). a.number) q) ∙ z) same);
     }
   where
-    not_accepted : m ≡ 0 → m ≡ n → ⊥
+    not_accepted : m ≡ 0 → m ≡ unreadable_number n → ⊥
     not_accepted z same = ⊎_elim (λ x. omega (arith, x, z, same)) (λ x. omega (arith, x.0, z, same)) (refused_numbers l F n (sym e ∙ h))
 
 -- of one that was read, whose check answers c
-module _ (l : Limits) {F R W : List ℕ} {S : Sections} {g : Reading} {R' W' : List ℕ} {c : CheckAnswer} (e : g ≡ reading_of l F) (h : g ≡ Good S) (k : ToldSections F S R W R' W' c) where
+module _ (l : Limits) {F R W : List ℕ} {S : Sections} {g : Result Sections Unreadable} {R' W' : List ℕ} {c : CheckAnswer} (e : g ≡ reading_of l F) (h : g ≡ Ok S) (k : ToldSections F S R W R' W' c) where
   its_check : Checked l F R W R' W' c × Demands l F R W R' c
   its_check = check_told_sections l e h k
 
@@ -140,14 +140,14 @@ module _ (l : Limits) {F R W : List ℕ} {S : Sections} {g : Reading} {R' W' : L
     pub page_ready : ReadyRows G S R'
     page_ready = page_ready_of b (sym e ∙ h) is its_check.0 z
 
-    module _ {O O' : List ℕ} {w : ℕ} (t : Writes (tables_of G S) R' O w O') where
+    module _ {O O' : List ℕ} {w : Option ℕ} (t : Writes (tables_of G S) R' O w O') where
       its_page : (p : Program) → IsFile l F p → Writes p.tables R' O w O'
       its_page p f =
           let d = opened l F S b (sym e ∙ h) in
           let same = tables_are p (meant_is_file F (wider (within_widest l d.range) f)) d.reads ∙ ap (λ G. tables_of G S) (sym is) in
           subst (λ T. Writes T R' O w O') (sym same) t
 
-      pub page_short : {r : Answer} → w ≡ 0 → r ≡ answer 18 0 0 0 → Paged l F R W O R' W' O' r
+      pub page_short : {r : Answer} → ((b : ℕ) → w ≡ Some b → ⊥) → r ≡ answer 18 0 0 0 → Paged l F R W O R' W' O' r
       page_short {r} x q = record {
         check = c;
         checked = its_check.0;
@@ -158,8 +158,8 @@ module _ (l : Limits) {F R W : List ℕ} {S : Sections} {g : Reading} {R' W' : L
         on_board = λ o p f. absurd (let i = ap (λ (a : Answer). a.number) q in omega (arith, i, o));
       }
 
-      pub page_printed : {r : Answer} → (w ≡ 0 → ⊥) → r ≡ same_answer c w → Paged l F R W O R' W' O' r
-      page_printed {r} x q = record {
+      pub page_printed : {b : ℕ} {r : Answer} → w ≡ Some b → r ≡ same_answer c b → Paged l F R W O R' W' O' r
+      page_printed {r = r} x q = record {
         check = c;
         checked = its_check.0;
         demands = its_check.1;

@@ -11,11 +11,7 @@ fn write_blanks(out: &mut [u8], at: usize, count: usize)
     requires { at + count ≤ length out.old }
     ensures { out.new ≡ placed out.old at (blanks count) }
 {
-    let mut i = 0;
-    while i < count {
-        out[at + i] = 32;
-        i += 1;
-    }
+    out[at..at + count].fill(b' ');
 }
 
 // Writes a number in `width` columns from `at` on, right aligned with blanks, and the byte `last` after it.

@@ -29,8 +29,7 @@ pub(crate) fn write_rows(file: &[u8], sections: Sections, rows: &[u16], out: &mu
     requires { ReadyRows file.now sections rows.now × (20 * sections.nodes ≤ length out.old) }
     ensures { out.new ≡ placed out.old 0 (row_lines (tables_of file.now sections) rows.now sections.nodes) }
 {
-    let mut i = 0;
-    while i < sections.nodes {
+    for i in 0..sections.nodes {
         let kind = node_kind(file, sections, i);
         write_row(
             &mut *out,
@@ -40,7 +39,6 @@ pub(crate) fn write_rows(file: &[u8], sections: Sections, rows: &[u16], out: &mu
             result_at(rows, i),
             binder_at(rows, i),
         );
-        i += 1;
     }
 }
 

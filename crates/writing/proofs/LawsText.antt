@@ -9,8 +9,8 @@ use lib.Seq.{drop-drop}
 use borrow.Rule.Slice.PartMut.{put_mid}
 use Rattle.writing.specs.Placed.{placed}
 
-pub text_put : (out text new : List ℕ) (at : ℕ) → new ≡ text → put_mid at (at + length text - at) out new ≡ placed out at text
+pub text_put : (out text new : List ℕ) (at end : ℕ) → end ≡ at + length text → new ≡ text → put_mid at (end - at) out new ≡ placed out at text
 unfolding placed
-text_put out text new at e =
-    let width : at + length text - at ≡ length text = omega arith in
+text_put out text new at end l e =
+    let width : end - at ≡ length text = omega (arith, l) in
     rw e (ap (λ r. take at out ++ (text ++ r)) (ap (λ k. drop k (drop at out)) width ∙ drop-drop (length text) at out) ∙ sym (append_assoc (take at out) text (drop (at + length text) out)))

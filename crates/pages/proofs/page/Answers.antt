@@ -11,26 +11,26 @@ returns-in_default c =
 
 pub check_sections-checked-requires : goal.check_sections-checked-requires
 check_sections-checked-requires c =
-    was_read _ c.read-read.ensures.value c.in-Good.is
+    was_read _ c.read-read.ensures.value c.in-Ok.is
 
 pub returns-then-checked-ne0 : goal.returns-then-checked-ne0
 returns-then-checked-ne0 c =
-    page_refused _ c.read-read.ensures.value c.in-Good.is c.check_sections-checked.ensures c.told-then-checked-ne0.ensures c.if-checked-ne0.true
+    page_refused _ c.read-read.ensures.value c.in-Ok.is c.check_sections-checked.ensures c.told-then-checked-ne0.ensures c.if-checked-ne0.true
 
 pub write_page-bytes-requires : goal.write_page-bytes-requires
 write_page-bytes-requires c =
     let bytes = bytes-of c.args.file.now c.type_inv.file in
     let these = these_meant _ _ c.meant.ensures c.blank_file-blank.ensures in
-    page_ready _ c.read-read.ensures.value c.in-Good.is c.check_sections-checked.ensures bytes these c.if-checked-ne0.false
+    page_ready _ c.read-read.ensures.value c.in-Ok.is c.check_sections-checked.ensures bytes these c.if-checked-ne0.false
 
 pub returns-then-bytes-eq0 : goal.returns-then-bytes-eq0
 returns-then-bytes-eq0 c =
     let bytes = bytes-of c.args.file.now c.type_inv.file in
     let these = these_meant _ _ c.meant.ensures c.blank_file-blank.ensures in
-    page_short _ c.read-read.ensures.value c.in-Good.is c.check_sections-checked.ensures bytes these c.if-checked-ne0.false c.write_page-bytes.ensures c.if-bytes-eq0.true c.told-then-bytes-eq0.ensures
+    page_short _ c.read-read.ensures.value c.in-Ok.is c.check_sections-checked.ensures bytes these c.if-checked-ne0.false c.write_page-bytes.ensures c.if-bytes-eq0.true c.told-then-bytes-eq0.ensures
 
 pub returns : goal.returns
 returns c =
     let bytes = bytes-of c.args.file.now c.type_inv.file in
     let these = these_meant _ _ c.meant.ensures c.blank_file-blank.ensures in
-    page_printed _ c.read-read.ensures.value c.in-Good.is c.check_sections-checked.ensures bytes these c.if-checked-ne0.false c.write_page-bytes.ensures c.if-bytes-eq0.false c.told-2.ensures
+    page_printed _ c.read-read.ensures.value c.in-Ok.is c.check_sections-checked.ensures bytes these c.if-checked-ne0.false c.write_page-bytes.ensures c.if-bytes-eq0.false c.told-2.ensures

@@ -8,7 +8,4 @@ use Rattle.pages.specs.Page.{row_lines}
 use Rattle.pages.proofs.lines.write_rows.Given as goal
 
 abbrev pub invariant-loop-i : goal.invariant-loop-i
-invariant-loop-i l = (l.i ≤ l.sections.nodes) × (length l.out ≡ length l.initial.out) × (l.out ≡ placed l.initial.out 0 (row_lines (tables_of l.file l.sections) l.rows l.i))
-
-abbrev pub decreases-loop-i : goal.decreases-loop-i
-decreases-loop-i l = l.sections.nodes - l.i
+invariant-loop-i l = (length l.out ≡ length l.initial.out) × (l.out ≡ placed l.initial.out 0 (row_lines (tables_of l.file l.sections) l.rows l.i))
