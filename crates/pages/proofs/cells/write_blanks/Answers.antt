@@ -1,14 +1,13 @@
--- `cells::write_blanks` meets its contract. The loop keeps: i blanks are written. Assumes nothing.
-use mathlib.Core.Path.{refl}
-use borrow.Author.Rules.{rules}
-use Rattle.pages.proofs.LawsCells.{blanks_none, blanks_more, blanks_all}
+-- Assumes nothing.
+use Rattle.std.proofs.Common.{◌≡◌, ℕ, ◌+◌, ◌-◌, length, take, drop, ap, sym, ◌∙◌, arith, length-drop}
+use lib.Seq.{length-take-le}
+use lib.ListN.{replicate}
+use Rattle.writing.proofs.LawsText.{text_put}
+use Rattle.pages.proofs.LawsCells.{blanks_length}
 use Rattle.pages.proofs.cells.write_blanks.Goals as goal
 
-pub loop-i-init : goal.loop-i-init
-loop-i-init c = (search rules, refl, search (blanks_none, rules))
-
-pub loop-i-preserved : goal.loop-i-preserved
-loop-i-preserved c = (search rules, search rules, search (blanks_more, rules))
-
 pub returns : goal.returns
-returns c = search (blanks_all, rules)
+returns c =
+    let width : c.args.at + c.args.count - c.args.at ≡ c.args.count = omega arith in
+    let long : length (take (c.args.at + c.args.count - c.args.at) (drop c.args.at c.args.out.now)) ≡ c.args.count = length-take-le _ _ (omega (arith, length-drop c.args.at c.args.out.now)) ∙ width in
+    text_put _ _ _ _ _ (ap (λ k. c.args.at + k) (sym (blanks_length c.args.count))) (c.fill.ensures.after (λ y e. e) ∙ ap (λ n. replicate n 32) long)
