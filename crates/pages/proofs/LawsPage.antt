@@ -1,4 +1,5 @@
 -- The page of an accepted file, and of any file. Assumes nothing.
+use Rattle.std.proofs.Common.{Option, Some, None, Result, Ok, Err}
 use mathlib.Core.Path.{◌≡◌, refl, ap, sym, subst, ◌∙◌}
 use mathlib.Core.List.{List, ◌++◌}
 use mathlib.Core.Logic.{⊎_elim}
@@ -34,13 +35,6 @@ use Rattle.pages.specs.Paging.{answer, same_answer, AfterAcceptance, short, prin
 use Rattle.pages.specs.Writing.{ReadyRows, Writes, writes, no_room}
 use Rattle.pages.proofs.LawsLines.{FittingRows, rows_fit, lines_long, last_long}
 use Rattle.pages.proofs.LawsBoard.{page_long, on_board}
-
--- a page has some bytes
-pub page_some : (T : Tables) (R : List ℕ) → length (page_of T R) ≡ 0 → ⊥
-unfolding page_of
-page_some T R e =
-    let n = length T.nodes in
-    omega (arith, e, length-append (row_lines T R n) (last_line (n / 50) (n % 50)), last_long (n / 50) (n % 50))
 
 -- the page of a file with these sections, whose last line has x bytes
 module _ {F R : List ℕ} {S : Sections} (z : ReadyRows F S R) (h : (i : ℕ) → Fits w16 (get_or R i 0)) (x : ℕ) (e : x ≡ length (last_line (S.nodes / 50) (S.nodes % 50))) where
@@ -94,7 +88,10 @@ short_of p (no_room n l) z q = rw q (short l)
 
 printed_of : (p : Program) {c : CheckAnswer} {R O O' : List ℕ} {w : Option ℕ} {b : ℕ} {r : Answer} → Writes p.tables R O w O' → w ≡ Some b → r ≡ same_answer c b
     → AfterAcceptance p c R O r O' × OnBoard p.tables R O' r.bytes
-printed_of p {c = c} (writes n l o) z q = let e : _ ≡ same_answer c _ = q ∙ sym (ap (same_answer c) (some_same z)) in rw e (printed l, o)
+printed_of p {c = c} {R = R} {b = b} {r = r} (writes n l o) z q =
+    let same : length (page_of p.tables R) ≡ b = cc z in
+    let told : r ≡ same_answer c (length (page_of p.tables R)) = q ∙ ap (same_answer c) (sym same) in
+    rw told (printed l, o)
 printed_of p (no_room n l) z q = absurd (cc z)
 
 long_of : {T : Tables} {R O O' : List ℕ} {w : Option ℕ} → Writes T R O w O' → PageLong T R

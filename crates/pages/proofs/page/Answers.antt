@@ -17,20 +17,20 @@ pub returns-then-checked-ne0 : goal.returns-then-checked-ne0
 returns-then-checked-ne0 c =
     page_refused _ c.read-read.ensures.value c.in-Ok.is c.check_sections-checked.ensures c.told-then-checked-ne0.ensures c.if-checked-ne0.true
 
-pub write_page-bytes-requires : goal.write_page-bytes-requires
-write_page-bytes-requires c =
+pub write_page-requires : goal.write_page-requires
+write_page-requires c =
     let bytes = bytes-of c.args.file.now c.type_inv.file in
     let these = these_meant _ _ c.meant.ensures c.blank_file-blank.ensures in
     page_ready _ c.read-read.ensures.value c.in-Ok.is c.check_sections-checked.ensures bytes these c.if-checked-ne0.false
 
-pub returns-then-bytes-eq0 : goal.returns-then-bytes-eq0
-returns-then-bytes-eq0 c =
+pub returns-in_default-2 : goal.returns-in_default-2
+returns-in_default-2 c =
     let bytes = bytes-of c.args.file.now c.type_inv.file in
     let these = these_meant _ _ c.meant.ensures c.blank_file-blank.ensures in
-    page_short _ c.read-read.ensures.value c.in-Ok.is c.check_sections-checked.ensures bytes these c.if-checked-ne0.false c.write_page-bytes.ensures c.if-bytes-eq0.true c.told-then-bytes-eq0.ensures
+    page_short _ c.read-read.ensures.value c.in-Ok.is c.check_sections-checked.ensures bytes these c.if-checked-ne0.false c.write_page.ensures c.in_default-2.not-Some c.told-in_default-2.ensures
 
 pub returns : goal.returns
 returns c =
     let bytes = bytes-of c.args.file.now c.type_inv.file in
     let these = these_meant _ _ c.meant.ensures c.blank_file-blank.ensures in
-    page_printed _ c.read-read.ensures.value c.in-Ok.is c.check_sections-checked.ensures bytes these c.if-checked-ne0.false c.write_page-bytes.ensures c.if-bytes-eq0.false c.told-2.ensures
+    page_printed _ c.read-read.ensures.value c.in-Ok.is c.check_sections-checked.ensures bytes these c.if-checked-ne0.false c.write_page.ensures c.in-Some.is c.told-2.ensures
