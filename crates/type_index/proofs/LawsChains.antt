@@ -2,12 +2,14 @@
 -- nothing.
 use mathlib.Core.Path.{◌≡◌, refl, ap, sym, subst, ◌∙◌}
 use mathlib.Core.Bool.{Bool, true, false, false≢true}
-use mathlib.Core.List.{List}
+use mathlib.Core.List.{List, ◌++◌}
 use mathlib.Core.Logic.{◌⊎◌, inl, inr, ⊎_elim}
 use Prim.Native.Nat.{ℕ, ◌+◌, ◌-◌, ◌*◌, ◌%◌, ◌≤◌, ◌<◌}
 use native.Mathlib.Nat.{not-suc-le-zero, mod-lt}
 use native.Mathlib.Omega.{arith}
-use lib.ListN.{length, get_or, set, length-set}
+use lib.ListN.{length, get_or, set, take, drop, replicate, length-set}
+use borrow.Rule.Slice.PartMut.{put_mid, post_of}
+use Rattle.std.proofs.lemmas.List.{length-take-le, length-drop, length-replicate, get_or-append_right, get_or_append_left, get_or-replicate}
 use lib.Seq.{get_or-set_same, get_or-set_other}
 use lib.Dec.{eqb}
 use borrow.Author.Count.{below_more}
@@ -20,11 +22,12 @@ use Rattle.oat.specs.Pairs.{parts_ty}
 use Rattle.oat.proofs.LawsWritten.{params_many}
 use Rattle.oat.proofs.LawsSame.{same_sound, same_refl}
 use Rattle.oat.proofs.LawsWritten.{type_struct, type_array, type_function, type_nullable}
-use Rattle.chains.proofs.LawsChains.{Walks, walk_starts, walk_falls, walk_on, linked, chains_none}
+use Rattle.chains.proofs.LawsChains.{linked, chains_none}
 use Rattle.file_sections.specs.declared.Sections.{Sections}
 use Rattle.file_sections.specs.Layout.{tables_of, GoodTables}
 use Rattle.file_sections.proofs.LawsRecords.{types_long}
 use Rattle.type_index.specs.Index.{declared, first_below, struct_named, lowest_entry, struct_entry, formed_entry, parts_entry, first_equal, chain_of, bucket_of, linking, entering, Entered, Chained, Cleared, Indexed}
+use Rattle.type_index.specs.Walk.{Way, Leads, NonePasses, LastPasses}
 use Rattle.type_index.proofs.LawsIndex.{first_longer, first-equal, first_nowhere, names_none, stored, elsewhere, indexed_more}
 use Rattle.type_index.proofs.LawsSameTypes.{on_base, base_kept, base_own, kind_is, function_kept, holder_lower, returns_lower}
 use Rattle.type_index.proofs.LawsFormedTypes.{formed_base}
@@ -81,33 +84,38 @@ module _ (s : List ℕ) (S : Sections) (i : ℕ) where
 pub entry_there : (index : List ℕ) (x : ℕ) → Entered index x → x < length index
 entry_there index x E = omega (arith, E.low, E.long)
 
--- the way along the chain of the type i to an equal type
-abbrev pub EqualWalk : Tables → ℕ → ℕ → Type 0
-EqualWalk T i after = Walks (bucket_of T) (bucket_of T i) (λ k. same_ty (type_of T k) (type_of T i) ≡ true) i after
+-- the walk along the chain of the type i to an equal type
+abbrev pub equal_way : List ℕ → Sections → ℕ → Way
+equal_way s S i = record {
+  count = i;
+  bucket = bucket_of (tables_of s S);
+  own = bucket_of (tables_of s S) i;
+  passes = λ j. same_ty (type_of (tables_of s S) j) (type_of (tables_of s S) i);
+}
 
-module _ (s : List ℕ) (S : Sections) (index : List ℕ) (i after : ℕ) where
-  pub equal_found : EqualWalk (tables_of s S) i after → 0 < after → (t : Bool) (e : ℕ) → t ≡ same_ty (type_of (tables_of s S) (after - 1)) (type_of (tables_of s S) i) → t ≡ true → e ≡ get_or index (after - 1) 0 → Indexed index (tables_of s S) i → e ≡ first_below i (λ k. same_ty (type_of (tables_of s S) k) (type_of (tables_of s S) i))
+module _ (s : List ℕ) (S : Sections) (index : List ℕ) (i : ℕ) where
+  equal_inside : (k : ℕ) → k < i → same_ty (type_of (tables_of s S) k) (type_of (tables_of s S) i) ≡ true → bucket_of (tables_of s S) k ≡ bucket_of (tables_of s S) i
+  unfolding bucket_of
+  equal_inside k l e = ap (chain_of (tables_of s S)) (same_sound _ _ e)
+
+  pub equal_leads : (b : ℕ) → b ≡ bucket_of (tables_of s S) i → b < 64 → i < 512 → Chained index (tables_of s S) i → Leads index (2048 + b) 1536 (equal_way s S i)
+  equal_leads b eb l low C = record {
+    heads = 2048;
+    buckets = 64;
+    low = rw (← eb) l;
+    place = ap (λ g. 2048 + g) eb;
+    chains = C.chains;
+    inside = equal_inside;
+    there = omega (arith, C.long);
+    room = omega (arith, C.long);
+  }
+
+  pub equal_found : (j e : ℕ) → LastPasses (equal_way s S i) j → e ≡ get_or index j 0 → Indexed index (tables_of s S) i → e ≡ first_below i (λ k. same_ty (type_of (tables_of s S) k) (type_of (tables_of s S) i))
   unfolding lowest_entry
-  equal_found w l t e et f ee I =
-      ee ∙ I.lowest (after - 1) (omega (arith, w.most)) ∙ first-equal (type_of (tables_of s S)) (after - 1) i (same_sound _ _ (sym et ∙ f))
+  equal_found j e f ee I = ee ∙ I.lowest j f.below ∙ first-equal (type_of (tables_of s S)) j i (same_sound _ _ f.passes)
 
-  module _ (C : Chained index (tables_of s S) i) where
-    equal_inside : (k : ℕ) → k < i → same_ty (type_of (tables_of s S) k) (type_of (tables_of s S) i) ≡ true → bucket_of (tables_of s S) k ≡ bucket_of (tables_of s S) i
-    unfolding bucket_of
-    equal_inside k l e = ap (chain_of (tables_of s S)) (same_sound _ _ e)
-
-    pub equal_starts : (b : ℕ) → b ≡ bucket_of (tables_of s S) i → b < 64 → after ≡ get_or index (2048 + b) 0 → EqualWalk (tables_of s S) i after
-    equal_starts b eb l e = walk_starts _ _ _ i equal_inside C.chains (2048 + b) after (rw (← eb) l) (ap (λ g. 2048 + g) eb) e
-
-    module _ (w : EqualWalk (tables_of s S) i after) (l : 0 < after) (n : ℕ) (en : n ≡ get_or index (1536 + (after - 1)) 0) where
-      pub equal_falls : n < after
-      equal_falls = walk_falls _ _ _ i equal_inside C.chains _ after n w l refl en
-
-      pub equal_on : (t : Bool) → t ≡ same_ty (type_of (tables_of s S) (after - 1)) (type_of (tables_of s S) i) → t ≡ false → EqualWalk (tables_of s S) i n
-      equal_on t et f = walk_on _ _ _ i equal_inside C.chains _ after n w l refl en (λ e. false≢true (sym f ∙ et ∙ e))
-
-pub equal_ends : (T : Tables) (i after : ℕ) → EqualWalk T i after → after ≤ 0 → i ≡ first_below i (λ k. same_ty (type_of T k) (type_of T i))
-equal_ends T i after w l = sym (first_nowhere _ i (λ k. w.none k (omega arith)))
+  pub equal_nowhere : NonePasses (equal_way s S i) → i ≡ first_below i (λ k. same_ty (type_of (tables_of s S) k) (type_of (tables_of s S) i))
+  equal_nowhere n = sym (first_nowhere _ i (λ k l e. false≢true (sym (n k l) ∙ e)))
 
 -- what the four stores of a type keep
 module _ (T : Tables) (index : List ℕ) (i e r m w : ℕ) (C : Chained index T i) (low : i < 512) where
@@ -187,22 +195,20 @@ module _ (s : List ℕ) (S : Sections) (i k : ℕ) (R : GoodTables s S) (h : i <
     base_chained C = one_chained s S index index' i i S.structs 1 k true R h is C (ek ∙ bucket_base s S i R h (omega (arith, own, four))) base_low
 
 -- no type yet
-pub cleared_none : (index : List ℕ) → Cleared index 0
-cleared_none index = record { heads = λ h l. absurd (not-suc-le-zero l) }
-
-pub cleared_more : (index index₀ : List ℕ) (n : ℕ) → n < 64 → length index ≡ length index₀ → 2624 ≤ length index₀ → Cleared index n → Cleared (set index (2048 + n) 0) (n + 1)
-cleared_more index index₀ n l same long c = record {
-  heads = below_more
-      (λ h. get_or (set index (2048 + n) 0) (2048 + h) 0 ≡ 0)
-      n
-      (λ h k. get_or-set_other index (2048 + n) (2048 + h) 0 0 (λ x. omega arith) ∙ c.heads h k)
-      (get_or-set_same index (2048 + n) 0 0 (omega arith));
-}
-
-pub cleared_all : (index : List ℕ) (n : ℕ) → n ≤ 64 → 64 ≤ n → Cleared index n → Cleared index 64
-cleared_all index n h k c =
-    let e : n ≡ 64 = omega arith in
-    rw e at c
+pub cleared_all : (index part : List ℕ) → 2624 ≤ length index → part ≡ replicate (length (take 64 (drop 2048 index))) 0 → Cleared (put_mid 2048 64 index part) 64
+cleared_all index part long e =
+    let before : length (take 2048 index) ≡ 2048 = length-take-le 2048 index (omega arith) in
+    let rest : 64 ≤ length (drop 2048 index) = simp length-drop (omega arith) in
+    let zeros : part ≡ replicate 64 0 = e ∙ ap (λ n. replicate n 0) (length-take-le 64 (drop 2048 index) rest) in
+    let many : length part ≡ 64 = ap length zeros ∙ length-replicate {A = ℕ} 64 0 in
+    record {
+      heads = λ h l.
+          get_or-append_right (take 2048 index) (part ++ post_of 2048 64 index) 2048 (2048 + h) 0 before (omega arith)
+          ∙ ap (λ k. get_or (part ++ post_of 2048 64 index) k 0) (omega arith)
+          ∙ get_or_append_left part (post_of 2048 64 index) 0 h (omega arith)
+          ∙ ap (λ x. get_or x h 0) zeros
+          ∙ get_or-replicate 64 h 0 0 l;
+    }
 
 pub chained_none : (index : List ℕ) (T : Tables) → 2624 ≤ length index → Cleared index 64 → Chained index T 0
 chained_none index T h c = record { long = h; chains = chains_none c.heads }

@@ -7,6 +7,7 @@ use Prim.Native.Nat.{ℕ, zero, suc, ◌+◌, ◌≤◌, ◌<◌}
 use native.Mathlib.Nat.{add-zero}
 use native.Mathlib.Omega.{arith}
 use lib.Dec.{ltb}
+use Rattle.std.specs.List.{list_all, range_with_len}
 use borrow.Author.Tests.{not-true, not-false}
 use Rattle.oat.specs.Basics.{pick, all_below}
 use Rattle.oat.specs.Tables.{Tables, type_at, entry_at}
@@ -20,27 +21,18 @@ use Rattle.file_sections.specs.declared.Sections.{Sections}
 use Rattle.file_sections.specs.Layout.{tables_of, GoodTables}
 use Rattle.file_sections.proofs.LawsRecords.{structs_long}
 use Rattle.type_index.specs.Index.{declared, record_of, formed_entry, params_formed, Indexed}
-use Rattle.type_index.proofs.LawsIndex.{loop_fails, loop_goes, loop_done, none_tested, lookup_is}
-use Rattle.type_index.proofs.LawsSameTypes.{all_front, all_same, on_base, kind_is, array_kept, function_kept, nullable_kept}
+use Rattle.type_index.proofs.LawsIndex.{none_tested, lookup_is}
+use Rattle.type_index.proofs.LawsSameTypes.{all_front, all_same, all_listed, on_base, kind_is, array_kept, function_kept, nullable_kept}
 
--- a loop over parameters
+-- the walk over parameters
 module _ (index : List ℕ) (T : Tables) (first : ℕ) where
-  pub none_formed : params_formed index T first 0 ≡ true
+  -- a parameter is well-formed, as the index has it
+  abbrev pub formed_param : ℕ → Bool
+  formed_param j = formed_entry index (entry_at T (first + j))
+
+  pub formed_walked : (count : ℕ) (u : Bool) → u ≡ list_all formed_param (range_with_len 0 count) → u ≡ params_formed index T first count
   unfolding params_formed
-  none_formed = none_tested _
-
-  pub all_formed : (count j : ℕ) → j ≤ count → count ≤ j → params_formed index T first j ≡ true → true ≡ params_formed index T first count
-  unfolding params_formed
-  all_formed count j h k a = loop_done count _ j h k a
-
-  module _ (j x : ℕ) (t : Bool) (ex : x ≡ entry_at T (first + j)) (et : t ≡ formed_entry index x) where
-    pub param_unformed : (count : ℕ) → j < count → not t ≡ true → false ≡ params_formed index T first count
-    unfolding params_formed
-    param_unformed count h f = loop_fails count _ j t h f (et ∙ rw ex)
-
-    pub more_formed : params_formed index T first j ≡ true → not t ≡ false → params_formed index T first (j + 1) ≡ true
-    unfolding params_formed
-    more_formed a f = loop_goes 0 _ j t a f (et ∙ rw ex)
+  formed_walked count u e = e ∙ all_listed formed_param count 0 ∙ all_same count _ _ (λ j l. ap formed_param (omega arith))
 
 -- a type that isn't void is well-formed as a value where it is as a return type; one that may be null, as a reference too
 module _ (H : List Struct) where
@@ -146,11 +138,11 @@ module _ (s : List ℕ) (S : Sections) (i : ℕ) where
           ∙ all_same (type_at (tables_of s S) i).c _ _ (λ j m. I.formed _ (F.parameter j m).lower)
           ∙ sym (all_written (declared (tables_of s S)) (tables_of s S) _ _ (λ j m e. (F.parameter j m).value (sym (kind_is s S R _ (omega (arith, (F.parameter j m).lower))) ∙ e)))
 
-      pub unformed_params : not u ≡ true → false ≡ is_formed (declared (tables_of s S)) (type_of (tables_of s S) i)
-      unformed_params n = sym (function_is ∙ and_left _ _ (sym params_are ∙ not-true u n))
+      pub unformed_params : u ≡ false → u ≡ is_formed (declared (tables_of s S)) (type_of (tables_of s S) i)
+      unformed_params n = n ∙ sym (function_is ∙ and_left _ _ (sym params_are ∙ n))
 
-      pub formed_function : (x : ℕ) (r : Bool) → not u ≡ false → x ≡ (type_at (tables_of s S) i).a → r ≡ formed_entry index x → r ≡ is_formed (declared (tables_of s S)) (type_of (tables_of s S) i)
+      pub formed_function : (x : ℕ) (r : Bool) → u ≡ true → x ≡ (type_at (tables_of s S) i).a → r ≡ formed_entry index x → r ≡ is_formed (declared (tables_of s S)) (type_of (tables_of s S) i)
       formed_function x r n ex er =
           formed_at _ r (function_kept s S R i h k).returns (er ∙ ap (formed_entry index) ex)
-          ∙ ap (λ z. z && is_formed (declared (tables_of s S)) (type_of (tables_of s S) (type_at (tables_of s S) i).a)) (sym (not-false u n) ∙ params_are)
+          ∙ ap (λ z. z && is_formed (declared (tables_of s S)) (type_of (tables_of s S) (type_at (tables_of s S) i).a)) (sym n ∙ params_are)
           ∙ sym function_is

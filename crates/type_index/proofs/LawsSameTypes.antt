@@ -9,6 +9,7 @@ use native.Mathlib.Nat.{add-zero}
 use native.Mathlib.Omega.{arith}
 use lib.ListN.{length}
 use lib.Dec.{eqb, ltb}
+use Rattle.std.specs.List.{list_all, range_with_len}
 use borrow.Author.Tests.{ltb-true, ltb-false, not-true, not-false}
 use Rattle.oat.specs.Basics.{pick, all_below}
 use Rattle.oat.specs.Tables.{Tables, type_at, entry_at}
@@ -23,7 +24,7 @@ use Rattle.file_sections.specs.declared.Sections.{Sections}
 use Rattle.file_sections.specs.Layout.{tables_of, GoodTables}
 use Rattle.file_sections.proofs.LawsRecords.{types_long, list_long}
 use Rattle.type_index.specs.Index.{lowest_entry, same_params, Entered, Indexed, Listed, Operand, Parameters}
-use Rattle.type_index.proofs.LawsIndex.{loop_fails, loop_goes, loop_done, none_tested, entries_same}
+use Rattle.type_index.proofs.LawsIndex.{none_tested, entries_same}
 
 -- all from the first on, and tests that agree
 pub all_front : (n : ℕ) (p : ℕ → Bool) → all_below (suc n) p ≡ (p 0 && all_below n (λ j. p (suc j)))
@@ -39,6 +40,13 @@ pub all_same : (n : ℕ) (p q : ℕ → Bool) → ((j : ℕ) → j < n → p j �
 unfolding all_below
 all_same zero p q h = refl
 all_same (suc n) p q h = ap₂ (λ a b. a && b) (all_same n p q (λ j l. h j (omega arith))) (h n (omega arith))
+
+-- all, as a list of the numbers from a on has it
+pub all_listed : (p : ℕ → Bool) (n a : ℕ) → list_all p (range_with_len a n) ≡ all_below n (λ j. p (a + j))
+all_listed p zero a = sym (none_tested _)
+all_listed p (suc n) a =
+    ap₂ (λ x y. p x && y) (sym (add-zero a)) (all_listed p n (a + 1) ∙ all_same n _ _ (λ j l. ap p (omega arith)))
+    ∙ sym (all_front n (λ j. p (a + j)))
 
 -- parameters one by one
 sames_written : (T : Tables) (count p q : ℕ) → same_tys (written_params (type_of T) T p count) (written_params (type_of T) T q count) ≡ all_below count (λ j. same_ty (type_of T (entry_at T (p + j))) (type_of T (entry_at T (q + j))))
@@ -174,27 +182,18 @@ module _ (s : List ℕ) (S : Sections) (a b j k : ℕ) (R : GoodTables s S) (l :
           let q = (nullable_kept s S R b h (omega arith)).lower in
           rw (type_nullable (tables_of s S) a (omega arith) p, type_nullable (tables_of s S) b (omega arith) q) (er ∙ entries_same I _ _ (omega arith) q)
 
--- a loop over parameters
+-- the walk over parameters
 module _ (index : List ℕ) (T : Tables) (p q : ℕ) where
-  pub no_params : same_params index T p q 0 ≡ true
-  unfolding same_params
-  no_params = none_tested _
-
   pub params_from : (m n count : ℕ) (u : Bool) → m ≡ p → n ≡ q → u ≡ same_params index T m n count → u ≡ same_params index T p q count
   params_from m n count u em en e = e ∙ rw (em, en)
 
-  pub params_done : (count j : ℕ) → j ≤ count → count ≤ j → same_params index T p q j ≡ true → true ≡ same_params index T p q count
+  -- two parameters are equal, as the index has it
+  abbrev pub same_param : ℕ → Bool
+  same_param j = eqb (lowest_entry index (entry_at T (p + j))) (lowest_entry index (entry_at T (q + j)))
+
+  pub params_walked : (count : ℕ) (u : Bool) → u ≡ list_all same_param (range_with_len 0 count) → u ≡ same_params index T p q count
   unfolding same_params
-  params_done count j h k a = loop_done count _ j h k a
-
-  module _ (j x y : ℕ) (t : Bool) (ex : x ≡ entry_at T (p + j)) (ey : y ≡ entry_at T (q + j)) (et : t ≡ eqb (lowest_entry index x) (lowest_entry index y)) where
-    pub param_differs : (count : ℕ) → j < count → not t ≡ true → false ≡ same_params index T p q count
-    unfolding same_params
-    param_differs count h f = loop_fails count _ j t h f (et ∙ rw (ex, ey))
-
-    pub params_more : same_params index T p q j ≡ true → not t ≡ false → same_params index T p q (j + 1) ≡ true
-    unfolding same_params
-    params_more a f = loop_goes 0 _ j t a f (et ∙ rw (ex, ey))
+  params_walked count u e = e ∙ all_listed same_param count 0 ∙ all_same count _ _ (λ j l. ap same_param (omega arith))
 
 -- the index has places for the entries of a parameter
 pub in_list : (s : List ℕ) (S : Sections) (index : List ℕ) (first count j x : ℕ) → Listed s S first count → j < count → x ≡ entry_at (tables_of s S) (first + j) → 2624 ≤ length index → Entered index x
@@ -291,12 +290,12 @@ module _ (s : List ℕ) (S : Sections) (a b : ℕ) (R : GoodTables s S) (l : a <
         ∙ params_same index (tables_of s S) b _ _ count I (λ j m. omega (arith, (F.parameter j (omega arith)).lower)) (λ j m. (G.parameter j (omega arith)).lower)
         ∙ ap₂ same_tys (ap (written_params (type_of (tables_of s S)) (tables_of s S) (type_at (tables_of s S) a).b) ec) (ap (written_params (type_of (tables_of s S)) (tables_of s S) (type_at (tables_of s S) b).b) (d ∙ en))
 
-    pub params_apart : not u ≡ true → false ≡ same_ty (type_of (tables_of s S) a) (type_of (tables_of s S) b)
-    params_apart f = sym (same_function ∙ and_left _ _ (sym params_is ∙ not-true u f))
+    pub params_apart : u ≡ false → u ≡ same_ty (type_of (tables_of s S) a) (type_of (tables_of s S) b)
+    params_apart f = f ∙ sym (same_function ∙ and_left _ _ (sym params_is ∙ f))
 
-    pub function_rest : (r : Bool) → not u ≡ false → r ≡ eqb (lowest_entry index (type_at (tables_of s S) a).a) (lowest_entry index (type_at (tables_of s S) b).a) → r ≡ same_ty (type_of (tables_of s S) a) (type_of (tables_of s S) b)
+    pub function_rest : (r : Bool) → u ≡ true → r ≡ eqb (lowest_entry index (type_at (tables_of s S) a).a) (lowest_entry index (type_at (tables_of s S) b).a) → r ≡ same_ty (type_of (tables_of s S) a) (type_of (tables_of s S) b)
     function_rest r f er =
         er
         ∙ entries_same I _ _ (omega (arith, (function_kept s S R a (omega arith) ka).returns)) (function_kept s S R b h kb).returns
-        ∙ ap (λ z. z && same_ty (type_of (tables_of s S) (type_at (tables_of s S) a).a) (type_of (tables_of s S) (type_at (tables_of s S) b).a)) (sym (not-false u f) ∙ params_is)
+        ∙ ap (λ z. z && same_ty (type_of (tables_of s S) (type_at (tables_of s S) a).a) (type_of (tables_of s S) (type_at (tables_of s S) b).a)) (sym f ∙ params_is)
         ∙ sym same_function

@@ -6,11 +6,5 @@ pub fn entry(numbers: &[u16], i: usize) -> usize
     requires { i < length numbers.now }
     ensures { (result ≡ get_or numbers.now i 0) × (result < 65536) }
 {
-    wide(numbers[i])
-}
-
-fn wide(x: u16) -> usize
-    ensures { (result ≡ x) × (result < 65536) }
-{
-    x as usize
+    usize::from(numbers[i])
 }

@@ -32,14 +32,7 @@ fn params_formed(file: &[u8], sections: Sections, index: &[u16], first: usize, c
     requires { Listed file.now sections first count × (2624 ≤ length index.now) }
     ensures { result ≡ params_formed index.now (tables_of file.now sections) first count }
 {
-    let mut j = 0;
-    while j < count {
-        if !is_formed(index, list_entry(file, sections, first + j)) {
-            return false;
-        }
-        j += 1;
-    }
-    true
+    (0..count).all(|j| is_formed(index, list_entry(file, sections, first + j)))
 }
 
 // The function type i is well-formed, where lower types are indexed.
@@ -48,14 +41,8 @@ pub fn function_formed(file: &[u8], sections: Sections, index: &[u16], i: usize)
     requires i_value { kind_at (tables_of file.now sections) i ≡ 6 }
     ensures { result ≡ is_formed (declared (tables_of file.now sections)) (type_of (tables_of file.now sections) i) }
 {
-    if !params_formed(
-        file,
-        sections,
-        index,
-        type_b(file, sections, i),
-        type_c(file, sections, i),
-    ) {
-        return false;
-    }
-    is_formed(index, type_a(file, sections, i))
+    let first = type_b(file, sections, i);
+    let count = type_c(file, sections, i);
+    params_formed(file, sections, index, first, count)
+        && is_formed(index, type_a(file, sections, i))
 }

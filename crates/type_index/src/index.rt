@@ -16,16 +16,6 @@ use crate::same::{function_bucket, lowest_function, lowest_holder, lowest_struct
 use file_sections::Sections;
 use file_sections::records::{type_a, type_kind};
 
-// 1 where the test passes, else 0.
-fn mark(test: bool) -> u16
-    ensures { result ≡ pick test 1 0 }
-{
-    if test {
-        return 1;
-    }
-    0
-}
-
 // Puts the type i first in its chain.
 fn link(index: &mut [u16], i: usize, bucket: usize)
     requires { (2624 ≤ length index.old) × (i < 512) × (bucket < 64) }
@@ -49,7 +39,7 @@ fn enter(
 {
     index[i] = lowest as u16;
     index[512 + i] = named as u16;
-    index[1024 + i] = mark(formed);
+    index[1024 + i] = u16::from(formed);
     index[2112 + i] = parts as u16;
     link(index, i, bucket);
 }
@@ -125,11 +115,7 @@ fn clear(index: &mut [u16])
     requires { 2624 ≤ length index.old }
     ensures { Cleared index.new 64 }
 {
-    let mut h = 0;
-    while h < 64 {
-        index[2048 + h] = 0;
-        h += 1;
-    }
+    index[2048..2112].fill(0);
 }
 
 // The entries of every type, where the struct records are chained.
@@ -138,10 +124,8 @@ fn index_each(file: &[u8], sections: Sections, records: &[u16], index: &mut [u16
     ensures { Indexed index.new (tables_of file.now sections) sections.types }
 {
     clear(&mut *index);
-    let mut i = 0;
-    while i < sections.types {
+    for i in 0..sections.types {
         index_one(file, sections, records, &mut *index, i);
-        i += 1;
     }
 }
 

@@ -7,3 +7,4 @@ pub mod index;
 pub mod parts;
 mod records;
 pub mod same;
+mod walk;

@@ -30,13 +30,9 @@ pub fn params_parts(
     requires { Listed file.now sections first count × (2624 ≤ length index.now) }
     ensures { (result ≡ params_parts index.now (tables_of file.now sections) first count) × (result ≤ 65535 * count) }
 {
-    let mut sum: usize = 0;
-    let mut j = 0;
-    while j < count {
-        sum += parts_of(index, list_entry(file, sections, first + j));
-        j += 1;
-    }
-    sum
+    (0..count)
+        .map(|j| parts_of(index, list_entry(file, sections, first + j)))
+        .sum()
 }
 
 // The parts of the function type i, where lower types are indexed.

@@ -6,7 +6,7 @@ ghost use Rattle.file_sections.specs.Layout.{Laid, tables_of};
 ghost use Rattle.type_index.specs.Index.{record_of};
 ghost use Rattle.type_index.specs.Records.{Recorded, RecordsFresh};
 
-use crate::entries::entry;
+use crate::walk::last_where;
 use chains::link;
 use file_sections::Sections;
 use file_sections::records::struct_name;
@@ -16,11 +16,9 @@ pub fn chain_records(file: &[u8], sections: Sections, records: &mut [u16])
     requires { RecordsFresh file.now sections records.old }
     ensures { Recorded records.new (tables_of file.now sections) sections.structs }
 {
-    let mut k = 0;
-    while k < sections.structs {
+    for k in 0..sections.structs {
         let name = struct_name(file, sections, sections.structs - 1 - k);
         link(records, name % 64, 64 + k, k + 1);
-        k += 1;
     }
 }
 
@@ -29,13 +27,14 @@ pub fn record_of(file: &[u8], sections: Sections, records: &[u16], name: usize) 
     requires { Laid file.now sections × Recorded records.now (tables_of file.now sections) sections.structs }
     ensures { result ≡ record_of (tables_of file.now sections) name }
 {
-    let mut after = entry(records, name % 64);
-    while 0 < after {
-        let i = sections.structs - after;
-        if struct_name(file, sections, i) == name {
-            return i;
-        }
-        after = entry(records, 63 + after);
+    let found = last_where(
+        records,
+        name % 64,
+        64,
+        |k| struct_name(file, sections, sections.structs - 1 - k) == name,
+    );
+    match found {
+        Some(k) => sections.structs - 1 - k,
+        None => sections.structs,
     }
-    sections.structs
 }

@@ -10,6 +10,7 @@ ghost use Rattle.file_sections.specs.Layout.{Laid, tables_of, GoodTables};
 ghost use Rattle.type_index.specs.Index.{first_below, lowest_entry, same_params, bucket_of, Chained, Entered, Indexed, Listed, Operand, Parameters};
 
 use crate::entries::entry;
+use crate::walk::last_where;
 use file_sections::Sections;
 use file_sections::records::{list_entry, type_a, type_b, type_c, type_kind};
 
@@ -41,18 +42,11 @@ fn same_params(
     requires { Listed file.now sections p count × Listed file.now sections q count × (2624 ≤ length index.now) }
     ensures { result ≡ same_params index.now (tables_of file.now sections) p q count }
 {
-    let mut j = 0;
-    while j < count {
-        if !same(
-            index,
-            list_entry(file, sections, p + j),
-            list_entry(file, sections, q + j),
-        ) {
-            return false;
-        }
-        j += 1;
-    }
-    true
+    (0..count).all(|j| same(
+        index,
+        list_entry(file, sections, p + j),
+        list_entry(file, sections, q + j),
+    ))
 }
 
 // The `count` parameters of two function types are equal, one by one.
@@ -87,13 +81,9 @@ fn same_signatures(file: &[u8], sections: Sections, index: &[u16], a: usize, b: 
     ensures { result ≡ same_ty (type_of (tables_of file.now sections) a) (type_of (tables_of file.now sections) b) }
 {
     let count = type_c(file, sections, a);
-    if count != type_c(file, sections, b) {
-        return false;
-    }
-    if !same_parameters(file, sections, index, a, b, count) {
-        return false;
-    }
-    same_operands(file, sections, index, a, b)
+    count == type_c(file, sections, b)
+        && same_parameters(file, sections, index, a, b, count)
+        && same_operands(file, sections, index, a, b)
 }
 
 // Two types are equal, the second a struct type.
@@ -102,10 +92,7 @@ fn same_struct(file: &[u8], sections: Sections, a: usize, b: usize) -> bool
     requires b_value { kind_at (tables_of file.now sections) b ≡ 4 }
     ensures { result ≡ same_ty (type_of (tables_of file.now sections) a) (type_of (tables_of file.now sections) b) }
 {
-    if type_kind(file, sections, a) != 4 {
-        return false;
-    }
-    type_a(file, sections, a) == type_a(file, sections, b)
+    type_kind(file, sections, a) == 4 && type_a(file, sections, a) == type_a(file, sections, b)
 }
 
 // Two types are equal, the second a holder of this kind, where lower types are indexed.
@@ -121,10 +108,7 @@ fn same_holder(
     requires b_value { (kind_at (tables_of file.now sections) b ≡ kind) × ((kind ≡ 5) ⊎ (kind ≡ 7)) }
     ensures { result ≡ same_ty (type_of (tables_of file.now sections) a) (type_of (tables_of file.now sections) b) }
 {
-    if type_kind(file, sections, a) != kind {
-        return false;
-    }
-    same_operands(file, sections, index, a, b)
+    type_kind(file, sections, a) == kind && same_operands(file, sections, index, a, b)
 }
 
 // Two types are equal, the second a function type, where lower types are indexed.
@@ -133,10 +117,7 @@ fn same_function(file: &[u8], sections: Sections, index: &[u16], a: usize, b: us
     requires b_value { kind_at (tables_of file.now sections) b ≡ 6 }
     ensures { result ≡ same_ty (type_of (tables_of file.now sections) a) (type_of (tables_of file.now sections) b) }
 {
-    if type_kind(file, sections, a) != 6 {
-        return false;
-    }
-    same_signatures(file, sections, index, a, b)
+    type_kind(file, sections, a) == 6 && same_signatures(file, sections, index, a, b)
 }
 
 // The lowest number of a type equal to the struct type i, where lower types are indexed and chained, and i belongs to the bucket.
@@ -152,15 +133,15 @@ pub fn lowest_struct(
     requires i_value { kind_at (tables_of file.now sections) i ≡ 4 }
     ensures { result ≡ first_below i (λ j. same_ty (type_of (tables_of file.now sections) j) (type_of (tables_of file.now sections) i)) }
 {
-    let mut after = entry(index, 2048 + bucket);
-    while 0 < after {
-        let j = after - 1;
-        if same_struct(file, sections, j, i) {
-            return entry(index, j);
-        }
-        after = entry(index, 1536 + j);
+    match last_where(
+        index,
+        2048 + bucket,
+        1536,
+        |j| same_struct(file, sections, j, i),
+    ) {
+        Some(j) => entry(index, j),
+        None => i,
     }
-    i
 }
 
 // The lowest number of a type equal to the holder i, of this kind, where lower types are indexed and chained, and i belongs to the bucket.
@@ -177,15 +158,15 @@ pub fn lowest_holder(
     requires i_value { (kind_at (tables_of file.now sections) i ≡ kind) × ((kind ≡ 5) ⊎ (kind ≡ 7)) }
     ensures { result ≡ first_below i (λ j. same_ty (type_of (tables_of file.now sections) j) (type_of (tables_of file.now sections) i)) }
 {
-    let mut after = entry(index, 2048 + bucket);
-    while 0 < after {
-        let j = after - 1;
-        if same_holder(file, sections, index, j, i, kind) {
-            return entry(index, j);
-        }
-        after = entry(index, 1536 + j);
+    match last_where(
+        index,
+        2048 + bucket,
+        1536,
+        |j| same_holder(file, sections, index, j, i, kind),
+    ) {
+        Some(j) => entry(index, j),
+        None => i,
     }
-    i
 }
 
 // The bucket of the function type i, by its return type and its number of parameters, where lower types are indexed.
@@ -211,13 +192,13 @@ pub fn lowest_function(
     requires i_value { kind_at (tables_of file.now sections) i ≡ 6 }
     ensures { result ≡ first_below i (λ j. same_ty (type_of (tables_of file.now sections) j) (type_of (tables_of file.now sections) i)) }
 {
-    let mut after = entry(index, 2048 + bucket);
-    while 0 < after {
-        let j = after - 1;
-        if same_function(file, sections, index, j, i) {
-            return entry(index, j);
-        }
-        after = entry(index, 1536 + j);
+    match last_where(
+        index,
+        2048 + bucket,
+        1536,
+        |j| same_function(file, sections, index, j, i),
+    ) {
+        Some(j) => entry(index, j),
+        None => i,
     }
-    i
 }

@@ -1,20 +1,15 @@
--- `formed::params_formed` meets its contract. The loop keeps: every parameter passed is well-formed. Assumes nothing.
+-- `formed::params_formed` meets its contract. Assumes nothing.
+use mathlib.Core.Path.{refl}
+use native.Mathlib.Omega.{arith}
 use borrow.Author.Rules.{rules}
-use Rattle.type_index.proofs.LawsSameTypes.{in_list}
-use Rattle.type_index.proofs.LawsFormedTypes.{none_formed, param_unformed, more_formed, all_formed}
+use borrow.Author.Tests.{tests}
+use Rattle.std.proofs.lemmas.Iterator.{YieldsList-from_range}
+use Rattle.std.proofs.lemmas.Iterator.Search.{all_from_yields_List}
+use Rattle.file_sections.specs.Layout.{tables_of}
+use Rattle.type_index.proofs.LawsFormedTypes.{formed_param, formed_walked}
 use Rattle.type_index.proofs.formed.params_formed.Goals as goal
 
-pub loop-j-init : goal.loop-j-init
-loop-j-init c = (search rules, search (none_formed, rules))
-
-pub is_formed-requires : goal.is_formed-requires
-is_formed-requires c = search (in_list, rules)
-
-pub returns-then-not-is_formed : goal.returns-then-not-is_formed
-returns-then-not-is_formed c = search (param_unformed, rules)
-
-pub loop-j-preserved : goal.loop-j-preserved
-loop-j-preserved c = (search rules, search (more_formed, rules))
-
 pub returns : goal.returns
-returns c = search (all_formed, rules)
+returns c =
+    let T = tables_of c.args.file.now c.args.sections in
+    formed_walked _ _ _ _ _ (all_from_yields_List (formed_param c.args.index.now T c.args.first) _ _ c.all.result c.all.ensures.ran (YieldsList-from_range 0 c.args.count c.args.count refl (omega arith)) (λ x b q k. search (rules, tests)))

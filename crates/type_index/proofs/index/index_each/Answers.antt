@@ -5,7 +5,7 @@ use Rattle.type_index.proofs.LawsChains.{chained_none}
 use Rattle.type_index.proofs.index.index_each.Goals as goal
 
 pub loop-i-init : goal.loop-i-init
-loop-i-init c = (search rules, indexed_none _ _ (search rules), chained_none _ _ (search rules) (search rules), search rules)
+loop-i-init c = (indexed_none _ _ (search rules), chained_none _ _ (search rules) (search rules), search rules)
 
 pub returns : goal.returns
 returns c = search (indexed_all, rules)

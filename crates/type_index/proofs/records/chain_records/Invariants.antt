@@ -1,13 +1,9 @@
 -- `records::chain_records` meets its contract. The loop keeps: the last k records are chained. Assumes nothing.
 use mathlib.Core.Path.{◌≡◌}
-use Prim.Native.Nat.{◌-◌, ◌≤◌}
 use lib.ListN.{length}
 use Rattle.file_sections.specs.Layout.{tables_of}
 use Rattle.type_index.specs.Records.{Recorded}
 use Rattle.type_index.proofs.records.chain_records.Given as goal
 
 abbrev pub invariant-loop-k : goal.invariant-loop-k
-invariant-loop-k l = (l.k ≤ l.sections.structs) × Recorded l.records (tables_of l.file l.sections) l.k × (length l.records ≡ length l.initial.records)
-
-abbrev pub decreases-loop-k : goal.decreases-loop-k
-decreases-loop-k l = l.sections.structs - l.k
+invariant-loop-k l = Recorded l.records (tables_of l.file l.sections) l.k × (length l.records ≡ length l.initial.records)

@@ -1,10 +1,7 @@
--- `records::record_of` meets its contract. The loop keeps: no record passed has the name, nor one before the next of the chain. Assumes
--- nothing.
-use Rattle.type_index.proofs.LawsRecordChains.{RecordWalk}
+-- `records::record_of` meets its contract. The walk goes by the records, counted from the last. Assumes nothing.
+use Rattle.type_index.proofs.LawsRecordChains.{named_way}
 use Rattle.type_index.proofs.records.record_of.Given as goal
 
-abbrev pub invariant-loop-after : goal.invariant-loop-after
-invariant-loop-after l = RecordWalk l.file l.sections l.name l.after
-
-abbrev pub decreases-loop-after : goal.decreases-loop-after
-decreases-loop-after l = l.after
+-- the test holds the file, its sections and the name
+abbrev pub ghost-last_where : goal.ghost-last_where
+ghost-last_where a = named_way a.test.0.now a.test.1.now a.test.2.now

@@ -1,11 +1,7 @@
--- `same::lowest_holder` meets its contract. The loop keeps: `after` stands on the chain of the type i, and no type passed is equal.
--- Assumes nothing.
-use Rattle.file_sections.specs.Layout.{tables_of}
-use Rattle.type_index.proofs.LawsChains.{EqualWalk}
+-- `same::lowest_holder` meets its contract. The walk goes by the types below i and their buckets. Assumes nothing.
+use Rattle.type_index.proofs.LawsChains.{equal_way}
 use Rattle.type_index.proofs.same.lowest_holder.Given as goal
 
-abbrev pub invariant-loop-after : goal.invariant-loop-after
-invariant-loop-after l = EqualWalk (tables_of l.file l.sections) l.i l.after
-
-abbrev pub decreases-loop-after : goal.decreases-loop-after
-decreases-loop-after l = l.after
+-- the test holds the file, its sections, the index, i and the kind
+abbrev pub ghost-last_where : goal.ghost-last_where
+ghost-last_where a = equal_way a.test.0.now a.test.1.now a.test.3.now

@@ -1,20 +1,15 @@
--- `same::lowest_struct` meets its contract. The loop keeps: `after` stands on the chain of the type i, and no type passed is equal.
--- Assumes nothing.
+-- `same::lowest_struct` meets its contract. Assumes nothing.
+use contract.BorrowLft.{⊑_static}
 use borrow.Author.Rules.{rules}
-use Rattle.type_index.proofs.LawsChains.{equal_starts, equal_found, equal_falls, equal_on, equal_ends}
+use Rattle.type_index.proofs.LawsWalk.{held_more, held_all}
+use Rattle.type_index.proofs.LawsChains.{equal_leads, equal_found, equal_nowhere}
 use Rattle.type_index.proofs.same.lowest_struct.Goals as goal
 
-pub loop-after-init : goal.loop-after-init
-loop-after-init c = search (equal_starts, rules)
+pub last_where-requires : goal.last_where-requires
+last_where-requires c κs within = (held_all _ _ (held_more _ _ _ within.0 (held_more _ _ _ within.1.0 (held_more _ _ _ within.1.1.0 (⊑_static _)))), (search (equal_leads, rules), (search rules, search rules)))
 
-pub returns-then-same_struct : goal.returns-then-same_struct
-returns-then-same_struct c = equal_found _ _ _ _ _ c.loop-after.invariant c.loop-after-test.true _ _ c.same_struct.ensures c.if-same_struct.true c.entry.ensures.0 c.requires.good_tables.2
+pub returns-in-Some : goal.returns-in-Some
+returns-in-Some c = equal_found _ _ _ _ _ _ c.in-Some.ensures c.entry.ensures.0 c.requires.good_tables.2
 
-pub loop-after-smaller : goal.loop-after-smaller
-loop-after-smaller c = search (equal_falls, rules)
-
-pub loop-after-preserved : goal.loop-after-preserved
-loop-after-preserved c = search (equal_on, rules)
-
-pub returns : goal.returns
-returns c = equal_ends _ _ _ c.loop-after.invariant (search rules)
+pub returns-in-None : goal.returns-in-None
+returns-in-None c = equal_nowhere _ _ c.args.index.now _ c.in-None.ensures
