@@ -1,14 +1,13 @@
 -- Laws of well-formed types: a type of a file is well-formed where what it refers to is, which the index has. Assumes nothing.
 use mathlib.Core.Path.{◌≡◌, refl, ap, ap₂, sym, ◌∙◌}
-use mathlib.Core.Bool.{Bool, true, false, not, ◌&&◌, false≢true}
+use mathlib.Core.Bool.{Bool, true, false, ◌&&◌, false≢true}
 use mathlib.Core.List.{List}
 use mathlib.Core.Logic.{◌⊎◌, ⊎_elim}
-use Prim.Native.Nat.{ℕ, zero, suc, ◌+◌, ◌≤◌, ◌<◌}
+use Prim.Native.Nat.{ℕ, zero, suc, ◌+◌, ◌<◌}
 use native.Mathlib.Nat.{add-zero}
 use native.Mathlib.Omega.{arith}
 use lib.Dec.{ltb}
 use Rattle.std.specs.List.{list_all, range_with_len}
-use borrow.Author.Tests.{not-true, not-false}
 use Rattle.oat.specs.Basics.{pick, all_below}
 use Rattle.oat.specs.Tables.{Tables, type_at, entry_at}
 use Rattle.oat.specs.TypeRules.{kind_at, is_reference_kind}

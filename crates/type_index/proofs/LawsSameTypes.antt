@@ -10,7 +10,7 @@ use native.Mathlib.Omega.{arith}
 use lib.ListN.{length}
 use lib.Dec.{eqb, ltb}
 use Rattle.std.specs.List.{list_all, range_with_len}
-use borrow.Author.Tests.{ltb-true, ltb-false, not-true, not-false}
+use borrow.Author.Tests.{ltb-true, ltb-false}
 use Rattle.oat.specs.Basics.{pick, all_below}
 use Rattle.oat.specs.Tables.{Tables, type_at, entry_at}
 use Rattle.oat.specs.TypeRules.{kind_at}
@@ -24,7 +24,7 @@ use Rattle.file_sections.specs.declared.Sections.{Sections}
 use Rattle.file_sections.specs.Layout.{tables_of, GoodTables}
 use Rattle.file_sections.proofs.LawsRecords.{types_long, list_long}
 use Rattle.type_index.specs.Index.{lowest_entry, same_params, Entered, Indexed, Listed, Operand, Parameters}
-use Rattle.type_index.proofs.LawsIndex.{none_tested, entries_same}
+use Rattle.type_index.proofs.LawsIndex.{loop_goes, none_tested, entries_same}
 
 -- all from the first on, and tests that agree
 pub all_front : (n : ℕ) (p : ℕ → Bool) → all_below (suc n) p ≡ (p 0 && all_below n (λ j. p (suc j)))
@@ -194,6 +194,16 @@ module _ (index : List ℕ) (T : Tables) (p q : ℕ) where
   pub params_walked : (count : ℕ) (u : Bool) → u ≡ list_all same_param (range_with_len 0 count) → u ≡ same_params index T p q count
   unfolding same_params
   params_walked count u e = e ∙ all_listed same_param count 0 ∙ all_same count _ _ (λ j l. ap same_param (omega arith))
+
+-- a loop over parameters, that of the first two that are unequal
+module _ (index : List ℕ) (T : Tables) (p q : ℕ) where
+  pub no_params : same_params index T p q 0 ≡ true
+  unfolding same_params
+  no_params = none_tested _
+
+  pub params_more : (j x y : ℕ) (t : Bool) → x ≡ entry_at T (p + j) → y ≡ entry_at T (q + j) → t ≡ eqb (lowest_entry index x) (lowest_entry index y) → same_params index T p q j ≡ true → not t ≡ false → same_params index T p q (j + 1) ≡ true
+  unfolding same_params
+  params_more j x y t ex ey et a f = loop_goes 0 _ j t a f (et ∙ rw (ex, ey))
 
 -- the index has places for the entries of a parameter
 pub in_list : (s : List ℕ) (S : Sections) (index : List ℕ) (first count j x : ℕ) → Listed s S first count → j < count → x ≡ entry_at (tables_of s S) (first + j) → 2624 ≤ length index → Entered index x
