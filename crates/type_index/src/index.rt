@@ -2,7 +2,6 @@
 // of 64 chains. A chain leads from its head through the types of one bucket, the latest first: the head, and the number 1536 + j of each type
 // j on it, is one higher than the type that it leads to, 0 for none.
 ghost use Rattle.std.specs.Prelude.{◌≡◌, ◌⊎◌, ◌+◌, ◌<◌, ◌≤◌, length};
-ghost use Rattle.oat.specs.Basics.{pick};
 ghost use Rattle.oat.specs.TypeRules.{kind_at};
 ghost use Rattle.file_sections.specs.Layout.{tables_of, GoodTables};
 ghost use Rattle.type_index.specs.Index.{linking, entering, Chained, Cleared, Indexed};
