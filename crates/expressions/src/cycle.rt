@@ -1,5 +1,6 @@
 // The cycle of expressions: a dispatcher by node kind, one by operator, a function for each rule, and those for a list of
-// expressions and for field initializers. The remaining nodes fall.
+// expressions and for field initializers. The remaining nodes fall. Kinds of nodes and of types are numbers, and `let .. else` hands a
+// child's refusal up unchanged: document 01's form.
 ghost use Rattle.std.specs.Prelude.{◌≡◌, true, false, ◌+◌, ◌<◌};
 ghost use Rattle.oat.specs.Tables.{node_at};
 ghost use Rattle.typing_rules.specs.Operators.{is_equality, operand_type, result_type};
@@ -100,7 +101,7 @@ fn inits(
         holds: true,
         pairs: 0,
     };
-    for i in 0..count {
+    for _passed in 0..count {
         let one = expression(
             frame,
             walk,
@@ -112,6 +113,7 @@ fn inits(
         let Judgement::Typed(t) = one.judgement else {
             return one;
         };
+        // 65535 for no binder, as rows are for C.
         row(walk.rows, here.node, t, 65535);
         let named = node_x(file.bytes, file.sections, here.node);
         asked = still_fits(file, asked, t, owner, named);

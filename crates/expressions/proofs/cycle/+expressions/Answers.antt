@@ -317,41 +317,41 @@ pub index_expression-returns-clause-told : goal.index_expression-returns-clause-
 index_expression-returns-clause-told t c =
     element_ok c.requires.ready c.requires.node_value c.expression-one.ensures.told c.in-Typed.is c.type_kind.ensures.0 c.if-type_kind-ne5.false c.expression-two.ensures.told c.in-Typed-judgement.is c.type_kind-2.ensures.0 c.if-type_kind-ne0.false c.type_a.ensures.0 (element_given c.requires.ready c.requires.node_value c.expression-one.ensures.told c.in-Typed.is c.type_kind.ensures.0 c.if-type_kind-ne5.false c.expression-two.ensures.told c.in-Typed-judgement.is c.type_kind-2.ensures.0 c.type_a.ensures.0) c.typed.ensures.value c.typed.ensures.rows_after
 
-pub inits-loop-i-init : goal.inits-loop-i-init
-inits-loop-i-init t c = record { walked = inits_start c.requires; level = refl; same_buffers = (refl, refl) }
+pub inits-loop-passed-init : goal.inits-loop-passed-init
+inits-loop-passed-init t c = record { walked = inits_start c.requires; level = refl; same_buffers = (refl, refl) }
 
 pub inits-expression-one-requires : goal.inits-expression-one-requires
 inits-expression-one-requires t c =
-    (omega (arith, c.decreases, inits_forward c.requires c.loop-i.invariant.walked, inits_here c.requires c.loop-i.invariant.walked c.loop-i-test.true c.loop-i.invariant.level), inits_ready c.requires c.loop-i.invariant.walked c.loop-i-test.true c.loop-i.invariant.level)
+    (omega (arith, c.decreases, inits_forward c.requires c.loop-passed.invariant.walked, inits_here c.requires c.loop-passed.invariant.walked c.loop-passed-test.true c.loop-passed.invariant.level), inits_ready c.requires c.loop-passed.invariant.walked c.loop-passed-test.true c.loop-passed.invariant.level)
 
 pub inits-returns-in_default-clause-told : goal.inits-returns-in_default-clause-told
-inits-returns-in_default-clause-told t c = inits_child_no c.requires c.loop-i.invariant.walked c.loop-i-test.true c.loop-i.invariant.level c.expression-one.ensures.told (untyped _ c.in_default.not-Typed)
+inits-returns-in_default-clause-told t c = inits_child_no c.requires c.loop-passed.invariant.walked c.loop-passed-test.true c.loop-passed.invariant.level c.expression-one.ensures.told (untyped _ c.in_default.not-Typed)
 
 pub inits-row-requires : goal.inits-row-requires
-inits-row-requires t c = inits_row c.requires c.loop-i.invariant.walked c.loop-i-test.true c.loop-i.invariant.level c.expression-one.ensures.told c.in-Typed.is
+inits-row-requires t c = inits_row c.requires c.loop-passed.invariant.walked c.loop-passed-test.true c.loop-passed.invariant.level c.expression-one.ensures.told c.in-Typed.is
 
 pub inits-node_x-named-requires : goal.inits-node_x-named-requires
-inits-node_x-named-requires t c = has_node c.requires.fine.good_tables (inits_here c.requires c.loop-i.invariant.walked c.loop-i-test.true c.loop-i.invariant.level)
+inits-node_x-named-requires t c = has_node c.requires.fine.good_tables (inits_here c.requires c.loop-passed.invariant.walked c.loop-passed-test.true c.loop-passed.invariant.level)
 
 pub inits-still_fits-asked-requires : goal.inits-still_fits-asked-requires
 inits-still_fits-asked-requires t c =
-    record { type_there = inits_tested c.requires c.loop-i.invariant.walked c.loop-i-test.true c.loop-i.invariant.level c.expression-one.ensures.told c.in-Typed.is; pairs_bound = (inits_counted c.requires c.loop-i.invariant.walked).1 }
+    record { type_there = inits_tested c.requires c.loop-passed.invariant.walked c.loop-passed-test.true c.loop-passed.invariant.level c.expression-one.ensures.told c.in-Typed.is; pairs_bound = (inits_counted c.requires c.loop-passed.invariant.walked).1 }
 
-pub inits-loop-i-preserved : goal.inits-loop-i-preserved
-inits-loop-i-preserved t c = record {
-  walked = inits_again c.requires c.loop-i.invariant.walked c.loop-i-test.true c.loop-i.invariant.level c.expression-one.ensures.told c.in-Typed.is c.row.ensures c.node_x-named.ensures.0 c.still_fits-asked.ensures;
-  level = inits_level c.requires c.loop-i.invariant.walked c.loop-i-test.true c.loop-i.invariant.level c.expression-one.ensures.told c.in-Typed.is;
+pub inits-loop-passed-preserved : goal.inits-loop-passed-preserved
+inits-loop-passed-preserved t c = record {
+  walked = inits_again c.requires c.loop-passed.invariant.walked c.loop-passed-test.true c.loop-passed.invariant.level c.expression-one.ensures.told c.in-Typed.is c.row.ensures c.node_x-named.ensures.0 c.still_fits-asked.ensures;
+  level = inits_level c.requires c.loop-passed.invariant.walked c.loop-passed-test.true c.loop-passed.invariant.level c.expression-one.ensures.told c.in-Typed.is;
   same_buffers = search rules;
 }
 
 pub inits-counting-end-requires : goal.inits-counting-end-requires
-inits-counting-end-requires t c = inits_counted c.requires c.loop-i.invariant.walked
+inits-counting-end-requires t c = inits_counted c.requires c.loop-passed.invariant.walked
 
 pub inits-returns-then-not-asked-clause-told : goal.inits-returns-then-not-asked-clause-told
-inits-returns-then-not-asked-clause-told t c = inits_unfit c.requires c.loop-i.invariant.walked c.loop-i-test.false refl c.loop-i.invariant.level refl c.counting-end.ensures c.if-not-asked.true c.refused.ensures.0
+inits-returns-then-not-asked-clause-told t c = inits_unfit c.requires c.loop-passed.invariant.walked c.loop-passed-test.false refl c.loop-passed.invariant.level refl c.counting-end.ensures c.if-not-asked.true c.refused.ensures.0
 
 pub inits-returns-clause-told : goal.inits-returns-clause-told
-inits-returns-clause-told t c = inits_done c.requires c.loop-i.invariant.walked c.loop-i-test.false refl c.loop-i.invariant.level refl c.counting-end.ensures c.if-not-asked.false c.goes_on.ensures
+inits-returns-clause-told t c = inits_done c.requires c.loop-passed.invariant.walked c.loop-passed-test.false refl c.loop-passed.invariant.level refl c.counting-end.ensures c.if-not-asked.false c.goes_on.ensures
 
 pub length_of-expression-one-requires : goal.length_of-expression-one-requires
 length_of-expression-one-requires t c = (omega (arith, c.decreases, c.requires.ready.within), length_first c.requires.ready c.requires.node_value)

@@ -64,9 +64,9 @@ decreases-struct_literal l = nodes_left l.frame.now l.at 0
 abbrev pub decreases-unary : goal.decreases-unary
 decreases-unary l = nodes_left l.frame.now l.at 0
 
-abbrev pub invariant-inits-loop-i : goal.invariant-inits-loop-i
-invariant-inits-loop-i l = record {
-  walked : WalkedInits l.frame.file.bytes.now l.frame.file.sections l.frame.file.index.now l.frame.base l.fn.at.node l.fn.at.scope l.fn.at.pairs l.fn.walk.rows.now l.fn.walk.bindings.work.now l.count l.owner l.here.node l.here.pairs l.i l.asked l.walk.rows.now l.walk.bindings.work.now l.walk.bindings.chains;
+abbrev pub invariant-inits-loop-passed : goal.invariant-inits-loop-passed
+invariant-inits-loop-passed l = record {
+  walked : WalkedInits l.frame.file.bytes.now l.frame.file.sections l.frame.file.index.now l.frame.base l.fn.at.node l.fn.at.scope l.fn.at.pairs l.fn.walk.rows.now l.fn.walk.bindings.work.now l.count l.owner l.here.node l.here.pairs l._passed l.asked l.walk.rows.now l.walk.bindings.work.now l.walk.bindings.chains;
   level : l.here.scope ≡ l.fn.at.scope;
   same_buffers : SameBuffers l.fn.walk l.walk;
 }
