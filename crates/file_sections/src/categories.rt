@@ -14,7 +14,7 @@ pub enum Category {
     Other,
 }
 
-// The category of a kind.
+// The category of a kind. Kinds are numbers, with ranges: document 01's form.
 pub fn category_of(kind: usize) -> Category
     ensures { result ≡ category_of kind }
 {

@@ -1,4 +1,5 @@
-// Readers of single records, of a file whose sections are laid. Each names the part of the record that it reads.
+// Readers of single records, of a file whose sections are laid. Each names the part of the record that it reads: one function with the part's place as
+// a number would be no plainer, since neither its name nor its contract could say which part it is.
 #![tactic(auto, using(oat::proofs::LawsBasics::tabulate_at), unfolding(crate::specs::Layout::tables_of, crate::specs::Layout::records_at))]
 
 ghost use Rattle.std.specs.Prelude.{◌≡◌, ◌<◌};

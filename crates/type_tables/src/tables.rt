@@ -20,7 +20,6 @@ fn fields_right(file: &[u8], sections: Sections) -> bool
 }
 
 // Every struct begins where the one before ends, and the fields are used up.
-#[tactic(auto, using(oat::proofs::LawsBasics::sum_more, oat::proofs::LawsBasics::all_more, oat::proofs::LawsBasics::all_false, file_sections::proofs::LawsRecords::structs_long, file_sections::proofs::LawsRecords::fields_long), unfolding(oat::specs::TableRules::structs_right, oat::specs::TableRules::struct_rule, oat::specs::TableRules::fields_before))]
 fn structs_right(file: &[u8], sections: Sections) -> bool
     requires { Laid file.now sections }
     ensures { result ≡ structs_right (tables_of file.now sections) }

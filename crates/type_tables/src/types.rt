@@ -1,4 +1,5 @@
-// The rules on types and the type list (number 3).
+// The rules on types and the type list (number 3). Kinds are document 01's numbers (0 int, 1 bool, 2 string, 3 void, 4 struct, 5 array, 6 function,
+// 7 nullable), and an enum would be no plainer: a file's kind is any number of 16 bits, and it is these rules that refuse the others.
 ghost use Rattle.std.specs.Prelude.{◌≡◌, ◌+◌, ◌*◌, ◌<◌, ◌≤◌, length, IfSome};
 ghost use Rattle.oat.specs.Basics.{pick};
 ghost use Rattle.oat.specs.Tables.{type_at};
@@ -88,7 +89,7 @@ fn nullable_parts(file: &[u8], sections: Sections, parts: &[u16], i: usize) -> O
 }
 
 // The parts of `count` parameters of the type i that begin at the entry `first`, or none where one is void or isn't a lower type.
-#[tactic(auto, using(oat::proofs::LawsBasics::all_more, oat::proofs::LawsBasics::all_false, oat::proofs::LawsBasics::sum_more, crate::proofs::LawsParts::lower_below), unfolding(oat::specs::TypeRules::params_right, crate::specs::Parts::param_parts))]
+#[tactic(auto, using(oat::proofs::LawsBasics::sum_more, oat::proofs::LawsBasics::all_more, crate::proofs::LawsParts::lower_below), unfolding(oat::specs::TypeRules::params_right, crate::specs::Parts::param_parts))]
 fn params_parts(
     file: &[u8],
     sections: Sections,
@@ -161,14 +162,13 @@ fn type_parts(
 }
 
 // Every type keeps its rule and has at most `most` parts, and the type list is used up; `parts` is filled.
-#[tactic(auto, using(oat::proofs::LawsBasics::all_more, oat::proofs::LawsBasics::all_false, oat::proofs::LawsBasics::sum_more, crate::proofs::LawsParts::measured_more, file_sections::proofs::LawsRecords::types_long, file_sections::proofs::LawsRecords::list_long), unfolding(oat::specs::TypeRules::each_type_right, crate::specs::Parts::keeps, oat::specs::TypeRules::taken_before))]
 fn each_type(file: &[u8], sections: Sections, parts: &mut [u16], most: usize) -> bool
     requires { Laid file.now sections × (most ≤ 200) × (512 ≤ length parts.old) }
     ensures { result ≡ each_type_right most (tables_of file.now sections) }
 {
     let mut taken = 0;
     for i in 0..sections.types {
-        let Some(own) = type_parts(file, sections, &*parts, i, taken) else {
+        let Some(own) = type_parts(file, sections, parts, i, taken) else {
             return false;
         };
         if most < own {
