@@ -41,9 +41,9 @@ unfolding ask_of
 both_asked s S a b k l q e = rw (types_long s S, lt-leb _ _ k, lt-leb _ _ l) (ap Ok e)
 
 module _ (limits : Limits) (s : List ℕ) (a b : ℕ) (r : Result Sections Unreadable) (e : r ≡ reading_of limits s) where
-  pub not_read : (u : Unreadable) → r ≡ Err u → (f : Refusal) → f ≡ Refusal.Unreadable u → Err f ≡ subtype_of limits s a b
+  pub not_read : (u : Unreadable) → r ≡ Err u → (f : Refusal) → f ≡ Refusal.Unreadable u → (q : Result Answer Refusal) → q ≡ Err f → q ≡ subtype_of limits s a b
   unfolding subtype_of
-  not_read u h f ef = rw (← e, h) (ap Err ef)
+  not_read u h f ef q eq = eq ∙ rw (← e, h) (ap Err ef)
 
   module _ (S : Sections) (h : r ≡ Ok S) where
     pub first_lacks : S.types ≤ a → Err Refusal.NoType ≡ subtype_of limits s a b
