@@ -4,7 +4,7 @@
 // remainder by 512, and the number 512 + j leads from the position j to the one before it in its chain; all one higher, 0 for none.
 #![tactic(auto)]
 
-ghost use Rattle.std.specs.Prelude.{◌≡◌, ◌+◌, ◌*◌, ◌%◌, ◌≤◌, ◌<◌, length, get_or, set};
+ghost use Rattle.std.specs.Prelude.{◌≡◌, ◌+◌, ◌*◌, ◌%◌, ◌≤◌, ◌<◌, get_or, set};
 ghost use Rattle.file_sections.specs.Layout.{tables_of};
 ghost use Rattle.bindings.specs.Bindings.{binder_of, type_bound, name_bound, Position, Scoped, Some as Holding, SomeFrom, Finds, Freshness, Assignability, Bindable, Bound};
 
@@ -25,6 +25,7 @@ pub struct Bindings<'a> {
 impl Bindings<'_> {
     // The binder of a position: 40,000 plus the built-in's number, or a node.
     // One number and no enum, since a row holds it: the C interface.
+    #[tactic(auto, using(file_sections::proofs::LawsRecords::built_ins_long), unfolding(crate::specs::Bindings::binder_of))]
     pub fn binder_at(&self, file: &[u8], sections: Sections, position: usize) -> usize
         requires { Position file.now sections self.now.work.now position }
         ensures { (result ≡ binder_of (tables_of file.now sections) self.now.work.now position) × (result < 65536) }
@@ -36,6 +37,7 @@ impl Bindings<'_> {
     }
 
     // The type of a position.
+    #[tactic(auto, using(file_sections::proofs::LawsRecords::built_ins_long), unfolding(crate::specs::Bindings::type_bound))]
     pub fn type_at(&self, file: &[u8], sections: Sections, position: usize) -> usize
         requires { Position file.now sections self.now.work.now position }
         ensures { (result ≡ type_bound (tables_of file.now sections) self.now.work.now position) × (result < 65536) }
@@ -47,6 +49,7 @@ impl Bindings<'_> {
     }
 
     // The name of a position.
+    #[tactic(auto, using(file_sections::proofs::LawsRecords::built_ins_long), unfolding(crate::specs::Bindings::name_bound))]
     pub fn name_at(&self, file: &[u8], sections: Sections, position: usize) -> usize
         requires { Position file.now sections self.now.work.now position }
         ensures { (result ≡ name_bound (tables_of file.now sections) self.now.work.now position) × (result < 65536) }
