@@ -9,6 +9,7 @@ use native.Mathlib.Omega.{arith}
 use lib.ListN.{length}
 use lib.Dec.{eqb, ltb, leb}
 use borrow.Author.Tests.{lt-ltb, le-ltb, ltb-true, lt-leb, eq-eqb, ne_eqb, not-true, not-false}
+use Rattle.std.proofs.Math.Bool.{and-true, and_assoc}
 use Rattle.oat.specs.Basics.{pick, all_below, sum_below, tabulate}
 use Rattle.oat.specs.Tables.{Tables, type_at, field_at, struct_at}
 use Rattle.oat.specs.TypeRules.{kind_at}
@@ -51,14 +52,6 @@ module _ (T : Tables) (p q : ℕ) where
     fields_more a f = all_more j _ a (sym et ∙ not-false t f)
 
 -- the test at 0, then at the others
-and-true : (a : Bool) → (a && true) ≡ a
-and-true true = refl
-and-true false = refl
-
-and_assoc : (a b c : Bool) → (a && b && c) ≡ (a && (b && c))
-and_assoc true b c = refl
-and_assoc false b c = refl
-
 all_first : (n : ℕ) (p : ℕ → Bool) → all_below (suc n) p ≡ (p 0 && all_below n (λ j. p (suc j)))
 unfolding all_below
 all_first zero p = sym (and-true (p 0))

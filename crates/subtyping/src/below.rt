@@ -1,5 +1,5 @@
 // Subtyping on type numbers of an indexed file, with the count of the pairs of types that are compared (document 02, (viii)). The sum of
-// the two numbers falls.
+// the two numbers falls. Kinds of types are numbers: document 01's form.
 ghost use Rattle.std.specs.Prelude.{◌≡◌, ◌+◌, ◌*◌, ◌<◌, ◌≤◌};
 ghost use Rattle.oat.specs.Tables.{type_at};
 ghost use Rattle.oat.specs.TypeRules.{parts_at};
@@ -20,7 +20,7 @@ use type_index::formed::{is_formed, struct_record};
 use type_index::parts::parts_of;
 use type_index::same::same;
 
-// How a comparison went: whether it holds, and how many pairs it compared.
+// How a comparison went: whether it holds, and how many pairs it compared. A struct and no Option, since the pairs count either way.
 #[derive(Clone, Copy)]
 pub struct Compared {
     pub holds: bool,

@@ -11,7 +11,7 @@ use file_sections::{Sections, Unreadable};
 use program_file::{Limits, blank_file, meant};
 use type_index::index::index_types;
 
-// Yes or no, and how many pairs of types were compared.
+// Yes or no, and how many pairs of types were compared. A struct and no Option, since the pairs count either way.
 #[derive(Clone, Copy, PartialEq, Eq)]
 pub struct Answer {
     pub holds: bool,
@@ -39,7 +39,7 @@ impl Refusal {
         ensures { result ≡ refused_number self }
     {
         match self {
-            Refusal::Unreadable(error) => error.number(),
+            Refusal::Unreadable(unreadable) => unreadable.number(),
             Refusal::NoType => 17,
         }
     }

@@ -1,5 +1,6 @@
 // The equality test of unequal types, with the count of the pairs that it compares (document 02, (viii)): equal pairs come whole, up to
-// the first pair that is unequal, and the test goes down into that one. The sum of the two numbers falls.
+// the first pair that is unequal, and the test goes down into that one. The sum of the two numbers falls. Kinds of types are numbers:
+// document 01's form.
 ghost use Rattle.std.specs.Prelude.{◌≡◌, false, ◌<◌, ◌≤◌, length};
 ghost use Rattle.oat.specs.Types.{type_of};
 ghost use Rattle.oat.specs.TypeRules.{kind_at};
