@@ -6,19 +6,17 @@ ghost use Rattle.program_file.specs.Reading.{setting_of, reading_of};
 ghost use Rattle.printing.specs.Outcome.{leaves, print_of};
 ghost use Rattle.answer_output.specs.Nodes.{nodes_of};
 
-use file_sections::Reading;
-use printing::Printed;
+use printing::Unprinted;
 use program_file::Limits;
 
 // How many nodes a readable file has; 0 where it is refused.
 pub fn node_count(file: &[u8], limits: Limits) -> usize
     ensures { result ≡ nodes_of (reading_of (setting_of limits) file.now) }
 {
-    let reading = program_file::read(file, limits);
-    let Reading::Good(sections) = reading else {
-        return 0;
-    };
-    sections.nodes
+    match program_file::read(file, limits) {
+        Ok(sections) => sections.nodes,
+        Err(_) => 0,
+    }
 }
 
 // Prints an answer and, where its number is 0, the rows of the nodes to `text`, as `printing::print` does, and writes the text to
@@ -30,11 +28,11 @@ pub fn write_answer(
     rows: &[u16],
     nodes: usize,
     text: &mut [u8],
-) -> Printed
+) -> Result<usize, Unprinted>
     ensures { leaves result text.new ≡ print_of number step place rows.now nodes text.old }
 {
     let printed = printing::print(number, step, place, rows, nodes, &mut *text);
-    if let Printed::Written(length) = printed {
+    if let Ok(length) = printed {
         io::write_all(1, &text[..length]);
     }
     printed

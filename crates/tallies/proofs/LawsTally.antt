@@ -1,4 +1,5 @@
 -- The tallies of an accepted file, and of any file. Assumes nothing.
+use Rattle.std.proofs.Common.{Result, Ok, Err}
 use mathlib.Core.Path.{◌≡◌, refl, ap, ap₂, sym, subst, ◌∙◌}
 use mathlib.Core.Bool.{Bool, true, false}
 use mathlib.Core.List.{List, ◌++◌}
@@ -14,8 +15,8 @@ use Rattle.oat.proofs.LawsBasics.{tabulate_long, tabulate_at}
 use Rattle.oat.proofs.LawsBlank.{meant_is_file}
 use Rattle.oat.proofs.LawsLimits.{within_widest, wider}
 use Rattle.file_sections.specs.declared.Sections.{Sections}
-use Rattle.file_sections.specs.declared.Reading.{Reading}
-use Rattle.file_sections.specs.declared.Reading.TheVariants.{Refused as Unread, Good}
+use Rattle.file_sections.specs.declared.Unreadable.{Unreadable}
+use Rattle.file_sections.specs.Unreadable.{unreadable_number}
 use Rattle.file_sections.specs.Layout.{tables_of, GoodTables}
 use Rattle.file_sections.proofs.LawsRecords.{types_long, nodes_long}
 use Rattle.program_file.specs.Reading.{reading_of, number_of}
@@ -105,7 +106,7 @@ module _ {l : Limits} {F R W R' W' : List ℕ} {c : CheckAnswer} (k : Checked l 
       }
 
 -- the file of an accepting check, as the tallies within speak of it
-pub tally_ready_of : {l : Limits} {F R W R' W' G : List ℕ} {S : Sections} {c : CheckAnswer} → Bytes F → reading_of l F ≡ Good S → G ≡ meant F → Checked l F R W R' W' c → c.number ≡ 0
+pub tally_ready_of : {l : Limits} {F R W R' W' G : List ℕ} {S : Sections} {c : CheckAnswer} → Bytes F → reading_of l F ≡ Ok S → G ≡ meant F → Checked l F R W R' W' c → c.number ≡ 0
     → ReadyAccepted G S R'
 tally_ready_of {l} {F} {R' = R'} {S = S} b e is k z =
     let d = opened l F S b e in
@@ -122,11 +123,11 @@ written_of p (writes i j u v) x q = rw (q, u, v) (tallied i j)
 written_of p (no_room i u v) x q = absurd (let o : ◌≡◌ {A = ℕ} 0 1 = cc in omega arith)
 
 -- the answers of `tally`: of a file that is not read
-pub tally_unread : {l : Limits} {F R W A B : List ℕ} {r : Answer} {g : Reading} {n m : ℕ} → g ≡ reading_of l F → g ≡ Unread n → m ≡ number_of g → r ≡ answer m 0 0
+pub tally_unread : {l : Limits} {F R W A B : List ℕ} {r : Answer} {g : Result Sections Unreadable} {n : Unreadable} {m : ℕ} → g ≡ reading_of l F → g ≡ Err n → m ≡ number_of g → r ≡ answer m 0 0
     → Tallied l F R W A B R W A B r
 tally_unread {l} {F} {R} {W} {n = n} {m = m} e h k q =
     let (c, d) = with_demands (check_unread {R = R} {W = W} e h k refl) in
-    let same : m ≡ n = k ∙ ap number_of h in
+    let same : m ≡ unreadable_number n = k ∙ ap number_of h in
     record {
       check = record { number = m; step = 0; place = 0; pairs = 0 };
       checked = c;
@@ -136,7 +137,7 @@ tally_unread {l} {F} {R} {W} {n = n} {m = m} e h k q =
     }
 
 -- of one that was read, whose check answers c
-module _ (l : Limits) {F R W : List ℕ} {S : Sections} {g : Reading} {R' W' : List ℕ} {c : CheckAnswer} (e : g ≡ reading_of l F) (h : g ≡ Good S) (k : ToldSections F S R W R' W' c) where
+module _ (l : Limits) {F R W : List ℕ} {S : Sections} {g : Result Sections Unreadable} {R' W' : List ℕ} {c : CheckAnswer} (e : g ≡ reading_of l F) (h : g ≡ Ok S) (k : ToldSections F S R W R' W' c) where
   its_check : Checked l F R W R' W' c × Demands l F R W R' c
   its_check = check_told_sections l e h k
 

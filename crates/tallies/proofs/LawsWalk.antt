@@ -29,27 +29,6 @@ use Rattle.tallies.specs.Walk.{ReadyWalk, CountedTo, ToldTree, ReadyTally, ToldT
 use Rattle.tallies.proofs.LawsCounts.{count_more, most_counted, count_split}
 use Rattle.tallies.proofs.LawsTallies.{lowest_most}
 
--- the kinds of expressions, by the ranges of the code
-module _ (k : ℕ) where
-  pub kind_low : 10 ≤ k → k ≤ 21 → true ≡ is_expression_kind k
-  unfolding is_expression_kind
-  kind_low a b = rw (le-leb 10 k a, le-leb k 21 b) refl
-
-  pub kind_high : 23 ≤ k → k ≤ 26 → true ≡ is_expression_kind k
-  unfolding is_expression_kind
-  kind_high a b = rw (le-leb 10 k (omega arith), lt-leb k 21 (omega arith), le-leb 23 k a, le-leb k 26 b) refl
-
-  pub kind_other : (10 ≤ k → 21 < k) → (23 ≤ k → 26 < k) → false ≡ is_expression_kind k
-  unfolding is_expression_kind
-  kind_other a b = rw (outside 10 21 a, outside 23 26 b) refl
-    where
-      outside : (m n : ℕ) → (m ≤ k → n < k) → (leb m k && leb k n) ≡ false
-      outside m n h = go (leb m k) refl
-        where
-          go : (t : Bool) → leb m k ≡ t → (t && leb k n) ≡ false
-          go true e = lt-leb k n (h (leb-true m k e))
-          go false e = refl
-
 -- the kind of a node tells whether it is an expression
 pub kind_tells : (T : Tables) (n k : ℕ) (b : Bool) → k ≡ (node_at T n).kind → b ≡ is_expression_kind k → is_expression T n ≡ b
 unfolding is_expression

@@ -1,12 +1,11 @@
 -- What the contracts of the pass over the nodes cite. F is the file, S its sections, X the index of types, R the rows, A the counts by type, B
 -- those by declaration; a prime marks a buffer after the call. Assumes nothing.
-use Rattle.std.specs.Prelude.{◌≡◌, Bool, true, false, List, ◌++◌, ◌⊎◌, ℕ, ◌+◌, ◌*◌, ◌≤◌, ◌<◌, length, get_or, take, drop}
+use Rattle.std.specs.Prelude.{◌≡◌, Bool, true, false, List, ◌++◌, ◌⊎◌, ℕ, ◌+◌, ◌*◌, ◌≤◌, ◌<◌, length, get_or, take, drop, Ok}
 use Rattle.oat.specs.Tables.{Tables}
 use Rattle.oat.specs.Syntax.{Decl}
 use Rattle.oat.specs.Nodes.{is_expression}
 use Rattle.oat.specs.ProgramFile.{widest, Program, IsFile}
 use Rattle.file_sections.specs.declared.Sections.{Sections}
-use Rattle.file_sections.specs.declared.Reading.TheVariants.{Good}
 use Rattle.file_sections.specs.Layout.{tables_of, GoodTables}
 use Rattle.file_sections.specs.Trees.{Past}
 use Rattle.program_file.specs.Reading.{reading_within}
@@ -55,7 +54,7 @@ pub record ToldTally (F : List ℕ) (S : Sections) (R A' B' : List ℕ) (r : ℕ
 
 -- an accepted file, spoken of under the widest limits, with its rows
 pub record ReadyAccepted (F : List ℕ) (S : Sections) (R : List ℕ) : Type 0 where
-  pub reads : reading_within widest F ≡ Good S
+  pub reads : reading_within widest F ≡ Ok S
   pub program : Program
   pub file : IsFile widest F program
   pub rows : TypedRows (tables_of F S) R

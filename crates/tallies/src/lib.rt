@@ -10,13 +10,13 @@ ghost use Rattle.tallies.specs.Tally.{answer, Tallied};
 ghost use Rattle.tallies.specs.Walk.{ReadyAccepted, ToldAccepted};
 
 use crate::walk::tally_declarations;
-use file_sections::{Reading, Sections};
+use file_sections::Sections;
 use program_file::{Limits, blank_file, meant};
 use type_index::index::index_types;
 use typing::check::check_sections;
 use writing::copy;
 
-// The check's number, step and place; 19 where a tally has no room.
+// The check's number, step and place; 19 where a tally has no room. These are the numbers that C gets (`oat_tally`).
 #[derive(Clone, Copy)]
 pub struct Answer {
     pub number: u16,
@@ -29,7 +29,7 @@ fn bare(number: u16) -> Answer
     ensures { result ≡ answer number 0 0 }
 {
     Answer {
-        number: number,
+        number,
         step: 0,
         place: 0,
     }
@@ -74,7 +74,7 @@ pub fn tally(
     ensures { Tallied (setting_of limits) file.now rows.old work.old by_type.old by_declaration.old rows.new work.new by_type.new by_declaration.new result }
 {
     let read = program_file::read(file, limits);
-    let Reading::Good(sections) = read else {
+    let Ok(sections) = read else {
         return bare(program_file::number(read));
     };
     let checked = check_sections(file, sections, &mut *rows, work);

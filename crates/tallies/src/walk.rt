@@ -1,7 +1,7 @@
 // One pass over the nodes of an accepted file, tree by tree.
 ghost use Rattle.std.specs.Prelude.{◌≡◌, ◌+◌, ◌*◌, ◌≤◌, ◌<◌, length};
 ghost use Rattle.oat.specs.Basics.{pick};
-ghost use Rattle.oat.specs.Nodes.{is_expression_kind, is_expression};
+ghost use Rattle.oat.specs.Nodes.{is_expression};
 ghost use Rattle.file_sections.specs.Layout.{tables_of};
 ghost use Rattle.file_sections.specs.Trees.{Tree as IsTree};
 ghost use Rattle.tallies.specs.Tallies.{type_in_row};
@@ -9,32 +9,16 @@ ghost use Rattle.tallies.specs.Walk.{ReadyWalk, CountedTo, ToldTree, ReadyTally,
 
 use crate::counts::add_one;
 use file_sections::Sections;
+use file_sections::categories::is_expression;
 use file_sections::records::{node_children, node_kind};
 use type_index::same::lowest;
-
-// The kinds of expressions.
-#[tactic(auto, using(crate::proofs::LawsWalk::kind_low, crate::proofs::LawsWalk::kind_high, crate::proofs::LawsWalk::kind_other))]
-fn is_expression(kind: usize) -> bool
-    ensures { result ≡ is_expression_kind kind }
-{
-    match kind {
-        10..=21 | 23..=26 => true,
-        _ => false,
-    }
-}
-
-fn wide(x: u16) -> usize
-    ensures { result ≡ x }
-{
-    x as usize
-}
 
 // The type's number in the row of a node.
 fn type_in_row(rows: &[u16], node: usize) -> usize
     requires { (2 * node < length rows.now) × (node < 4096) }
     ensures { result ≡ type_in_row rows.now node }
 {
-    wide(rows[2 * node])
+    usize::from(rows[2 * node])
 }
 
 // Counts a node under the lowest number of its type where it is an expression; answers how many expressions that are, 1 or 0.
@@ -88,7 +72,7 @@ fn tally_tree(
     }
     Tree {
         past: at,
-        expressions: expressions,
+        expressions,
     }
 }
 

@@ -6,10 +6,10 @@ use Rattle.answer_output.proofs.LawsOutput.{answer_stays}
 use Rattle.answer_output.proofs.write_answer.Goals as goal
 
 pub slice_bounds-write_all-end : goal.slice_bounds-write_all-end
-slice_bounds-write_all-end c = written_room _ _ _ _ _ _ _ _ c.print-printed.ensures _ c.in-Written.is
+slice_bounds-write_all-end c = written_room _ _ _ _ _ _ _ _ c.print-printed.ensures _ c.in-Ok.is
 
-pub slice_bounds-write_all-end-in-Written : goal.slice_bounds-write_all-end-in-Written
-slice_bounds-write_all-end-in-Written c = sym (length-take-le _ _ (written_room _ _ _ _ _ _ _ _ c.print-printed.ensures _ c.in-Written.is))
+pub slice_bounds-write_all-end-in-Ok : goal.slice_bounds-write_all-end-in-Ok
+slice_bounds-write_all-end-in-Ok c = sym (length-take-le _ _ (written_room _ _ _ _ _ _ _ _ c.print-printed.ensures _ c.in-Ok.is))
 
-pub returns-in-Written : goal.returns-in-Written
-returns-in-Written c = answer_stays _ _ _ _ c.in-Written.is c.print-printed.ensures
+pub returns-in-Ok : goal.returns-in-Ok
+returns-in-Ok c = answer_stays _ _ _ _ c.in-Ok.is c.print-printed.ensures
