@@ -42,17 +42,6 @@ fn expected_at(file: &IndexedFile<'_>, expected: Expected, i: usize) -> usize
     }
 }
 
-// One comparison after others that hold.
-fn and_next(before: Compared, next: Compared) -> Compared
-    requires { (before.pairs ≤ 4294967295) × (next.pairs ≤ 4294967295) }
-    ensures { result ≡ record { holds = next.holds; pairs = before.pairs + next.pairs } }
-{
-    Compared {
-        holds: next.holds,
-        pairs: before.pairs + next.pairs,
-    }
-}
-
 // Those before are below what is expected, and so is the type t of the expression i.
 pub fn still_below(
     file: &IndexedFile<'_>,
@@ -69,7 +58,7 @@ pub fn still_below(
         return before;
     }
     let u = expected_at(file, expected, i);
-    and_next(before, below(file.bytes, file.sections, file.index, t, u))
+    below(file.bytes, file.sections, file.index, t, u).after(before.pairs)
 }
 
 // Those before are below their fields' types, and so is the type t of the value of the field `name` of the struct record `owner`.
@@ -93,7 +82,7 @@ pub fn still_fits(
             ..before
         };
     };
-    and_next(before, below(file.bytes, file.sections, file.index, t, u))
+    below(file.bytes, file.sections, file.index, t, u).after(before.pairs)
 }
 
 // An element with a default: int, bool or nullable.

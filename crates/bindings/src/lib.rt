@@ -84,7 +84,8 @@ impl Bindings<'_> {
         requires { Holding file.now sections self.now.work.now self.now.chains }
         ensures { Finds file.now sections self.now.work.now self.now.chains name result }
     {
-        // A chain has no count to go over: the loop follows its links.
+        // The loop follows links and counts nothing. It isn't type_index's walk: that one takes the number of positions, here the
+        // scope's height, which `find` isn't given.
         let mut after = usize::from(self.chains[name % 512]);
         while 0 < after {
             let position = after - 1;

@@ -29,7 +29,7 @@ pub struct Compared {
 
 impl Compared {
     // The comparison, with the `pairs` pairs before it.
-    fn after(self, pairs: usize) -> Compared
+    pub fn after(self, pairs: usize) -> Compared
         requires { pairs + self.pairs ≤ usize.MAX }
         ensures { result ≡ record { holds = self.holds; pairs = pairs + self.pairs } }
     {
