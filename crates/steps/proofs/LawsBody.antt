@@ -8,6 +8,7 @@ use native.Mathlib.Omega.{arith}
 use lib.ListN.{length, drop, replicate, length-append}
 use lib.Dec.{eqb}
 use borrow.Author.Tests.{eq-eqb, ne_eqb, not-true, not-false}
+use Rattle.std.specs.Prelude.{Result, Ok, Err}
 use Rattle.oat.specs.Tables.{Tables, type_at, node_at}
 use Rattle.oat.specs.Types.{structs_of}
 use Rattle.oat.specs.TableRules.{has_kind}
@@ -27,8 +28,9 @@ use Rattle.file_sections.proofs.LawsFrames.{same_trans, list_row, list_append, l
 use Rattle.type_index.specs.Index.{declared}
 use Rattle.bindings.specs.Bindings.{entry_of, Scoped, Holds}
 use Rattle.bindings.proofs.LawsBindings.{names_same, holds_own}
-use Rattle.answers.specs.declared.answer.Judgement.TheVariants.{Returns}
-use Rattle.answers.specs.declared.answer.Judgement.TheVariants as judgement
+use Rattle.answers.specs.declared.answer.Broken.{Broken}
+use Rattle.answers.specs.declared.answer.Broken.TheVariants.{BoundTwice, WrongMark}
+use Rattle.answers.specs.declared.answer.Judgement.TheVariants.{Returns, Refused}
 use Rattle.answers.specs.declared.answer.Judged.{Judged}
 use Rattle.answers.specs.Answers.{with_row}
 use Rattle.expressions.specs.Contract.{Fine, After, Meets}
@@ -41,10 +43,10 @@ use Rattle.statements.specs.Contract.{Blocking, ReadyBlock, ToldBlock}
 use Rattle.statements.proofs.LawsParts.{marked_no, mark_is}
 use Rattle.statements.proofs.LawsBlock.{ready_block}
 use Rattle.steps.specs.declared.context.Context.{Context}
-use Rattle.steps.specs.declared.context.Stepped.{Stepped}
-use Rattle.steps.specs.declared.context.Stepped.TheVariants.{Next, Refused}
-use Rattle.steps.specs.Contract.{context_at, with_step, summing, handed_up, Accepted, ReadyParameters, BoundAll, ToldParameters, ReadyBody, ToldBody}
+use Rattle.steps.specs.declared.context.Refusal.{Refusal}
+use Rattle.steps.specs.Contract.{context_at, with_step, summing, refusal_at, Accepted, ReadyParameters, BoundAll, ToldParameters, ReadyBody, ToldBody}
 use Rattle.steps.proofs.LawsStepping.{accepts_with, stops, passes, hands_up, goes_on, whole_context}
+use Rattle.steps.proofs.LawsGlobal.{refused_after}
 use Rattle.steps.proofs.LawsRows.{rows_count, rows_list, parameters_count}
 
 -- the answer is no return
@@ -149,9 +151,9 @@ module _ {F : List ℕ} {S : Sections} {X R W K : List ℕ} {c : Context} {n : �
           )
 
       module _ {R₁ W₁ K₁ : List ℕ} {b₁ : Bool} (p₁ : ToldParameters F S X c.names n first count R W R₁ W₁ K₁ b₁) where
-        pub body_taken : not b₁ ≡ true → ToldBody F S X R W c n R₁ W₁ K₁ (Refused 7 c.steps n c.pairs)
+        pub body_taken : {y : Refusal} → not b₁ ≡ true → y ≡ refusal_at c BoundTwice n → ToldBody F S X R W c n R₁ W₁ K₁ (Err y)
         unfolding stepping
-        body_taken f = record { tells = λ x u ps b h. stops (distinct_names ps) 7 n _ _ (sym (p₁.distinct ps h.3 (counted x u ps b h)) ∙ not-true b₁ f) refl }
+        body_taken f e = record { tells = λ x u ps b h. stops (distinct_names ps) BoundTwice n _ _ (sym (p₁.distinct ps h.3 (counted x u ps b h)) ∙ not-true b₁ f) (ap Err e) }
 
         module _ (f : not b₁ ≡ false) where
           bound : (ps : List ℕ) → ParametersStand (tables_of F S) (n + 1) ps → length ps ≡ count → BoundAll F S X c.names n first ps R W R₁ W₁ K₁
@@ -194,24 +196,26 @@ module _ {F : List ℕ} {S : Sections} {X R W K : List ℕ} {c : Context} {n : �
               distinct : (x u : ℕ) (ps : List ℕ) (b : Block) → DeclStands (tables_of F S) n (function x u ps b) → distinct_names ps ≡ true
               distinct x u ps b h = sym (p₁.distinct ps h.3 (counted x u ps b h)) ∙ not-false b₁ f
 
-              pub body_no : {p q : ℕ} {r : Stepped} → r₂.judgement ≡ judgement.Refused p q → r ≡ handed_up r₂.judgement c.steps r₂.at.pairs → ToldBody F S X R W c n R₂ W₂ K₂ r
+              pub body_no : {p : Broken} {q : ℕ} {d : Context} {y : Refusal} → r₂.judgement ≡ Refused p q → d ≡ summing r₂.at.pairs c → y ≡ refusal_at d p q
+                  → ToldBody F S X R W c n R₂ W₂ K₂ (Err y)
               unfolding stepping
-              body_no {p} {q} j e =
+              body_no {p} {q} j ed ey =
                   record {
                     tells = λ x u ps b h.
                         passes (distinct_names ps) 7 n _ (distinct x u ps b h)
-                        (hands_up _ _ _ (λ i L d. marked_no i p q (sym d.mark ∙ j)) e (ran x u ps b h));
+                        (hands_up _ _ _ (λ i L d. marked_no i p q (sym d.mark ∙ j)) p q j (refused_after ed ey) (ran x u ps b h));
                   }
 
               module _ (v : Unrefused r₂) where
-                pub body_open : Unreturned r₂ → ToldBody F S X R W c n R₂ W₂ K₂ (Refused 14 c.steps n r₂.at.pairs)
+                pub body_open : {d : Context} {y : Refusal} → Unreturned r₂ → d ≡ summing r₂.at.pairs c → y ≡ refusal_at d WrongMark n
+                    → ToldBody F S X R W c n R₂ W₂ K₂ (Err y)
                 unfolding stepping
-                body_open o =
+                body_open o ed ey =
                     record {
                       tells = λ x u ps b h.
                           passes (distinct_names ps) 7 n _ (distinct x u ps b h)
                           (goes_on _ _ v (ran x u ps b h) λ i L q d.
-                          stops (eqb i 1) 14 n _ _ (ne_eqb i 1 (λ z. o.never (d.mark ∙ sym (returns_marked i z)))) refl);
+                          stops (eqb i 1) WrongMark n _ _ (ne_eqb i 1 (λ z. o.never (d.mark ∙ sym (returns_marked i z)))) (refused_after ed ey));
                     }
 
                 fine_now : Fine F S X R₂ W₂ K₂ c.names (c.names + count)
@@ -227,8 +231,8 @@ module _ {F : List ℕ} {S : Sections} {X R W K : List ℕ} {c : Context} {n : �
                 pub body_fits : (n * 2 + 1 < length R₂) × (n < 65536) × (1 < 65536) × (65535 < 65536)
                 body_fits = (omega (arith, fine_now.rows_long, there), omega (arith, there, g.held.good_tables.laid.nodes_most), omega arith, omega arith)
 
-                pub body_ok : {K₃ R' : List ℕ} {e f : Context} → r₂.judgement ≡ Returns → Scoped F S W₂ K₃ c.names → R' ≡ with_row R₂ n 1 65535 → e ≡ with_step c
-                    → f ≡ summing r₂.at.pairs e → ToldBody F S X R W c n R' W₂ K₃ (Next f)
+                pub body_ok : {K₃ R' : List ℕ} {e f : Context} → r₂.judgement ≡ Returns → Scoped F S W₂ K₃ c.names → R' ≡ with_row R₂ n 1 65535 → e ≡ summing r₂.at.pairs c
+                    → f ≡ with_step e → ToldBody F S X R W c n R' W₂ K₃ (Ok f)
                 unfolding stepping
                 body_ok {K₃} {R'} y k e_r ee ef =
                     record {
@@ -236,7 +240,7 @@ module _ {F : List ℕ} {S : Sections} {X R W K : List ℕ} {c : Context} {n : �
                           passes (distinct_names ps) 7 n _ (distinct x u ps b h)
                           (goes_on _ _ v (ran x u ps b h) λ i L q d.
                           passes (eqb i 1) 14 n _ (eq-eqb i 1 (sym (mark_is Returns i (block_mark _ _ _ b _ _ i L q) (sym y ∙ d.mark))))
-                          (accepts_with _ _ r₂.at.pairs 0 (omega arith) (ap Next (ef ∙ ap (summing r₂.at.pairs) ee))
+                          (accepts_with _ _ r₂.at.pairs 0 (omega arith) (ap Ok (ef ∙ ap with_step ee))
                           (subst (λ Q. Accepted F S X c (body n u ps b) R Q W₂ K₃ (context_at (tables_of F S) W c) (replicate (1 + length ps) unlabelled ++ L)) (sym e_r)
                           (written (bound_at x u ps b h) d.after (block_long _ _ _ b _ _ i L q) there k))));
                     }

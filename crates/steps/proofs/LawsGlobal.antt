@@ -2,10 +2,12 @@
 use mathlib.Core.Path.{◌≡◌, refl, ap, sym, subst, ◌∙◌}
 use mathlib.Core.Bool.{Bool, true, false, not}
 use mathlib.Core.List.{List, [], ◌∷◌, append-nil}
+use mathlib.Core.Logic.{◌⊎◌, inl, inr}
 use Prim.Native.Nat.{ℕ, ◌+◌, ◌*◌, ◌<◌}
 use native.Mathlib.Omega.{arith}
 use lib.ListN.{length}
 use borrow.Author.Tests.{eq-eqb, not-true, not-false}
+use Rattle.std.specs.Prelude.{Result, Ok, Err}
 use Rattle.oat.specs.Tables.{Tables, node_at}
 use Rattle.oat.specs.Types.{structs_of}
 use Rattle.oat.specs.Syntax.{Expr, global, size}
@@ -23,21 +25,26 @@ use Rattle.file_sections.proofs.LawsRecords.{nodes_long}
 use Rattle.file_sections.proofs.LawsFrames.{list_row, list_kept, list_from}
 use Rattle.bindings.specs.Bindings.{entry_of, names_of, Some, Bindable, Bound}
 use Rattle.bindings.proofs.LawsBindings.{scope_none, names_same, names_declared}
-use Rattle.answers.specs.declared.answer.Judgement.TheVariants.{Typed}
+use Rattle.answers.specs.declared.answer.Broken.{Broken}
+use Rattle.answers.specs.declared.answer.Broken.TheVariants.{BoundTwice}
+use Rattle.answers.specs.declared.answer.Judgement.TheVariants.{Typed, GoesOn, Returns, Refused}
 use Rattle.answers.specs.declared.answer.Judged.{Judged}
 use Rattle.answers.specs.Answers.{with_row}
-use Rattle.expressions.specs.Contract.{context_of, Fine, Typing, Meets, Ready, Told}
+use Rattle.expressions.specs.Contract.{context_of, Fine, Typing, Meets, accepts, refuses, Ready, Told}
 use Rattle.expressions.proofs.LawsMeets.{Untyped, pairs_told}
 use Rattle.expressions.proofs.LawsAfter.{ready, typing_of, row_other, row-result, row_binder}
 use Rattle.expressions.proofs.LawsChild.{child_within, child_fine}
 use Rattle.expressions.proofs.LawsLabels.{expr_long, expr_head}
 use Rattle.expressions.proofs.LawsShape.{size_one}
 use Rattle.steps.specs.declared.context.Context.{Context}
-use Rattle.steps.specs.declared.context.Stepped.{Stepped}
-use Rattle.steps.specs.declared.context.Stepped.TheVariants.{Next, Refused}
-use Rattle.steps.specs.Contract.{context_at, with_name, summing, handed_up, Accepted, Stepping, Newness, ReadyGlobal, ToldGlobal}
+use Rattle.steps.specs.declared.context.Refusal.{Refusal}
+use Rattle.steps.specs.Contract.{context_at, with_name, summing, refusal_at, Accepted, Stepping, Newness, ReadyGlobal, ToldGlobal}
 use Rattle.steps.proofs.LawsStepping.{accepts_with, stepping_more, stops, passes, hands_up, whole_context}
 use Rattle.steps.proofs.LawsRows.{rows_count, rows_list}
+
+-- the refusal after a sum of pairs
+pub refused_after : {c d : Context} {k q : ℕ} {b : Broken} {y : Refusal} → d ≡ summing k c → y ≡ refusal_at d b q → ◌≡◌ {A = Result Context Refusal} (Err y) (Err (refusal_at (summing k c) b q))
+refused_after {b = b} {q = q} ed ey = ap Err (ey ∙ ap (λ x. refusal_at x b q) ed)
 
 entry_is : {t n x y : ℕ} {b : Bool} {l k : List (Entry ℕ)} → x ≡ y → b ≡ true → l ≡ k
     → ◌≡◌ {A = List (Entry ℕ)} (record { name = x; type = t; binder = n; assignable = b } ∷ l) (record { name = y; type = t; binder = n; assignable = true } ∷ k)
@@ -76,9 +83,22 @@ module _ {F : List ℕ} {S : Sections} {X R W K : List ℕ} {c : Context} {n : �
         subst (λ C. Initial a (judging (tables_of F S) C a (n + 1) empty)) (sym (whole_context F S W c g.whole))
         (subst (λ Γ. Initial a (judging (tables_of F S) (context_of (tables_of F S) W c.names) a (n + 1) Γ)) (scope_none (tables_of F S) W c.names) (m₁.tells a h.2))
 
-    pub global_no : {r : Stepped} → Untyped r₁ → r ≡ handed_up r₁.judgement c.steps r₁.at.pairs → ToldGlobal F S X R W c n R₁ W₁ K₁ r
+    pub global_no : {b : Broken} {q : ℕ} {d : Context} {y : Refusal} → r₁.judgement ≡ Refused b q → d ≡ summing r₁.at.pairs c → y ≡ refusal_at d b q
+        → ToldGlobal F S X R W c n R₁ W₁ K₁ (Err y)
     unfolding stepping
-    global_no u e = record { tells = λ x a h. hands_up _ _ _ (λ t L p. u.never t p.typed) e (judged a x h) }
+    global_no {b} {q} j ed ey = record {
+      tells = λ x a h. hands_up _ _ _ (λ t L p. let z : ◌≡◌ {A = ℕ} 0 1 = cc in omega arith) b q j (refused_after ed ey) (judged a x h);
+    }
+
+    -- an initializer is typed or refused
+    pub global_never : (r₁.judgement ≡ GoesOn) ⊎ (r₁.judgement ≡ Returns) → ⊥
+    global_never j = go (judged g.initializer g.name g.stands) j
+      where
+        go : {x : Counted ℕ} → Initial g.initializer x → (r₁.judgement ≡ GoesOn) ⊎ (r₁.judgement ≡ Returns) → ⊥
+        go (accepts t L k p e) (inl j) = let z : ◌≡◌ {A = ℕ} 0 1 = cc in omega arith
+        go (accepts t L k p e) (inr j) = let z : ◌≡◌ {A = ℕ} 0 1 = cc in omega arith
+        go (refuses p q k e) (inl j) = let z : ◌≡◌ {A = ℕ} 0 1 = cc in omega arith
+        go (refuses p q k e) (inr j) = let z : ◌≡◌ {A = ℕ} 0 1 = cc in omega arith
 
     module _ {t : ℕ} (y₁ : r₁.judgement ≡ Typed t) where
       fine_now : Fine F S X R₁ W₁ K₁ c.names c.names
@@ -103,7 +123,7 @@ module _ {F : List ℕ} {S : Sections} {X R W K : List ℕ} {c : Context} {n : �
           (omega (arith, fine_now.rows_long, there), omega (arith, there, laid.nodes_most), omega (arith, child_within global_first m₁ y₁, laid.types_most), omega arith)
 
       -- an accepted initializer
-      accepted : (x : ℕ) (a : Expr) → DeclStands (tables_of F S) n (global x a) → {s : Step} {R' W' K' : List ℕ} {r : Stepped}
+      accepted : (x : ℕ) (a : Expr) → DeclStands (tables_of F S) n (global x a) → {s : Step} {R' W' K' : List ℕ} {r : Result Context Refusal}
           → (k : ℕ → List (Label ℕ) → Counted (Contexts.Context ℕ))
           → ((L : List (Label ℕ)) → judge (tables_of F S) (context_at (tables_of F S) W c) a (n + 1) empty ≡ ok t L → Typing F S X c.names (n + 1) (size a) c.names R W R₁ W₁ K₁ r₁ t L
           → Stepping F S X c s R R' W' K' r r₁.at.pairs (k t L).out (k t L).pairs)
@@ -148,23 +168,23 @@ module _ {F : List ℕ} {S : Sections} {X R W K : List ℕ} {c : Context} {n : �
             ∙ ap (λ l. is_miss (find_name x₁ l)) (names_same (tables_of F S) c.names a c.names (omega arith))
             ∙ ap (λ i. is_miss (find_name i (names_of (tables_of F S) W c.names))) (ex ∙ e))
 
-        pub global_taken : not b₁ ≡ true → ToldGlobal F S X R W c n R₁ W₁ K₁ (Refused 7 c.steps n r₁.at.pairs)
+        pub global_taken : {d : Context} {y : Refusal} → not b₁ ≡ true → d ≡ summing r₁.at.pairs c → y ≡ refusal_at d BoundTwice n → ToldGlobal F S X R W c n R₁ W₁ K₁ (Err y)
         unfolding stepping
-        global_taken f =
+        global_taken f ed ey =
             record {
               tells = λ x a h.
                   accepted x a h _ λ L q p.
-                  stops _ 7 n _ _ (new_is x h.0.x_is p.after.same ∙ not-true b₁ f) refl;
+                  stops _ BoundTwice n _ _ (new_is x h.0.x_is p.after.same ∙ not-true b₁ f) (refused_after ed ey);
             }
 
-        pub global_ok : {W₂ K₂ R' : List ℕ} {d e : Context} → not b₁ ≡ false → Bound F S W₁ K₁ c.names n t W₂ K₂ → R' ≡ with_row R₁ n t 65535 → d ≡ with_name c
-            → e ≡ summing r₁.at.pairs d → ToldGlobal F S X R W c n R' W₂ K₂ (Next e)
+        pub global_ok : {W₂ K₂ R' : List ℕ} {d e : Context} → not b₁ ≡ false → Bound F S W₁ K₁ c.names n t W₂ K₂ → R' ≡ with_row R₁ n t 65535 → d ≡ summing r₁.at.pairs c
+            → e ≡ with_name d → ToldGlobal F S X R W c n R' W₂ K₂ (Ok e)
         unfolding stepping
         global_ok {W₂} {K₂} {R'} f b e_r ed ee =
             record {
               tells = λ x a h.
                   accepted x a h _ λ L q p.
                   passes _ 7 n _ (new_is x h.0.x_is p.after.same ∙ not-false b₁ f)
-                  (accepts_with _ _ r₁.at.pairs 0 (omega arith) (ap Next (ee ∙ ap (summing r₁.at.pairs) ed))
+                  (accepts_with _ _ r₁.at.pairs 0 (omega arith) (ap Ok (ee ∙ ap with_name ed))
                   (subst (λ Q. Accepted F S X c (global_value n x a) R Q W₂ K₂ (add_name (context_at (tables_of F S) W c) x t n true) (unlabelled ∷ L)) (sym e_r) (written x a h L q p b)));
             }

@@ -7,9 +7,11 @@ use Prim.Native.Nat.{ℕ, zero, suc, ◌+◌, ◌≤◌, ◌<◌}
 use native.Mathlib.Numerals.{add-one}
 use native.Mathlib.Nat.{not-suc-le-zero}
 use native.Mathlib.Omega.{arith}
-use lib.ListN.{get_or}
+use lib.ListN.{get_or, take}
 use lib.Dec.{eqb}
 use borrow.Author.Tests.{eq-eqb, ne_eqb}
+use Rattle.std.proofs.lemmas.List.{get_or-take}
+use Rattle.std.specs.Prelude.{Option, Some as At, None as Nothing, is_some}
 use Rattle.oat.specs.Basics.{pick, sum_below, all_below, tabulate}
 use Rattle.oat.specs.Tables.{Tables, field_at, struct_at}
 use Rattle.oat.specs.Types.{Field, type_of, struct_of}
@@ -24,19 +26,16 @@ use Rattle.file_sections.proofs.LawsRecords.{types_long, fields_long}
 use Rattle.type_index.specs.Index.{declared, formed_entry, Entered, Indexed}
 use Rattle.type_index.proofs.LawsIndex.{loop_fails, loop_goes, loop_done, none_tested, entered}
 use Rattle.type_index.proofs.LawsSameTypes.{all_front, all_same}
-use Rattle.bindings.specs.declared.Found.{Found}
-use Rattle.bindings.specs.declared.Found.TheVariants.{At, Nothing}
 use Rattle.bindings.specs.Bindings.{Finds}
 use Rattle.bindings.proofs.LawsBindings.{name_found, name_missing}
 use Rattle.steps.specs.Contract.{Newness, types_formed, times_in}
 
--- a name that is nowhere, and one that is somewhere
-module _ {F : List ℕ} {S : Sections} {W K : List ℕ} {x : ℕ} (r : Found) (found : Finds F S W K x r) where
-  pub new_name : r ≡ Nothing → Newness F S W K x true
-  new_name e = record { tells = λ s c. sym (ap Contexts.is_miss (name_missing (tables_of F S) W x s (sym (found.found s c) ∙ e))) }
-
-  pub known_name : (j : ℕ) → r ≡ At j → Newness F S W K x false
-  known_name j e = record { tells = λ s c. sym (ap Contexts.is_miss (name_found (tables_of F S) W x s j (sym (found.found s c) ∙ e))) }
+-- a name that is nowhere is new, and one that is somewhere is not
+pub newness : {F : List ℕ} {S : Sections} {W K : List ℕ} {x : ℕ} (r : Option ℕ) (b : Bool) → Finds F S W K x r → is_some r ≡ not b → Newness F S W K x b
+newness {F} {S} {W} {K} {x} Nothing true found e = record { tells = λ s c. sym (ap Contexts.is_miss (name_missing (tables_of F S) W x s (sym (found.found s c)))) }
+newness {F} {S} {W} {K} {x} (At j) false found e = record { tells = λ s c. sym (ap Contexts.is_miss (name_found (tables_of F S) W x s j (sym (found.found s c)))) }
+newness Nothing false found e = absurd (false≢true e)
+newness (At j) true found e = absurd (false≢true (sym e))
 
 -- the loop over the types of fields
 module _ (X : List ℕ) (T : Tables) (first : ℕ) where
@@ -98,18 +97,13 @@ module _ (l : List ℕ) (x : ℕ) where
   times_none = refl
 
   module _ (i n k : ℕ) (e : n ≡ times_in l i x) where
-    pub times_hit : get_or l i 0 ≡ x → k ≡ n + 1 → k ≡ times_in l (i + 1) x
+    pub times_hit : (count : ℕ) → i < count → get_or (take count l) i 0 ≡ x → k ≡ n + 1 → k ≡ times_in l (i + 1) x
     unfolding times_in sum_below
-    times_hit h f = rw (add-one i, eq-eqb (get_or l i 0) x h) (omega arith)
+    times_hit count m h f = rw (add-one i, eq-eqb (get_or l i 0) x (sym (get_or-take count l i 0 m) ∙ h)) (omega arith)
 
-    pub times_miss : (get_or l i 0 ≡ x → ⊥) → k ≡ n → k ≡ times_in l (i + 1) x
+    pub times_miss : (count : ℕ) → i < count → (get_or (take count l) i 0 ≡ x → ⊥) → k ≡ n → k ≡ times_in l (i + 1) x
     unfolding times_in sum_below
-    times_miss h f = rw (add-one i, ne_eqb (get_or l i 0) x h) (omega arith)
-
-  pub times_done : (i count n : ℕ) → i ≤ count → count ≤ i → n ≡ times_in l i x → n ≡ times_in l count x
-  times_done i count n h k e =
-      let same : i ≡ count = omega arith in
-      e ∙ ap (λ m. times_in l m x) same
+    times_miss count m h f = rw (add-one i, ne_eqb (get_or l i 0) x (λ z. h (get_or-take count l i 0 m ∙ z))) (omega arith)
 
   -- a number that is not among others
   pub times_none_of : (n : ℕ) → ((i : ℕ) → i < n → get_or l i 0 ≡ x → ⊥) → times_in l n x ≡ 0

@@ -1,4 +1,4 @@
--- The refusal of a judgement, and the steps that write no rows: one law for each way through them, and what their calls need. Assumes
+-- The steps that write no rows: one law for each way through them, and what their calls need. Assumes
 -- nothing.
 use mathlib.Core.Path.{◌≡◌, refl, ap, ap₂, sym, subst, ◌∙◌}
 use mathlib.Core.Bool.{Bool, true, false, not, false≢true}
@@ -11,6 +11,7 @@ use lib.Seq.{get_or-set_same, get_or-set_other}
 use lib.Dec.{eqb}
 use borrow.Author.Count.{below_more}
 use borrow.Author.Tests.{eqb-true, eq-eqb, ne_eqb, not-true, not-false}
+use Rattle.std.specs.Prelude.{Result, Ok, Err}
 use Rattle.oat.specs.Basics.{pick, tabulate}
 use Rattle.oat.specs.Tables.{Tables, struct_at, built_in_at, node_at}
 use Rattle.oat.specs.Types.{Struct, found, type_of, struct_of, structs_of, lookup}
@@ -30,30 +31,13 @@ use Rattle.type_index.proofs.LawsIndex.{entered}
 use Rattle.bindings.specs.Bindings.{names_of, Bindable, Bound}
 use Rattle.bindings.proofs.LawsBindings.{scoped_linked, names_linked, names_declared}
 use Rattle.fields.proofs.LawsLookup.{record_fields}
-use Rattle.answers.specs.declared.answer.Judgement.{Judgement}
-use Rattle.answers.specs.declared.answer.Judgement.TheVariants.{Typed, GoesOn, Returns}
-use Rattle.answers.specs.declared.answer.Judgement.TheVariants as judgement
+use Rattle.answers.specs.declared.answer.Broken.TheVariants.{BoundTwice, Undeclared}
 use Rattle.expressions.proofs.LawsChild.{kind_within}
 use Rattle.steps.specs.declared.context.Context.{Context}
-use Rattle.steps.specs.declared.context.Stepped.{Stepped}
-use Rattle.steps.specs.declared.context.Stepped.TheVariants.{Next, Refused}
-use Rattle.steps.specs.Contract.{context_at, with_struct, with_name, with_step, handed_up, Held, answers_next, Answered, Copied, Newness, Whole, Rowless, ReadyStruct, ToldStruct, ReadyBuiltIn, ReadyHeading, ToldHeading, ReadyFields, types_formed, times_in}
+use Rattle.steps.specs.declared.context.Refusal.{Refusal}
+use Rattle.steps.specs.Contract.{context_at, with_struct, with_name, with_step, refusal_at, Held, answers_next, Answered, Copied, Newness, Whole, Rowless, ReadyStruct, ToldStruct, ReadyBuiltIn, ReadyHeading, ToldHeading, ReadyFields, types_formed, times_in}
 use Rattle.steps.proofs.LawsStepping.{stops, passes, answer_stops, answer_passes, rowless}
 use Rattle.steps.proofs.LawsNames.{times_none_of, times_absent, types_formed_are}
-
--- the refusal of a judgement
-module _ (j : Judgement) (step pairs : ℕ) where
-  pub refused_up : (p q : ℕ) → j ≡ judgement.Refused p q → Refused p step q pairs ≡ handed_up j step pairs
-  refused_up p q e = rw e
-
-  pub typed_up : (t : ℕ) → j ≡ Typed t → Refused 0 step 0 pairs ≡ handed_up j step pairs
-  typed_up t e = rw e
-
-  pub goes_up : j ≡ GoesOn → Refused 0 step 0 pairs ≡ handed_up j step pairs
-  goes_up e = rw e
-
-  pub returns_up : j ≡ Returns → Refused 0 step 0 pairs ≡ handed_up j step pairs
-  returns_up e = rw e
 
 -- structs without a name
 missing_of : (x n : ℕ) (f : ℕ → Struct) → ((j : ℕ) → j < n → (f j).name ≡ x → ⊥) → is_missing (lookup (tabulate n f) x) ≡ true
@@ -94,11 +78,11 @@ module _ {F : List ℕ} {S : Sections} {N : List ℕ} {c : Context} {i : ℕ} (r
       ap (λ k. is_missing (lookup (structs_of (tables_of F S) k) (struct_at (tables_of F S) i).name)) ready.next
       ∙ struct_new_is F S N i x n ready.copied ex en
 
-  pub struct_known : (n ≡ 0 → ⊥) → ToldStruct F S c i N (Refused 7 c.steps i c.pairs)
+  pub struct_known : (y : Refusal) → (n ≡ 0 → ⊥) → y ≡ refusal_at c BoundTwice i → ToldStruct F S c i N (Err y)
   unfolding stepping
-  struct_known f = record {
-    answered = record { tells = λ W. answer_stops _ 7 i _ (struct_tested ∙ ne_eqb n 0 f) refl };
-    copied = λ e. absurd (let z : ◌≡◌ {A = ℕ} 0 1 = cc in omega arith);
+  struct_known y f e = record {
+    answered = record { tells = λ W. answer_stops _ BoundTwice i _ (struct_tested ∙ ne_eqb n 0 f) (ap Err e) };
+    copied = λ h. absurd (let z : ◌≡◌ {A = ℕ} 0 1 = cc in omega arith);
   }
 
   struct_added : (W : List ℕ) → context_at (tables_of F S) W (with_struct c) ≡ add_struct (context_at (tables_of F S) W c) (struct_of (tables_of F S) i)
@@ -118,10 +102,10 @@ module _ {F : List ℕ} {S : Sections} {N : List ℕ} {c : Context} {i : ℕ} (r
         (get_or-set_same N i x 0 (omega (arith, ready.copied.long, ready.copied.laid.structs_most, ready.there)) ∙ ex);
   }
 
-  pub struct_new : (d : Context) → n ≡ 0 → d ≡ with_struct c → ToldStruct F S c i (set N i x) (Next d)
+  pub struct_new : (d : Context) → n ≡ 0 → d ≡ with_struct c → ToldStruct F S c i (set N i x) (Ok d)
   unfolding stepping
   struct_new d z e = record {
-    answered = record { tells = λ W. answer_passes _ 7 i _ (struct_tested ∙ eq-eqb n 0 z) (answers_next _ (ap Next e) (struct_added W)) };
+    answered = record { tells = λ W. answer_passes _ 7 i _ (struct_tested ∙ eq-eqb n 0 z) (answers_next _ (ap Ok e) (struct_added W)) };
     copied = λ _. struct_copied;
   }
 
@@ -146,18 +130,18 @@ module _ {F : List ℕ} {S : Sections} {X W K : List ℕ} {c : Context} {i : ℕ
       built_in_tested : formed (tables_of F S) (context_at (tables_of F S) W c) (built_in_at (tables_of F S) i).type ≡ b
       built_in_tested = formed_whole F S X W c _ b ready.held.indexed ready.whole built_in_within (eb ∙ ap (formed_entry X) et)
 
-      pub built_in_unformed : not b ≡ true → Rowless F S X c (built_in i) W W K (Refused 9 c.steps i c.pairs)
+      pub built_in_unformed : (y : Refusal) → not b ≡ true → y ≡ refusal_at c Undeclared i → Rowless F S X c (built_in i) W W K (Err y)
       unfolding stepping
-      built_in_unformed f = record { tells = λ R. stops _ 9 i _ _ (built_in_tested ∙ not-true b f) refl }
+      built_in_unformed y f e = record { tells = λ R. stops _ Undeclared i _ _ (built_in_tested ∙ not-true b f) (ap Err e) }
 
       module _ (f : not b ≡ false) (x : ℕ) (ex : x ≡ (built_in_at (tables_of F S) i).name) (n : Bool) (new : Newness F S W K x n) where
         built_in_asked : is_miss (find_name (built_in_at (tables_of F S) i).name (names_of (tables_of F S) W c.names)) ≡ n
         built_in_asked = sym (new.tells c.names ready.held.scoped ∙ ap (λ y. is_miss (find_name y (names_of (tables_of F S) W c.names))) ex)
 
-        pub built_in_known : not n ≡ true → Rowless F S X c (built_in i) W W K (Refused 7 c.steps i c.pairs)
+        pub built_in_known : (y : Refusal) → not n ≡ true → y ≡ refusal_at c BoundTwice i → Rowless F S X c (built_in i) W W K (Err y)
         unfolding stepping
-        built_in_known g = record {
-          tells = λ R. passes _ 9 i _ (built_in_tested ∙ not-false b f) (stops _ 7 i _ _ (built_in_asked ∙ not-true n g) refl);
+        built_in_known y g e = record {
+          tells = λ R. passes _ 9 i _ (built_in_tested ∙ not-false b f) (stops _ BoundTwice i _ _ (built_in_asked ∙ not-true n g) (ap Err e));
         }
 
         built_in_low : c.names < S.built_ins
@@ -182,12 +166,12 @@ module _ {F : List ℕ} {S : Sections} {X W K : List ℕ} {c : Context} {i : ℕ
             ap (λ l. record { structs = structs_of (tables_of F S) c.structs; names = l }) (names_linked F S W c.names built_in_low)
             ∙ ap (λ k. add_name (context_at (tables_of F S) W c) (built_in_at (tables_of F S) k).name (built_in_at (tables_of F S) k).type (40000 + k) false) ready.next
 
-        pub built_in_new : (K' : List ℕ) (d : Context) → not n ≡ false → K' ≡ set (set K (512 + i) (get_or K (x % 512) 0)) (x % 512) (i + 1) → d ≡ with_name c
-            → Rowless F S X c (built_in i) W W K' (Next d)
+        pub built_in_new : (W' K' : List ℕ) (d : Context) → not n ≡ false → W' ≡ W → K' ≡ set (set K (512 + i) (get_or K (x % 512) 0)) (x % 512) (i + 1)
+            → d ≡ with_name c → Rowless F S X c (built_in i) W W' K' (Ok d)
         unfolding stepping step_rows
-        built_in_new K' d g e_k e = record {
+        built_in_new W' K' d g e_w e_k e = subst (λ V. Rowless F S X c (built_in i) W V K' (Ok d)) (sym e_w) record {
           tells = λ R. passes _ 9 i _ (built_in_tested ∙ not-false b f)
-              (passes _ 7 i _ (built_in_asked ∙ not-false n g) (rowless R _ refl refl (ap Next e) (built_in_held K' e_k) built_in_added));
+              (passes _ 7 i _ (built_in_asked ∙ not-false n g) (rowless R _ refl refl (ap Ok e) (built_in_held K' e_k) built_in_added));
         }
 
 -- function headings
@@ -196,7 +180,7 @@ module _ {F : List ℕ} {S : Sections} {X W K : List ℕ} {c : Context} {n : ℕ
   heading_node = record { laid = ready.held.good_tables.laid; within = subst (λ k. n < k) (nodes_long F S) ready.stands.0.within }
 
   -- the operands of the node are those of the function
-  heading_told : (W' K' : List ℕ) (r : Stepped) → Rowless F S X c (heading n (node_at (tables_of F S) n).x (node_at (tables_of F S) n).t) W W' K' r → ToldHeading F S X W c n W' K' r
+  heading_told : (W' K' : List ℕ) (r : Result Context Refusal) → Rowless F S X c (heading n (node_at (tables_of F S) n).x (node_at (tables_of F S) n).t) W W' K' r → ToldHeading F S X W c n W' K' r
   heading_told W' K' r m = record {
     tells = λ x t ps b h. subst (λ s. Rowless F S X c s W W' K' r) (ap₂ (λ x t. heading n x t) h.0.x_is h.0.t_is) m;
   }
@@ -221,18 +205,18 @@ module _ {F : List ℕ} {S : Sections} {X W K : List ℕ} {c : Context} {n : ℕ
       heading_tested : formed (tables_of F S) (context_at (tables_of F S) W c) (node_at (tables_of F S) n).t ≡ b
       heading_tested = subst (λ u. formed (tables_of F S) (context_at (tables_of F S) W c) u ≡ b) et (formed_whole F S X W c t b ready.held.indexed ready.whole heading_within eb)
 
-      pub heading_unformed : not b ≡ true → ToldHeading F S X W c n W K (Refused 9 c.steps n c.pairs)
+      pub heading_unformed : (y : Refusal) → not b ≡ true → y ≡ refusal_at c Undeclared n → ToldHeading F S X W c n W K (Err y)
       unfolding stepping
-      heading_unformed f = heading_told W K _ (record { tells = λ R. stops _ 9 n _ _ (heading_tested ∙ not-true b f) refl })
+      heading_unformed y f e = heading_told W K _ (record { tells = λ R. stops _ Undeclared n _ _ (heading_tested ∙ not-true b f) (ap Err e) })
 
       module _ (f : not b ≡ false) (x : ℕ) (ex : x ≡ (node_at (tables_of F S) n).x) (m : Bool) (new : Newness F S W K x m) where
         heading_asked : is_miss (find_name (node_at (tables_of F S) n).x (names_of (tables_of F S) W c.names)) ≡ m
         heading_asked = sym (new.tells c.names ready.held.scoped ∙ ap (λ y. is_miss (find_name y (names_of (tables_of F S) W c.names))) ex)
 
-        pub heading_known : not m ≡ true → ToldHeading F S X W c n W K (Refused 7 c.steps n c.pairs)
+        pub heading_known : (y : Refusal) → not m ≡ true → y ≡ refusal_at c BoundTwice n → ToldHeading F S X W c n W K (Err y)
         unfolding stepping
-        heading_known g = heading_told W K _ (record {
-          tells = λ R. passes _ 9 n _ (heading_tested ∙ not-false b f) (stops _ 7 n _ _ (heading_asked ∙ not-true m g) refl);
+        heading_known y g e = heading_told W K _ (record {
+          tells = λ R. passes _ 9 n _ (heading_tested ∙ not-false b f) (stops _ BoundTwice n _ _ (heading_asked ∙ not-true m g) (ap Err e));
         })
 
         module _ {W' K' : List ℕ} (bound : Bound F S W K c.names n t W' K') where
@@ -244,12 +228,12 @@ module _ {F : List ℕ} {S : Sections} {X W K : List ℕ} {c : Context} {n : ℕ
               et
               (ap (λ k. eqb k 1) ready.stands.0.kind_is ∙ ne_eqb 2 1 (λ z. omega arith))
 
-          pub heading_new : (d : Context) → not m ≡ false → d ≡ with_name c → ToldHeading F S X W c n W' K' (Next d)
+          pub heading_new : (d : Context) → not m ≡ false → d ≡ with_name c → ToldHeading F S X W c n W' K' (Ok d)
           unfolding stepping step_rows
           heading_new d g e = heading_told W' K' _ (record {
             tells = λ R. passes _ 9 n _ (heading_tested ∙ not-false b f)
                 (passes _ 7 n _ (heading_asked ∙ not-false m g)
-                (rowless R _ refl refl (ap Next e) (record { good_tables = ready.held.good_tables; indexed = ready.held.indexed; scoped = bound.scoped }) heading_added));
+                (rowless R _ refl refl (ap Ok e) (record { good_tables = ready.held.good_tables; indexed = ready.held.indexed; scoped = bound.scoped }) heading_added));
           })
 
 -- struct fields
@@ -274,20 +258,20 @@ module _ {F : List ℕ} {S : Sections} {X : List ℕ} {c : Context} {i : ℕ} (r
         (ap (λ k. structs_of (tables_of F S) k) (ready.whole.structs ∙ sym (structs_long F S)))
         (record_fields F S ready.good_tables i ready.there))
 
-    pub fields_unformed : not b ≡ true → Answered F S c (struct_fields i) (Refused 9 c.steps i c.pairs)
+    pub fields_unformed : (y : Refusal) → not b ≡ true → y ≡ refusal_at c Undeclared i → Answered F S c (struct_fields i) (Err y)
     unfolding stepping
-    fields_unformed f = record { tells = λ W. answer_stops _ 9 i _ (fields_tested W ∙ not-true b f) refl }
+    fields_unformed y f e = record { tells = λ W. answer_stops _ Undeclared i _ (fields_tested W ∙ not-true b f) (ap Err e) }
 
     module _ (f : not b ≡ false) (n : Bool) (en : n ≡ distinct_fields (struct_of (tables_of F S) i).fields) where
-      pub fields_again : not n ≡ true → Answered F S c (struct_fields i) (Refused 7 c.steps i c.pairs)
+      pub fields_again : (y : Refusal) → not n ≡ true → y ≡ refusal_at c BoundTwice i → Answered F S c (struct_fields i) (Err y)
       unfolding stepping
-      fields_again g = record {
-        tells = λ W. answer_passes _ 9 i _ (fields_tested W ∙ not-false b f) (answer_stops _ 7 i _ (sym en ∙ not-true n g) refl);
+      fields_again y g e = record {
+        tells = λ W. answer_passes _ 9 i _ (fields_tested W ∙ not-false b f) (answer_stops _ BoundTwice i _ (sym en ∙ not-true n g) (ap Err e));
       }
 
-      pub fields_distinct : (d : Context) → not n ≡ false → d ≡ with_step c → Answered F S c (struct_fields i) (Next d)
+      pub fields_distinct : (d : Context) → not n ≡ false → d ≡ with_step c → Answered F S c (struct_fields i) (Ok d)
       unfolding stepping
       fields_distinct d g e = record {
         tells = λ W. answer_passes _ 9 i _ (fields_tested W ∙ not-false b f)
-            (answer_passes _ 7 i _ (sym en ∙ not-false n g) (answers_next _ (ap Next e) refl));
+            (answer_passes _ 7 i _ (sym en ∙ not-false n g) (answers_next _ (ap Ok e) refl));
       }

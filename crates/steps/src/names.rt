@@ -22,7 +22,12 @@ pub fn types_formed(file: &IndexedFile<'_>, first: usize, count: usize) -> bool
     requires { first + count ≤ file.now.sections.fields }
     ensures { result ≡ types_formed file.now.index.now (tables file.now) first count }
 {
-    (0..count).all(|i| is_formed(file.index, field_type(file.bytes, file.sections, first + i)))
+    for i in 0..count {
+        if !is_formed(file.index, field_type(file.bytes, file.sections, first + i)) {
+            return false;
+        }
+    }
+    true
 }
 
 // How often the name stands among the first `count` names.

@@ -1,13 +1,9 @@
 -- `names::types_formed` meets its contract. The loop keeps: the type of every field passed is well-formed. Assumes nothing.
 use mathlib.Core.Path.{◌≡◌}
 use mathlib.Core.Bool.{true}
-use Prim.Native.Nat.{◌-◌, ◌≤◌}
 use Rattle.file_sections.specs.Layout.{tables_of}
 use Rattle.steps.specs.Contract.{types_formed}
 use Rattle.steps.proofs.names.types_formed.Given as goal
 
 abbrev pub invariant-loop-i : goal.invariant-loop-i
-invariant-loop-i l = (l.i ≤ l.count) × (types_formed l.index (tables_of l.file l.sections) l.first l.i ≡ true)
-
-abbrev pub decreases-loop-i : goal.decreases-loop-i
-decreases-loop-i l = l.count - l.i
+invariant-loop-i l = types_formed l.file.index.now (tables_of l.file.bytes.now l.file.sections) l.first l.i ≡ true

@@ -7,7 +7,7 @@ use Rattle.steps.proofs.LawsParameters.{parameters_start, parameter_some, parame
 use Rattle.steps.proofs.parameters.parameters.Goals as goal
 
 pub loop-i-init : goal.loop-i-init
-loop-i-init c = (parameters_start c.requires, refl, refl)
+loop-i-init c = (parameters_start c.requires, search rules)
 
 pub overflow_add-at : goal.overflow_add-at
 overflow_add-at c = omega (arith, (parameter_node c.requires c.loop-i.invariant.0 c.loop-i-test.true).within, c.requires.fine.good_tables.laid.nodes_most)
@@ -21,8 +21,8 @@ node_x-name-requires c = parameter_node c.requires c.loop-i.invariant.0 c.loop-i
 pub is_fresh-requires : goal.is_fresh-requires
 is_fresh-requires c = parameter_some c.requires c.loop-i.invariant.0
 
-pub returns-then-not-is_fresh : goal.returns-then-not-is_fresh
-returns-then-not-is_fresh c = parameter_taken c.requires c.loop-i.invariant.0 c.loop-i-test.true c.node_x-name.ensures.0 c.is_fresh.ensures (not_from_false _ c.if-not-is_fresh.true)
+pub returns-then-not-is_fresh-clause-told : goal.returns-then-not-is_fresh-clause-told
+returns-then-not-is_fresh-clause-told c = parameter_taken c.requires c.loop-i.invariant.0 c.loop-i-test.true c.node_x-name.ensures.0 c.is_fresh.ensures (not_from_false _ c.if-not-is_fresh.true)
 
 pub overflow_add-first : goal.overflow_add-first
 overflow_add-first c = omega (arith, (parameter_entry c.requires c.loop-i.invariant.0 c.loop-i-test.true).within, c.requires.fine.good_tables.laid.list_most)
@@ -39,19 +39,12 @@ bind-requires c = parameter_bindable c.requires c.loop-i.invariant.0 c.loop-i-te
 pub row-requires : goal.row-requires
 row-requires c = parameter_fits c.requires c.loop-i.invariant.0 c.loop-i-test.true c.list_entry-t.ensures.0
 
-pub overflow_add-i : goal.overflow_add-i
-overflow_add-i c = omega (arith, c.loop-i-test.true, c.ranges.count)
-
-pub loop-i-smaller : goal.loop-i-smaller
-loop-i-smaller c = omega (arith, c.loop-i-test.true)
-
 pub loop-i-preserved : goal.loop-i-preserved
 loop-i-preserved c = (
   (
-      parameter_again c.requires c.loop-i.invariant.0 c.loop-i-test.true c.node_x-name.ensures.0 c.is_fresh.ensures (not_from_true _ c.if-not-is_fresh.false) c.list_entry-t.ensures.0 c.bind.ensures c.row.ensures),
-  search rules,
+      parameter_again c.requires c.loop-i.invariant.0 c.loop-i-test.true c.node_x-name.ensures.0 c.is_fresh.ensures (not_from_true _ c.if-not-is_fresh.false) c.list_entry-t.ensures.0 c.bind.ensures.bound c.row.ensures),
   search rules,
 )
 
-pub returns : goal.returns
-returns c = parameters_done c.requires c.loop-i.invariant.0 c.loop-i-test.false
+pub returns-clause-told : goal.returns-clause-told
+returns-clause-told c = parameters_done c.requires c.loop-i.invariant.0 (omega (arith, c.loop-i-test.false))

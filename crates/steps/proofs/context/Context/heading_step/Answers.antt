@@ -9,17 +9,17 @@ node_t-t-requires c = search (heading_node, rules)
 pub is_formed-requires : goal.is_formed-requires
 is_formed-requires c = search (heading_entered, rules)
 
-pub returns-then-not-is_formed : goal.returns-then-not-is_formed
-returns-then-not-is_formed c = search (heading_unformed, rules)
+pub returns-then-not-is_formed-clause-told : goal.returns-then-not-is_formed-clause-told
+returns-then-not-is_formed-clause-told c = search (heading_unformed, rules)
 
 pub node_x-name-requires : goal.node_x-name-requires
 node_x-name-requires c = search (heading_node, rules)
 
-pub returns-then-not-is_new : goal.returns-then-not-is_new
-returns-then-not-is_new c = search (heading_known, rules)
+pub returns-then-not-is_new-clause-told : goal.returns-then-not-is_new-clause-told
+returns-then-not-is_new-clause-told c = search (heading_known, rules)
 
 pub bind-requires : goal.bind-requires
 bind-requires c = search (heading_bindable, rules)
 
-pub returns : goal.returns
-returns c = search (heading_new, rules)
+pub returns-clause-told : goal.returns-clause-told
+returns-clause-told c = search (heading_new, rules)
