@@ -3,6 +3,7 @@
 use mathlib.Core.Path.{◌≡◌, refl, ap, sym, subst, ◌∙◌}
 use mathlib.Core.Bool.{Bool, true, false, not}
 use mathlib.Core.List.{List, ◌∷◌, ◌++◌}
+use mathlib.Core.Logic.{◌⊎◌, inl, inr}
 use Prim.Native.Nat.{ℕ, zero, suc, ◌+◌, ◌*◌, ◌≤◌, ◌<◌}
 use native.Mathlib.Omega.{arith}
 use lib.ListN.{length, drop, replicate, length-append}
@@ -30,7 +31,7 @@ use Rattle.bindings.specs.Bindings.{entry_of, Scoped, Holds}
 use Rattle.bindings.proofs.LawsBindings.{names_same, holds_own}
 use Rattle.answers.specs.declared.answer.Broken.{Broken}
 use Rattle.answers.specs.declared.answer.Broken.TheVariants.{BoundTwice, WrongMark}
-use Rattle.answers.specs.declared.answer.Judgement.TheVariants.{Returns, Refused}
+use Rattle.answers.specs.declared.answer.Judgement.TheVariants.{Typed, GoesOn, Returns, Refused}
 use Rattle.answers.specs.declared.answer.Judged.{Judged}
 use Rattle.answers.specs.Answers.{with_row}
 use Rattle.expressions.specs.Contract.{Fine, After, Meets}
@@ -53,8 +54,13 @@ use Rattle.steps.proofs.LawsRows.{rows_count, rows_list, parameters_count}
 pub record Unreturned (r : Judged) : Type 0 where
   pub never : r.judgement ≡ Returns → ⊥
 
-pub unreturned : (r : Judged) → (r.judgement ≡ Returns → ⊥) → Unreturned r
-unreturned r h = record { never = h }
+-- an answer that goes on, or is a type, is neither return nor refusal; a return is no refusal
+pub unfinished : (r : Judged) → (r.judgement ≡ GoesOn) ⊎ ((t : ℕ) × (r.judgement ≡ Typed t)) → Unrefused r × Unreturned r
+unfinished r (inl e) = (record { never = λ p q z. let y : ◌≡◌ {A = ℕ} 0 1 = cc in omega arith }, record { never = λ z. let y : ◌≡◌ {A = ℕ} 0 1 = cc in omega arith })
+unfinished r (inr (t, e)) = (record { never = λ p q z. let y : ◌≡◌ {A = ℕ} 0 1 = cc in omega arith }, record { never = λ z. let y : ◌≡◌ {A = ℕ} 0 1 = cc in omega arith })
+
+pub returns_unrefused : (r : Judged) → r.judgement ≡ Returns → Unrefused r
+returns_unrefused r e = record { never = λ p q z. let y : ◌≡◌ {A = ℕ} 0 1 = cc in omega arith }
 
 -- the labels of the block are those after the unlabelled nodes
 drop_unlabelled : (k : ℕ) (M : List (Label ℕ)) → drop k (replicate k unlabelled ++ M) ≡ M
@@ -203,7 +209,7 @@ module _ {F : List ℕ} {S : Sections} {X R W K : List ℕ} {c : Context} {n : �
                   record {
                     tells = λ x u ps b h.
                         passes (distinct_names ps) 7 n _ (distinct x u ps b h)
-                        (hands_up _ _ _ (λ i L d. marked_no i p q (sym d.mark ∙ j)) p q j (refused_after ed ey) (ran x u ps b h));
+                        (hands_up _ _ _ (λ i L d. marked_no i p q (sym d.mark ∙ j)) p q j (refused_after c ed ey) (ran x u ps b h));
                   }
 
               module _ (v : Unrefused r₂) where
@@ -215,7 +221,7 @@ module _ {F : List ℕ} {S : Sections} {X R W K : List ℕ} {c : Context} {n : �
                       tells = λ x u ps b h.
                           passes (distinct_names ps) 7 n _ (distinct x u ps b h)
                           (goes_on _ _ v (ran x u ps b h) λ i L q d.
-                          stops (eqb i 1) WrongMark n _ _ (ne_eqb i 1 (λ z. o.never (d.mark ∙ sym (returns_marked i z)))) (refused_after ed ey));
+                          stops (eqb i 1) WrongMark n _ _ (ne_eqb i 1 (λ z. o.never (d.mark ∙ sym (returns_marked i z)))) (refused_after c ed ey));
                     }
 
                 fine_now : Fine F S X R₂ W₂ K₂ c.names (c.names + count)
@@ -231,11 +237,11 @@ module _ {F : List ℕ} {S : Sections} {X R W K : List ℕ} {c : Context} {n : �
                 pub body_fits : (n * 2 + 1 < length R₂) × (n < 65536) × (1 < 65536) × (65535 < 65536)
                 body_fits = (omega (arith, fine_now.rows_long, there), omega (arith, there, g.held.good_tables.laid.nodes_most), omega arith, omega arith)
 
-                pub body_ok : {K₃ R' : List ℕ} {e f : Context} → r₂.judgement ≡ Returns → Scoped F S W₂ K₃ c.names → R' ≡ with_row R₂ n 1 65535 → e ≡ summing r₂.at.pairs c
-                    → f ≡ with_step e → ToldBody F S X R W c n R' W₂ K₃ (Ok f)
+                pub body_ok : {W₃ K₃ R' : List ℕ} {e f : Context} → r₂.judgement ≡ Returns → W₃ ≡ W₂ → Scoped F S W₂ K₃ c.names → R' ≡ with_row R₂ n 1 65535 → e ≡ summing r₂.at.pairs c
+                    → f ≡ with_step e → ToldBody F S X R W c n R' W₃ K₃ (Ok f)
                 unfolding stepping
-                body_ok {K₃} {R'} y k e_r ee ef =
-                    record {
+                body_ok {W₃} {K₃} {R'} {e} {f} y e_w k e_r ee ef =
+                    subst (λ V. ToldBody F S X R W c n R' V K₃ (Ok f)) (sym e_w) record {
                       tells = λ x u ps b h.
                           passes (distinct_names ps) 7 n _ (distinct x u ps b h)
                           (goes_on _ _ v (ran x u ps b h) λ i L q d.

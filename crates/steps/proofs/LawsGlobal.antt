@@ -43,8 +43,9 @@ use Rattle.steps.proofs.LawsStepping.{accepts_with, stepping_more, stops, passes
 use Rattle.steps.proofs.LawsRows.{rows_count, rows_list}
 
 -- the refusal after a sum of pairs
-pub refused_after : {c d : Context} {k q : ℕ} {b : Broken} {y : Refusal} → d ≡ summing k c → y ≡ refusal_at d b q → ◌≡◌ {A = Result Context Refusal} (Err y) (Err (refusal_at (summing k c) b q))
-refused_after {b = b} {q = q} ed ey = ap Err (ey ∙ ap (λ x. refusal_at x b q) ed)
+pub refused_after : (c : Context) {d : Context} {k q : ℕ} {b : Broken} {y : Refusal} → d ≡ summing k c → y ≡ refusal_at d b q
+    → ◌≡◌ {A = Result Context Refusal} (Err y) (Err (refusal_at (summing k c) b q))
+refused_after c {q = q} {b = b} ed ey = ap Err (ey ∙ ap (λ x. refusal_at x b q) ed)
 
 entry_is : {t n x y : ℕ} {b : Bool} {l k : List (Entry ℕ)} → x ≡ y → b ≡ true → l ≡ k
     → ◌≡◌ {A = List (Entry ℕ)} (record { name = x; type = t; binder = n; assignable = b } ∷ l) (record { name = y; type = t; binder = n; assignable = true } ∷ k)
@@ -87,7 +88,7 @@ module _ {F : List ℕ} {S : Sections} {X R W K : List ℕ} {c : Context} {n : �
         → ToldGlobal F S X R W c n R₁ W₁ K₁ (Err y)
     unfolding stepping
     global_no {b} {q} j ed ey = record {
-      tells = λ x a h. hands_up _ _ _ (λ t L p. let z : ◌≡◌ {A = ℕ} 0 1 = cc in omega arith) b q j (refused_after ed ey) (judged a x h);
+      tells = λ x a h. hands_up _ _ _ (λ t L p. let z : ◌≡◌ {A = ℕ} 0 1 = cc in omega arith) b q j (refused_after c ed ey) (judged a x h);
     }
 
     -- an initializer is typed or refused
@@ -174,7 +175,7 @@ module _ {F : List ℕ} {S : Sections} {X R W K : List ℕ} {c : Context} {n : �
             record {
               tells = λ x a h.
                   accepted x a h _ λ L q p.
-                  stops _ BoundTwice n _ _ (new_is x h.0.x_is p.after.same ∙ not-true b₁ f) (refused_after ed ey);
+                  stops _ BoundTwice n _ _ (new_is x h.0.x_is p.after.same ∙ not-true b₁ f) (refused_after c ed ey);
             }
 
         pub global_ok : {W₂ K₂ R' : List ℕ} {d e : Context} → not b₁ ≡ false → Bound F S W₁ K₁ c.names n t W₂ K₂ → R' ≡ with_row R₁ n t 65535 → d ≡ summing r₁.at.pairs c
