@@ -11,7 +11,7 @@ use vector_input::{next_length, read_one};
 // Checks a file and prints its lines.
 fn answer(file: &[u8], rows: &mut [u16], work: &mut [u16], text: &mut [u8]) {
     let answer = check(file, widest(), &mut *rows, work);
-    write_answer(
+    let _ = write_answer(
         answer.number,
         answer.step,
         answer.place,
@@ -33,15 +33,13 @@ fn answer_one(file: &[u8], length: usize, rows: &mut [u16], work: &mut [u16], te
 
 // Answers each file of the input, at most `most`.
 fn answer_each(file: &mut [u8], rows: &mut [u16], work: &mut [u16], text: &mut [u8], most: usize) {
-    let mut left = most;
-    while 0 < left {
+    for _ in 0..most {
         let length = next_length();
         if length == 65536 {
             return;
         }
         read_one(&mut *file, length);
         answer_one(&*file, length, &mut *rows, &mut *work, &mut *text);
-        left -= 1;
     }
 }
 

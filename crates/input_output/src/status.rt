@@ -1,10 +1,10 @@
 // How a program ended, for the script that runs it: the program writes a digit to descriptor 3, and the script (`oat_check`) ends with that as its
 // exit status. Where descriptor 3 is not open the digit is lost.
 ghost use Rattle.std.specs.Prelude.{◌≡◌};
-ghost use Rattle.input_output.specs.Digits.{digit_of};
+ghost use Rattle.input_output.specs.Digits.{status_of, digit_of};
 
 // How a command ended.
-#[derive(Clone, Copy)]
+#[derive(Clone, Copy, PartialEq, Eq)]
 pub enum Status {
     // accepted
     Done,
@@ -12,6 +12,18 @@ pub enum Status {
     Refused,
     // a file that cannot be read, or an output that fails, told on standard error
     Failed,
+}
+
+impl Status {
+    // How a command ended whose answer has this number.
+    pub fn of(number: u16) -> Status
+        ensures { result ≡ status_of number }
+    {
+        if number == 0 {
+            return Status::Done;
+        }
+        Status::Refused
+    }
 }
 
 // The digit of a status.

@@ -6,7 +6,7 @@
 
 use answer_output::{node_count, write_answer};
 use program_file::Limits;
-use subtyping::question::Answer;
+use subtyping::question::subtype;
 use typing::check::check;
 use vector_input::{next_length, read_one};
 
@@ -25,26 +25,19 @@ fn print_read(file: &[u8], limits: Limits) {
     io::write_all(1, b"\nsub");
 }
 
-// Prints an answer and its count.
-fn print_counted(answer: &[u8], pairs: u16) {
-    io::write_all(1, answer);
-    io::print_decimal(1, pairs as u64);
+// Prints a word and a number after it.
+fn print_counted(word: &[u8], number: u16) {
+    io::write_all(1, word);
+    io::print_decimal(1, u64::from(number));
 }
 
 // Prints the answer to a subtype question, and its count.
 fn print_below(file: &[u8], limits: Limits, a: usize, b: usize) {
-    let answer = subtyping::question::subtype(file, limits, a, b);
-    match answer {
-        Answer::Refused(number) => {
-            io::write_all(1, b" ");
-            io::print_decimal(1, number as u64);
+    match subtype(file, limits, a, b) {
+        Ok(answer) => print_counted(if answer.holds { b" yes " } else { b" no " }, answer.pairs),
+        Err(refusal) => {
+            print_counted(b" ", refusal.number());
             print_counted(b" ", 0);
-        }
-        Answer::Yes(pairs) => {
-            print_counted(b" yes ", pairs);
-        }
-        Answer::No(pairs) => {
-            print_counted(b" no ", pairs);
         }
     }
 }
@@ -58,7 +51,7 @@ fn answer(file: &[u8], limits: Limits, rows: &mut [u16], work: &mut [u16], text:
     print_below(file, limits, 600, 0);
     io::write_all(1, b"\n");
     let answer = check(file, limits, &mut *rows, work);
-    write_answer(
+    let _ = write_answer(
         answer.number,
         answer.step,
         answer.place,
@@ -87,8 +80,7 @@ fn answer_one(
 
 // Answers each case of the input, at most `most`.
 fn answer_each(file: &mut [u8], rows: &mut [u16], work: &mut [u16], text: &mut [u8], most: usize) {
-    let mut left = most;
-    while 0 < left {
+    for _ in 0..most {
         let length = next_length();
         if length == 65536 {
             return;
@@ -96,7 +88,6 @@ fn answer_each(file: &mut [u8], rows: &mut [u16], work: &mut [u16], text: &mut [
         let limits = next_limits();
         read_one(&mut *file, length);
         answer_one(&*file, length, limits, &mut *rows, &mut *work, &mut *text);
-        left -= 1;
     }
 }
 

@@ -9,16 +9,17 @@ use answer_output::node_count;
 use input_output::failure::fail;
 use input_output::input::read_all;
 use input_output::status::{Status, tell};
-use printing::Printed;
+use printing::Unprinted;
 use program_file::widest;
-use std::io::{Result, Write, writer};
+use std::io;
+use std::io::{Write, writer};
 use typing::check::check;
 
 // The number of an answer, and what became of its text.
 #[derive(Clone, Copy)]
 pub struct Answered {
     pub number: u16,
-    pub printed: Printed,
+    pub printed: Result<usize, Unprinted>,
 }
 
 // Checks a file and prints the answer to `text`, under document 01's limits.
@@ -38,24 +39,16 @@ fn answer(file: &[u8], rows: &mut [u16], work: &mut [u16], text: &mut [u8]) -> A
     );
     Answered {
         number: answer.number,
-        printed: printed,
+        printed,
     }
-}
-
-// How the command ended whose answer is written.
-fn status(number: u16) -> Status {
-    if number != 0 {
-        return Status::Refused;
-    }
-    Status::Done
 }
 
 // Writes the text of an answer to standard output, and tells how the command ended: a text that standard output did not take is told on standard
 // error.
-fn write(rt: &HostRuntime, number: u16, text: &[u8]) -> Result<()> {
+fn write(rt: &HostRuntime, number: u16, text: &[u8]) -> io::Result<()> {
     match writer(rt).write_all(text) {
         Ok(()) => {
-            tell(status(number));
+            tell(Status::of(number));
             Ok(())
         }
         Err(error) => {
@@ -67,7 +60,7 @@ fn write(rt: &HostRuntime, number: u16, text: &[u8]) -> Result<()> {
 
 // A file has at most 45,068 bytes, so that with one more it is refused as its bytes say; it has at most 4,096 nodes, with two numbers
 // each in `rows` and `work` and at most 18 bytes each in the text.
-fn main(rt: HostRuntime) -> Result<()> {
+fn main(rt: HostRuntime) -> io::Result<()> {
     let mut file = [0u8; 45069];
     let mut rows = [0u16; 8192];
     let mut work = [0u16; 8192];
@@ -81,7 +74,7 @@ fn main(rt: HostRuntime) -> Result<()> {
     };
     let answered = answer(&file[..length], &mut rows, &mut work, &mut text);
     match answered.printed {
-        Printed::Written(bytes) => write(&rt, answered.number, &text[..bytes]),
-        _ => Ok(()),
+        Ok(bytes) => write(&rt, answered.number, &text[..bytes]),
+        Err(_) => Ok(()),
     }
 }

@@ -1,4 +1,3 @@
-pub mod LawsSame
 pub mod LawsSum
 pub mod LawsNumbers
 pub mod LawsInput

@@ -10,9 +10,7 @@ mod text;
 mod words;
 
 use crate::replies::{answer_check, answer_page, answer_subtype, answer_tally};
-use crate::words::{
-    Number, Setting, complain, complain_at, limits_from, number_at, same, word_at, word_count,
-};
+use crate::words::{Unset, complain, complain_at, limits_from, number_at, word_at, word_count};
 use input_output::failure::fail;
 use input_output::input::read_all;
 use program_file::Limits;
@@ -85,11 +83,10 @@ fn answer_under(rt: &HostRuntime, question: Question, first: usize, words: usize
     if words < 3 {
         return complain(rt, b"no FILE", b"");
     }
-    let setting = limits_from(rt, first, words);
-    match setting {
-        Setting::To(limits) => answer_named(rt, question, limits),
-        Setting::Unknown(place) => complain_at(rt, b"unknown word: ", place),
-        Setting::NoNumber(place) => complain_at(rt, b"no number after ", place),
+    match limits_from(rt, first, words) {
+        Ok(limits) => answer_named(rt, question, limits),
+        Err(Unset::Unknown(place)) => complain_at(rt, b"unknown word: ", place),
+        Err(Unset::NoNumber(place)) => complain_at(rt, b"no number after ", place),
     }
 }
 
@@ -98,12 +95,10 @@ fn answer_types(rt: &HostRuntime, words: usize) -> Result<()> {
     if words < 5 {
         return complain(rt, b"subtype takes FILE, A and B", b"");
     }
-    let first = number_at(rt, 3);
-    let Number::Is(a) = first else {
+    let Some(a) = number_at(rt, 3) else {
         return complain_at(rt, b"no number: ", 3);
     };
-    let second = number_at(rt, 4);
-    let Number::Is(b) = second else {
+    let Some(b) = number_at(rt, 4) else {
         return complain_at(rt, b"no number: ", 4);
     };
     answer_under(rt, Question::Subtype(a, b), 5, words)
@@ -111,38 +106,37 @@ fn answer_types(rt: &HostRuntime, words: usize) -> Result<()> {
 
 // What the first word says.
 #[derive(Clone, Copy)]
-pub enum Verb {
+enum Verb {
     Check,
     Page,
     Subtype,
     Tally,
-    Unknown,
 }
 
-fn verb_named(word: &[u8]) -> Verb {
-    if same(word, b"check") {
-        return Verb::Check;
+fn verb_named(word: &[u8]) -> Option<Verb> {
+    if word == b"check" {
+        return Some(Verb::Check);
     }
-    if same(word, b"page") {
-        return Verb::Page;
+    if word == b"page" {
+        return Some(Verb::Page);
     }
-    if same(word, b"subtype") {
-        return Verb::Subtype;
+    if word == b"subtype" {
+        return Some(Verb::Subtype);
     }
-    if same(word, b"tally") {
-        return Verb::Tally;
+    if word == b"tally" {
+        return Some(Verb::Tally);
     }
-    Verb::Unknown
+    None
 }
 
 // Does what the verb says, where there are this many words, the program's own name among them.
-fn run(rt: &HostRuntime, verb: Verb, words: usize) -> Result<()> {
+fn run(rt: &HostRuntime, verb: Option<Verb>, words: usize) -> Result<()> {
     match verb {
-        Verb::Check => answer_under(rt, Question::Check, 3, words),
-        Verb::Page => answer_under(rt, Question::Page, 3, words),
-        Verb::Subtype => answer_types(rt, words),
-        Verb::Tally => answer_under(rt, Question::Tally, 3, words),
-        Verb::Unknown => complain_at(rt, b"unknown verb: ", 1),
+        Some(Verb::Check) => answer_under(rt, Question::Check, 3, words),
+        Some(Verb::Page) => answer_under(rt, Question::Page, 3, words),
+        Some(Verb::Subtype) => answer_types(rt, words),
+        Some(Verb::Tally) => answer_under(rt, Question::Tally, 3, words),
+        None => complain_at(rt, b"unknown verb: ", 1),
     }
 }
 

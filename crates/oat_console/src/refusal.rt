@@ -1,43 +1,39 @@
 // A refusal in words.
-use crate::text::{end_line, print, print_number};
 use std::io::Result;
 
-// Prints what a number of document 01's table, or of document 02's requests, means.
-fn print_meaning(rt: &HostRuntime, number: u16) -> Result<()> {
+// What a number of document 01's table, or of document 02's requests, means.
+fn meaning(number: u16) -> &'static str {
     match number {
-        1 => print(rt, b"length wrong"),
-        2 => print(rt, b"count over its most"),
-        3 => print(rt, b"types or type list broken"),
-        4 => print(rt, b"fields, structs or built-ins broken"),
-        5 => print(rt, b"node tree broken"),
-        6 => print(rt, b"rows or work short"),
-        7 => print(rt, b"name bound twice"),
-        8 => print(rt, b"name or field unknown"),
-        9 => print(rt, b"undeclared struct in a type"),
-        10 => print(rt, b"wrong sort of type"),
-        11 => print(rt, b"not a subtype"),
-        12 => print(rt, b"arguments or fields don't match"),
-        13 => print(rt, b"void against value"),
-        14 => print(rt, b"return mark wrong"),
-        15 => print(rt, b"function assigned"),
-        16 => print(rt, b"element without default"),
-        17 => print(rt, b"type not in file"),
-        18 => print(rt, b"page buffer too short"),
-        19 => print(rt, b"tally buffer too short"),
-        25 => print(rt, b"a limit out of its range"),
-        _ => print(rt, b"number without a meaning"),
+        1 => "length wrong",
+        2 => "count over its most",
+        3 => "types or type list broken",
+        4 => "fields, structs or built-ins broken",
+        5 => "node tree broken",
+        6 => "rows or work short",
+        7 => "name bound twice",
+        8 => "name or field unknown",
+        9 => "undeclared struct in a type",
+        10 => "wrong sort of type",
+        11 => "not a subtype",
+        12 => "arguments or fields don't match",
+        13 => "void against value",
+        14 => "return mark wrong",
+        15 => "function assigned",
+        16 => "element without default",
+        17 => "type not in file",
+        18 => "page buffer too short",
+        19 => "tally buffer too short",
+        25 => "a limit out of its range",
+        _ => "number without a meaning",
     }
 }
 
 // Prints a refusal: its number and what that means, with the step and the place where a typing rule is broken.
 pub(crate) fn print_refusal(rt: &HostRuntime, number: u16, step: u16, place: u16) -> Result<()> {
-    print_number(rt, b"refused: ", number as usize)?;
-    print(rt, b", ")?;
-    print_meaning(rt, number)?;
-    if 7 <= number && number <= 16 {
-        print_number(rt, b" (step ", step as usize)?;
-        print_number(rt, b", place ", place as usize)?;
-        print(rt, b")")?;
+    let means = meaning(number);
+    if (7..=16).contains(&number) {
+        println!(rt; "refused: {number}, {means} (step {step}, place {place})")
+    } else {
+        println!(rt; "refused: {number}, {means}")
     }
-    end_line(rt)
 }

@@ -4,12 +4,12 @@ ghost use Rattle.file_sections.specs.Layout.{Laid};
 
 use crate::refusal::print_refusal;
 use crate::tally_lines::print_tallies;
-use crate::text::{end_line, print, print_count, print_number};
-use file_sections::{Reading, Sections};
+use crate::text::Count;
+use file_sections::Sections;
 use pages::page;
 use program_file::{Limits, blank_file, meant};
 use std::io::{Result, Write, writer};
-use subtyping::question::{Answer, subtype};
+use subtyping::question::subtype;
 use tallies::tally;
 use typing::check::check;
 
@@ -21,12 +21,9 @@ pub(crate) fn answer_check(rt: &HostRuntime, file: &[u8], limits: Limits) -> Res
     if answer.number != 0 {
         return print_refusal(rt, answer.number, answer.step, answer.place);
     }
-    print(rt, b"accepted: ")?;
-    print_count(rt, answer.step as usize, b"step")?;
-    print(rt, b", ")?;
-    print_count(rt, answer.pairs as usize, b"pair")?;
-    print(rt, b" of types compared")?;
-    end_line(rt)
+    let steps = Count(usize::from(answer.step), "step");
+    let pairs = Count(answer.pairs as usize, "pair");
+    println!(rt; "accepted: {steps}, {pairs} of types compared")
 }
 
 // Checks a file, and prints the page of its rows, or its refusal.
@@ -42,17 +39,6 @@ pub(crate) fn answer_page(rt: &HostRuntime, file: &[u8], limits: Limits) -> Resu
     writer(rt).write_all(&out[..bytes])
 }
 
-// Prints two types and what is said of them, and how many pairs were compared.
-fn print_question(rt: &HostRuntime, a: usize, says: &[u8], b: usize, pairs: u16) -> Result<()> {
-    print_number(rt, b"type ", a)?;
-    print(rt, says)?;
-    print_number(rt, b" type ", b)?;
-    print(rt, b", ")?;
-    print_count(rt, pairs as usize, b"pair")?;
-    print(rt, b" of types compared")?;
-    end_line(rt)
-}
-
 // Prints whether one type of a file is below another, or the refusal of the question.
 pub(crate) fn answer_subtype(
     rt: &HostRuntime,
@@ -61,17 +47,14 @@ pub(crate) fn answer_subtype(
     a: usize,
     b: usize,
 ) -> Result<()> {
-    let answer = subtype(file, limits, a, b);
-    match answer {
-        Answer::Refused(number) => print_refusal(rt, number, 0, 0),
-        Answer::Yes(pairs) => {
-            print(rt, b"yes: ")?;
-            print_question(rt, a, b" is below", b, pairs)
+    match subtype(file, limits, a, b) {
+        Ok(answer) => {
+            let says = if answer.holds { "yes" } else { "no" };
+            let not = if answer.holds { "" } else { " not" };
+            let pairs = Count(usize::from(answer.pairs), "pair");
+            println!(rt; "{says}: type {a} is{not} below type {b}, {pairs} of types compared")
         }
-        Answer::No(pairs) => {
-            print(rt, b"no: ")?;
-            print_question(rt, a, b" is not below", b, pairs)
-        }
+        Err(refusal) => print_refusal(rt, refusal.number(), 0, 0),
     }
 }
 
@@ -99,16 +82,16 @@ fn answer_tally_read(
     if answer.number != 0 {
         return print_refusal(rt, answer.number, answer.step, answer.place);
     }
-    print_tallies(rt, file, sections, &by_type, &by_declaration)?;
-    end_line(rt)
+    print_tallies(rt, file, sections, &by_type, &by_declaration)
 }
 
 // Checks a file, and prints its tallies or its refusal.
 pub(crate) fn answer_tally(rt: &HostRuntime, file: &[u8], limits: Limits) -> Result<()> {
-    let read = program_file::read(file, limits);
-    let Reading::Good(sections) = read else {
-        return print_refusal(rt, program_file::number(read), 0, 0);
-    };
-    let blank = blank_file();
-    answer_tally_read(rt, meant(file, &blank), limits, sections)
+    match program_file::read(file, limits) {
+        Ok(sections) => {
+            let blank = blank_file();
+            answer_tally_read(rt, meant(file, &blank), limits, sections)
+        }
+        Err(unreadable) => print_refusal(rt, unreadable.number(), 0, 0),
+    }
 }

@@ -1,29 +1,15 @@
-// Text to standard output.
-use std::io::{Result, Write, writer};
+// Counts in words.
+use std::fmt;
 
-// Prints a text.
-pub(crate) fn print(rt: &HostRuntime, text: &[u8]) -> Result<()> {
-    writer(rt).write_all(text)
-}
+// A number and what is counted, which takes an s unless there is one.
+#[derive(Clone, Copy)]
+pub(crate) struct Count(pub(crate) usize, pub(crate) &'static str);
 
-// Prints a text and a number after it.
-pub(crate) fn print_number(rt: &HostRuntime, before: &[u8], number: usize) -> Result<()> {
-    print(rt, before)?;
-    print!(rt; "{number}")
-}
-
-// Prints a number and what is counted, which takes an s unless there is one.
-pub(crate) fn print_count(rt: &HostRuntime, number: usize, what: &[u8]) -> Result<()> {
-    print_number(rt, b"", number)?;
-    print(rt, b" ")?;
-    print(rt, what)?;
-    if number != 1 {
-        print(rt, b"s")?;
+impl fmt::Display for Count {
+    fn fmt<W: fmt::Write>(&self, f: &mut fmt::Formatter<W>) -> fmt::Result {
+        let number = self.0;
+        let what = self.1;
+        let plural = if number == 1 { "" } else { "s" };
+        write!(f, "{number} {what}{plural}")
     }
-    Ok(())
-}
-
-// Prints the end of the last line.
-pub(crate) fn end_line(rt: &HostRuntime) -> Result<()> {
-    print(rt, b"\n")
 }

@@ -1,75 +1,37 @@
 // The words of a command.
-ghost use Rattle.std.specs.Prelude.{◌≡◌, true, ◌↔◌, ◌≤◌, length};
+ghost use Rattle.std.specs.Prelude.{◌≡◌, ◌≤◌, length};
 ghost use Rattle.oat_console.specs.Numbers.{with_digit, number_in};
 
 use program_file::{Limits, widest};
+use std::cmp::min;
 use std::env::FillError;
-use std::io::{Result, Write};
+use std::io;
+use std::io::Write;
 use std::rt::Env;
-
-// Whether two texts have the same bytes.
-pub(crate) fn same(a: &[u8], b: &[u8]) -> bool
-    ensures { (result ≡ true) ↔ (a.now ≡ b.now) }
-{
-    if a.len() != b.len() {
-        return false;
-    }
-    let mut i = 0;
-    while i < a.len() {
-        if a[i] != b[i] {
-            return false;
-        }
-        i += 1;
-    }
-    true
-}
-
-// The number that a word says, or that it says none.
-#[derive(Clone, Copy)]
-pub enum Number {
-    Is(usize),
-    Absent,
-}
-
-fn wide(x: u8) -> usize
-    ensures { result ≡ x }
-{
-    x as usize
-}
 
 // A number and a digit after it; 65,536 where that is as much or more, which is over every count and limit.
 fn with_digit(number: usize, digit: u8) -> usize
     requires { (number ≤ 65536) × (48 ≤ digit) × (digit ≤ 57) }
     ensures { result ≡ with_digit number digit }
 {
-    let longer = 10 * number + wide(digit - 48);
-    if 65536 < longer {
-        return 65536;
-    }
-    longer
+    min(65536, 10 * number + usize::from(digit - b'0'))
 }
 
-// The number that a word of digits says.
-pub(crate) fn number_in(word: &[u8]) -> Number
+// The number that a word of digits says; none where it is no such word.
+pub(crate) fn number_in(word: &[u8]) -> Option<usize>
     ensures { result ≡ number_in word.now }
 {
-    if word.len() == 0 {
-        return Number::Absent;
+    if word.is_empty() {
+        return None;
     }
     let mut number = 0;
-    let mut i = 0;
-    while i < word.len() {
-        let byte = word[i];
-        if byte < 48 {
-            return Number::Absent;
-        }
-        if 57 < byte {
-            return Number::Absent;
+    for &byte in word {
+        if byte < b'0' || b'9' < byte {
+            return None;
         }
         number = with_digit(number, byte);
-        i += 1;
     }
-    Number::Is(number)
+    Some(number)
 }
 
 // Puts a word of the command at the front of a buffer, and answers its length: 0 where there is no such word, or where it is longer than the buffer.
@@ -94,83 +56,70 @@ pub(crate) fn word_count(rt: &HostRuntime) -> usize {
 }
 
 // The number that the word at `place` says; none where there is no such word.
-pub(crate) fn number_at(rt: &HostRuntime, place: usize) -> Number {
+pub(crate) fn number_at(rt: &HostRuntime, place: usize) -> Option<usize> {
     let mut word = [0u8; 4096];
     let length = word_at(rt, place, &mut word);
     number_in(&word[..length])
 }
 
-// Which limit a word names, if any.
+// A limit that a word names.
 #[derive(Clone, Copy)]
-pub enum Named {
+enum Limit {
     Parts,
     Depth,
-    Neither,
 }
 
-fn limit_named(word: &[u8]) -> Named {
-    if same(word, b"--parts") {
-        return Named::Parts;
-    }
-    if same(word, b"--depth") {
-        return Named::Depth;
-    }
-    Named::Neither
-}
-
-fn limit_at(rt: &HostRuntime, place: usize) -> Named {
+// The limit that the word at `place` names, if any.
+fn limit_at(rt: &HostRuntime, place: usize) -> Option<Limit> {
     let mut word = [0u8; 4096];
     let length = word_at(rt, place, &mut word);
-    limit_named(&word[..length])
+    let name = &word[..length];
+    if name == b"--parts" {
+        return Some(Limit::Parts);
+    }
+    if name == b"--depth" {
+        return Some(Limit::Depth);
+    }
+    None
 }
 
 // The limits with one of them set.
-fn with_limit(limits: Limits, named: Named, number: usize) -> Limits {
-    match named {
-        Named::Parts => Limits {
+fn with_limit(limits: Limits, limit: Limit, number: usize) -> Limits {
+    match limit {
+        Limit::Parts => Limits {
             parts: number,
-            depth: limits.depth,
+            ..limits
         },
-        Named::Depth => Limits {
-            parts: limits.parts,
+        Limit::Depth => Limits {
             depth: number,
+            ..limits
         },
-        Named::Neither => limits,
     }
 }
 
-// The limits that words set; or the place of a word that names none, or of one that no number stands after.
-#[derive(Clone, Copy)]
-pub enum Setting {
-    To(Limits),
+// Why words set no limits: the one at a place names none, or no number stands after it.
+#[derive(Clone, Copy, PartialEq, Eq)]
+pub enum Unset {
     Unknown(usize),
     NoNumber(usize),
 }
 
 // The limits that the words from `first` on set, of this many words in all; those that no word sets are the widest.
-pub(crate) fn limits_from(rt: &HostRuntime, first: usize, words: usize) -> Setting {
+pub(crate) fn limits_from(rt: &HostRuntime, first: usize, words: usize) -> Result<Limits, Unset> {
     let mut limits = widest();
-    let mut place = first;
-    while place < words {
-        let named = limit_at(rt, place);
-        if let Named::Neither = named {
-            return Setting::Unknown(place);
-        }
+    for place in (first..words).step_by(2) {
+        let limit = limit_at(rt, place).ok_or(Unset::Unknown(place))?;
         if words - place < 2 {
-            return Setting::NoNumber(place);
+            return Err(Unset::NoNumber(place));
         }
-        let value = number_at(rt, place + 1);
-        let Number::Is(number) = value else {
-            return Setting::NoNumber(place);
-        };
-        limits = with_limit(limits, named, number);
-        place += 2;
+        let number = number_at(rt, place + 1).ok_or(Unset::NoNumber(place))?;
+        limits = with_limit(limits, limit, number);
     }
-    Setting::To(limits)
+    Ok(limits)
 }
 
 // Says on standard error what is wrong, and how the words go.
-pub(crate) fn complain(rt: &HostRuntime, problem: &[u8], word: &[u8]) -> Result<()> {
+pub(crate) fn complain(rt: &HostRuntime, problem: &[u8], word: &[u8]) -> io::Result<()> {
     let mut to = rt.stderr();
     to.write_all(b"oat: ")?;
     to.write_all(problem)?;
@@ -181,7 +130,7 @@ pub(crate) fn complain(rt: &HostRuntime, problem: &[u8], word: &[u8]) -> Result<
 }
 
 // Complains about the word at `place`.
-pub(crate) fn complain_at(rt: &HostRuntime, problem: &[u8], place: usize) -> Result<()> {
+pub(crate) fn complain_at(rt: &HostRuntime, problem: &[u8], place: usize) -> io::Result<()> {
     let mut word = [0u8; 4096];
     let length = word_at(rt, place, &mut word);
     complain(rt, problem, &word[..length])

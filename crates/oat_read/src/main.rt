@@ -19,19 +19,11 @@ fn answer(file: &[u8]) -> u16
     program_file::number(program_file::read(file, widest()))
 }
 
-// How the command ended whose answer is printed.
-fn status(number: u16) -> Status {
-    if number != 0 {
-        return Status::Refused;
-    }
-    Status::Done
-}
-
 // Prints a number, and tells how the command ended: a number that standard output did not take is told on standard error.
 fn print(rt: &HostRuntime, number: u16) -> Result<()> {
     match println!(rt; "{number}") {
         Ok(()) => {
-            tell(status(number));
+            tell(Status::of(number));
             Ok(())
         }
         Err(error) => {

@@ -10,11 +10,7 @@ use vector_input::{next_length, next_number, read_one};
 
 // Fills a buffer with `#`.
 fn paint(buffer: &mut [u8]) {
-    let mut i = 0;
-    while i < buffer.len() {
-        buffer[i] = 35;
-        i += 1;
-    }
+    buffer.fill(35);
 }
 
 // Prints a number and the text before it.
@@ -50,9 +46,9 @@ fn next_case() -> Case {
     let depth = next_length();
     let room = next_number();
     Case {
-        length: length,
+        length,
         limits: Limits { parts, depth },
-        room: room,
+        room,
     }
 }
 
@@ -71,8 +67,7 @@ fn answer_one(case: Case, file: &[u8], rows: &mut [u16], work: &mut [u16], out: 
 
 // Answers each case of the input, at most `most`.
 fn answer_each(file: &mut [u8], rows: &mut [u16], work: &mut [u16], out: &mut [u8], most: usize) {
-    let mut left = most;
-    while 0 < left {
+    for _ in 0..most {
         let case = next_case();
         if case.length == 65536 {
             return;
@@ -80,7 +75,6 @@ fn answer_each(file: &mut [u8], rows: &mut [u16], work: &mut [u16], out: &mut [u
         read_one(&mut *file, case.length);
         paint(&mut *out);
         answer_one(case, &*file, &mut *rows, &mut *work, &mut *out);
-        left -= 1;
     }
 }
 

@@ -18,15 +18,13 @@ fn answer_one(file: &[u8], length: usize) {
 
 // Answers each file of the input, at most `most`.
 fn answer_each(file: &mut [u8], most: usize) {
-    let mut left = most;
-    while 0 < left {
+    for _ in 0..most {
         let length = next_length();
         if length == 65536 {
             return;
         }
         read_one(&mut *file, length);
         answer_one(&*file, length);
-        left -= 1;
     }
 }
 

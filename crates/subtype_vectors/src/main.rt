@@ -4,79 +4,68 @@
 // refusal the number is a line.
 #![tactic(auto)]
 
-use subtyping::question::Answer;
+use program_file::widest;
+use subtyping::question::{Refusal, subtype};
 use vector_input::{next_length, read_one};
 
 // Prints 1 or 0; false where the question is refused.
 fn pair(file: &[u8], a: usize, b: usize) -> bool {
-    let answer = subtyping::question::subtype(file, program_file::widest(), a, b);
-    match answer {
-        Answer::Refused(number) => {
-            if number != 17 {
-                io::print_decimal(1, number as u64);
-                io::write_all(1, b"\n");
-            }
+    match subtype(file, widest(), a, b) {
+        Ok(answer) => {
+            io::print_decimal(1, u64::from(answer.holds));
+            true
+        }
+        Err(Refusal::NoType) => false,
+        Err(refusal) => {
+            io::print_decimal(1, u64::from(refusal.number()));
+            io::write_all(1, b"\n");
             false
-        }
-        Answer::Yes(_) => {
-            io::write_all(1, b"1");
-            true
-        }
-        Answer::No(_) => {
-            io::write_all(1, b"0");
-            true
         }
     }
 }
 
-// How many pairs of types a question compared.
+// How many pairs of types a question compared; 0 where it is refused.
 fn pairs(file: &[u8], a: usize, b: usize) -> u16 {
-    let answer = subtyping::question::subtype(file, program_file::widest(), a, b);
-    match answer {
-        Answer::Refused(_) => 0,
-        Answer::Yes(count) => count,
-        Answer::No(count) => count,
+    match subtype(file, widest(), a, b) {
+        Ok(answer) => answer.pairs,
+        Err(_) => 0,
     }
 }
 
 // Prints the line of counts of the type a with each of the first `types` types.
 fn counts(file: &[u8], a: usize, types: usize) {
-    let mut b = 0;
-    while b < types {
+    for b in 0..types {
         if 0 < b {
             io::write_all(1, b" ");
         }
-        io::print_decimal(1, pairs(file, a, b) as u64);
-        b += 1;
+        io::print_decimal(1, u64::from(pairs(file, a, b)));
     }
     io::write_all(1, b"\n");
 }
 
 // Prints the lines of the type a; false where the file has no such type.
 fn row(file: &[u8], a: usize) -> bool {
-    let mut b = 0;
-    while b < 600 {
+    let mut types = 0;
+    for b in 0..600 {
         if !pair(file, a, b) {
             break;
         }
-        b += 1;
+        types = b + 1;
     }
-    if b == 0 {
+    if types == 0 {
         return false;
     }
     io::write_all(1, b"\n");
-    counts(file, a, b);
+    counts(file, a, types);
     true
 }
 
 // Prints the lines of a file.
 fn table(file: &[u8]) {
-    let mut a = 0;
-    while a < 600 {
+    for a in 0..600 {
         if !row(file, a) {
             break;
         }
-        a += 1;
     }
     io::write_all(1, b"--\n");
 }
@@ -90,15 +79,13 @@ fn answer_one(file: &[u8], length: usize) {
 
 // Answers each file of the input, at most `most`.
 fn answer_each(file: &mut [u8], most: usize) {
-    let mut left = most;
-    while 0 < left {
+    for _ in 0..most {
         let length = next_length();
         if length == 65536 {
             return;
         }
         read_one(&mut *file, length);
         answer_one(&*file, length);
-        left -= 1;
     }
 }
 

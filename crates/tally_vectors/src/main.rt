@@ -10,11 +10,7 @@ use vector_input::{next_length, read_one};
 
 // Fills a buffer with a number.
 fn paint(buffer: &mut [u16], number: u16) {
-    let mut i = 0;
-    while i < buffer.len() {
-        buffer[i] = number;
-        i += 1;
-    }
+    buffer.fill(number);
 }
 
 // Prints a number and the byte before it.
@@ -26,10 +22,8 @@ fn print_number(before: &[u8], number: u16) {
 // Prints a word and the numbers of a buffer, in a line.
 fn print_tally(word: &[u8], tally: &[u16]) {
     io::write_all(1, word);
-    let mut i = 0;
-    while i < tally.len() {
-        print_number(b" ", tally[i]);
-        i += 1;
+    for &number in tally {
+        print_number(b" ", number);
     }
     io::write_all(1, b"\n");
 }
@@ -77,10 +71,10 @@ fn next_case() -> Case {
     let types = next_length();
     let declarations = next_length();
     Case {
-        length: length,
+        length,
         limits: Limits { parts, depth },
-        types: types,
-        declarations: declarations,
+        types,
+        declarations,
     }
 }
 
@@ -124,8 +118,7 @@ fn answer_each(
     by_declaration: &mut [u16],
     most: usize,
 ) {
-    let mut left = most;
-    while 0 < left {
+    for _ in 0..most {
         let case = next_case();
         if case.length == 65536 {
             return;
@@ -141,7 +134,6 @@ fn answer_each(
             &mut *by_type,
             &mut *by_declaration,
         );
-        left -= 1;
     }
 }
 

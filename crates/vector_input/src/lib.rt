@@ -4,28 +4,23 @@
 ghost use Rattle.std.specs.Prelude.{◌≡◌, ◌≤◌, ◌<◌, length, drop};
 ghost use Rattle.vector_input.specs.Length.{number_of, length_of};
 
-fn wide(x: u8) -> usize
-    ensures { (result ≡ x) × (result < 256) }
-{
-    x as usize
-}
+use std::cmp::min;
 
 // The number that four bytes say, low byte first.
 fn number_of(head: &[u8; 4]) -> usize
     ensures { (result ≡ number_of head.now) × (result < 4294967296) }
 {
-    wide(head[0]) + 256 * wide(head[1]) + 65536 * wide(head[2]) + 16777216 * wide(head[3])
+    usize::from(head[0])
+        + 256 * usize::from(head[1])
+        + 65536 * usize::from(head[2])
+        + 16777216 * usize::from(head[3])
 }
 
 // The length that four bytes say; 65536 where it is that or more.
 fn length_of(head: &[u8; 4]) -> usize
     ensures { result ≡ length_of head.now }
 {
-    let number = number_of(head);
-    if 65536 < number {
-        return 65536;
-    }
-    number
+    min(65536, number_of(head))
 }
 
 // The number that the next four bytes of the input say, where a byte that is missing is 0. No contract can say what is read from standard input:
