@@ -18,7 +18,7 @@ use Rattle.typing_rules.specs.Rules.{declared_times, named_times, each_once, nam
 use Rattle.typing_rules.specs.Steps.{has_field, distinct_fields}
 use Rattle.file_sections.specs.declared.Sections.{Sections}
 use Rattle.file_sections.specs.Layout.{tables_of}
-use Rattle.fields.specs.Literal.{is_named, all_named, Initializers, OfInitializers}
+use Rattle.fields.specs.Literal.{is_named, all_named, OfInitializers}
 use Rattle.fields.proofs.LawsDistinct.{picked_none}
 
 -- how many initializers have the name of one of the fields
