@@ -60,13 +60,6 @@ AnswersCondition F S X R W base n s π parent R' W' K' r q =
     → Meets (Listing F S X base n (size_condition q) s R W R' W' K' r) r π (condition_in F S W base q n parent Γ).out (condition_in F S W base q n parent Γ).pairs
 
 module _ {F : List ℕ} {S : Sections} {X R W K : List ℕ} {base n s π : ℕ} (g : ReadyCondition F S X R W K base n s π) where
-  pub condition_node : Has F S n S.nodes
-  condition_node = has_node g.fine.good_tables g.within
-
-  -- for `ends`
-  pub condition_fits : (n * 2 + 1 < length R) × (n < 65536) × (0 ≤ 1)
-  condition_fits = mark_fits g.fine g.within (omega arith)
-
   module _ {k : ℕ} (ek : k ≡ (node_at (tables_of F S) n).kind) where
     pub condition_none : {parent : ℕ} {R' : List ℕ} {r : Judged} → k ≡ 40 → AnswerIs (marked 0) (n + 1) s π r → R' ≡ with_row R n 0 65535
         → ToldCondition F S X R W base n s π parent R' W K r
@@ -83,11 +76,6 @@ module _ {F : List ℕ} {S : Sections} {X R W K : List ℕ} {base n s π : ℕ} 
         }
 
     module _ (z : k ≡ 40 → ⊥) where
-      pub condition_ready : Ready F S X R W K base n s π
-      condition_ready =
-          on_some (λ q. s + size_condition q ≤ S.built_ins + S.nodes → Few π (size_condition q) → Ready F S X R W K base n s π) (λ a h l w. ready n a g.fine h l w) (λ e. z (ek ∙ e))
-          g.tree g.stands g.room g.few
-
       module _ {R₁ W₁ K₁ : List ℕ} {r₁ : Judged} (m₁ : Told F S X R W base n s π R₁ W₁ K₁ r₁) where
         pub condition_no : {parent : ℕ} → Untyped r₁ → ToldCondition F S X R W base n s π parent R₁ W₁ K₁ r₁
         unfolding judging_condition
@@ -97,9 +85,6 @@ module _ {F : List ℕ} {S : Sections} {X R W K : List ℕ} {base n s π : ℕ} 
             }
 
         module _ {t : ℕ} (y₁ : r₁.judgement ≡ Typed t) where
-          pub condition_type : Has F S t S.types
-          condition_type = child_type condition_ready m₁ y₁
-
           module _ {k₁ : ℕ} (e₁ : k₁ ≡ (type_at (tables_of F S) t).kind) where
             pub condition_sort : {parent : ℕ} {r : Judged} → (k₁ ≡ 1 → ⊥) → Refuses r 10 parent r₁.at.pairs → ToldCondition F S X R W base n s π parent R₁ W₁ K₁ r
             unfolding judging_condition

@@ -1,4 +1,4 @@
--- The mark of a while, one part of a statement after another, a statement's own row over its children's, and the answer to an accepted
+-- One part of a statement after another, a statement's own row over its children's, and the answer to an accepted
 -- statement. Assumes nothing.
 use mathlib.Core.Path.{◌≡◌, refl, ap, sym, subst, ◌∙◌}
 use mathlib.Core.Bool.{Bool, true, false, not, ◌&&◌}
@@ -32,59 +32,12 @@ use Rattle.expressions.proofs.LawsAfter.{rows_kept, row_length, row_other, row-r
 use Rattle.expressions.proofs.LawsLabels.{last_result, Closed, rows_join}
 use Rattle.simple_statements.specs.Contract.{marked, MarksWhile, Marking}
 
--- the judgement of a mark, and an answer with it
+-- the judgement of a mark that is 1, and an answer with another judgement that is the same
 pub returns_marked : (p : ℕ) → p ≡ 1 → Returns ≡ marked p
 returns_marked p h = rw (eq-eqb p 1 h) refl
 
-pub goes_on_marked : (p : ℕ) → (p ≡ 1 → ⊥) → GoesOn ≡ marked p
-goes_on_marked p h = rw (ne_eqb p 1 h) refl
-
-pub answer_is : {i j : Judgement} (a : At) → i ≡ j → ◌≡◌ {A = Judged} (record { judgement = i; at = a }) (record { judgement = j; at = a })
-answer_is a e = ap (λ x. record { judgement = x; at = a }) e
-
 pub judged_as : {i j : Judgement} {n s k : ℕ} {r : Judged} → i ≡ j → AnswerIs i n s k r → AnswerIs j n s k r
 judged_as {n = n} {s = s} {k = k} {r = r} e a = subst (λ x. AnswerIs x n s k r) e a
-
--- the node `true`, by its kind
-true_kind : (T : Tables) (n : ℕ) (a : Expr) → Stands T n a → is_true a ≡ eqb (node_at T n).kind 11
-true_kind T n (literal truth) h = ap (λ k. eqb k 11) (sym h.kind_is)
-true_kind T n (literal falsity) h = ap (λ k. eqb k 11) (sym h.kind_is)
-true_kind T n (literal (integer x)) h = ap (λ k. eqb k 11) (sym h.kind_is)
-true_kind T n (literal (text x)) h = ap (λ k. eqb k 11) (sym h.kind_is)
-true_kind T n (null t) h = ap (λ k. eqb k 11) (sym h.0.kind_is)
-true_kind T n (name x) h = ap (λ k. eqb k 11) (sym h.kind_is)
-true_kind T n (array_literal t es) h = ap (λ k. eqb k 11) (sym h.0.kind_is)
-true_kind T n (default_array t a) h = ap (λ k. eqb k 11) (sym h.0.kind_is)
-true_kind T n (array_with t x a b) h = ap (λ k. eqb k 11) (sym h.0.kind_is)
-true_kind T n (index a b) h = ap (λ k. eqb k 11) (sym h.0.kind_is)
-true_kind T n (length_of a) h = ap (λ k. eqb k 11) (sym h.0.kind_is)
-true_kind T n (struct_literal t is) h = ap (λ k. eqb k 11) (sym h.0.kind_is)
-true_kind T n (field x a) h = ap (λ k. eqb k 11) (sym h.0.kind_is)
-true_kind T n (call a es) h = ap (λ k. eqb k 11) (sym h.0.kind_is)
-true_kind T n (unary x a) h = ap (λ k. eqb k 11) (sym h.0.kind_is)
-true_kind T n (binary x a b) h = ap (λ k. eqb k 11) (sym h.0.kind_is)
-
--- the mark of a while that is not the last of its block, or whose condition is another node, or that is the last and never ends
-module _ {F : List ℕ} {S : Sections} {n : ℕ} {last : Bool} where
-  pub marks_inner : not last ≡ true → MarksWhile F S n last 0
-  marks_inner e = record { tells = λ a h. ap (λ b. pick (b && is_true a) 1 0) (sym (not-true last e)) }
-
-  module _ {k : ℕ} (ek : k ≡ (node_at (tables_of F S) n).kind) where
-    pub marks_other : (k ≡ 11 → ⊥) → MarksWhile F S n last 0
-    marks_other f =
-        record {
-          tells = λ a h. go last ∙ ap (λ b. pick (last && b) 1 0) (sym (true_kind (tables_of F S) n a h ∙ ne_eqb _ _ (λ e. f (ek ∙ e))));
-        }
-      where
-        go : (b : Bool) → ◌≡◌ {A = ℕ} 0 (pick (b && false) 1 0)
-        go true = refl
-        go false = refl
-
-    pub marks_endless : not last ≡ false → k ≡ 11 → MarksWhile F S n last 1
-    marks_endless e t =
-        record {
-          tells = λ a h. ap (λ b. pick (b && true) 1 0) (sym (not-false last e)) ∙ ap (λ b. pick (last && b) 1 0) (sym (true_kind (tables_of F S) n a h ∙ eq-eqb _ _ (sym ek ∙ t)));
-        }
 
 -- one part after another; the first leaves a scope of the height h, the second one of the height i
 module _ {F : List ℕ} {S : Sections} {X : List ℕ} {base : ℕ} {L M : List (Label ℕ)} {n k j s h i : ℕ} {R W R₁ W₁ K₁ R₂ W₂ K₂ : List ℕ} where

@@ -20,6 +20,7 @@ use Rattle.file_sections.specs.declared.Sections.{Sections}
 use Rattle.file_sections.specs.Layout.{tables_of}
 use Rattle.bindings.specs.Bindings.{Scoped}
 use Rattle.bindings.proofs.LawsBindings.{holds_some}
+use Rattle.answers.specs.declared.answer.Broken.{Broken}
 use Rattle.answers.specs.declared.answer.Judgement.TheVariants.{GoesOn, Refused}
 use Rattle.answers.specs.declared.answer.Judged.{Judged}
 use Rattle.answers.specs.Answers.{AnswerIs}
@@ -59,7 +60,7 @@ module _ {F : List ℕ} {S : Sections} {X R W K : List ℕ} {base rt n s top π 
   arms_first = ready_block n g.first g.fine (g.fine.above, omega arith) g.returned g.stands (omega (arith, g.room)) (omega (arith, g.few))
 
   module _ {R₁ W₁ K₁ : List ℕ} {r₁ : Judged} (m₁ : ToldBlock F S X R W base top rt n top π R₁ W₁ K₁ r₁) where
-    pub arms_no : {p q : ℕ} → r₁.judgement ≡ Refused p q → ToldArms F S X R W base rt n s top π R₁ W₁ K₁ r₁
+    pub arms_no : {p : Broken} {q : ℕ} → r₁.judgement ≡ Refused p q → ToldArms F S X R W base rt n s top π R₁ W₁ K₁ r₁
     arms_no e = record { tells = λ b c h h₂ Γ Δ d d₂. part_no _ _ _ (λ p L v. (p, v.mark)) e (m₁.tells b h Γ d) }
 
     module _ (u : Unrefused r₁) where
@@ -96,13 +97,17 @@ module _ {F : List ℕ} {S : Sections} {X R W K : List ℕ} {base rt n s top π 
         pub arms_asked : (n < r₁.at.node) × ReadyBlock F S X R₁ W₁ K₂ base s rt r₁.at.node s r₁.at.pairs
         arms_asked = (arms_next, arms_second)
 
-        module _ {R₂ W₂ K₃ : List ℕ} {r₂ : Judged} (m₂ : ToldBlock F S X R₁ W₁ base s rt r₁.at.node s r₁.at.pairs R₂ W₂ K₃ r₂) where
-          pub arms_no_2 : {p q : ℕ} → r₂.judgement ≡ Refused p q → ToldArms F S X R W base rt n s top π R₂ W₂ K₃ r₂
+        -- leaving has not changed the stack
+        module _ {W' : List ℕ} (same : W' ≡ W₁) {R₂ W₂ K₃ : List ℕ} {r₂ : Judged} (m₂ : ToldBlock F S X R₁ W' base s rt r₁.at.node s r₁.at.pairs R₂ W₂ K₃ r₂) where
+          second_told : ToldBlock F S X R₁ W₁ base s rt r₁.at.node s r₁.at.pairs R₂ W₂ K₃ r₂
+          second_told = subst (λ w. ToldBlock F S X R₁ w base s rt r₁.at.node s r₁.at.pairs R₂ W₂ K₃ r₂) same m₂
+
+          pub arms_no_2 : {p : Broken} {q : ℕ} → r₂.judgement ≡ Refused p q → ToldArms F S X R W base rt n s top π R₂ W₂ K₃ r₂
           arms_no_2 e =
               record {
                 tells = λ b c h h₂ Γ Δ d d₂.
                     goes_on _ _ u (m₁.tells b h Γ d) λ p L q v.
-                    part_no _ _ _ (λ i N z. (i, z.mark)) e (retell_block (lowered v.after).same g.lower v.next m₂ c h₂ Δ d₂);
+                    part_no _ _ _ (λ i N z. (i, z.mark)) e (retell_block (lowered v.after).same g.lower v.next second_told c h₂ Δ d₂);
               }
 
           module _ (u₂ : Unrefused r₂) {m : ℕ} (em : m ≡ mark_of r₁.judgement) where
@@ -113,7 +118,7 @@ module _ {F : List ℕ} {S : Sections} {X R W K : List ℕ} {base rt n s top π 
                 record {
                   tells = λ b c h h₂ Γ Δ d d₂.
                       goes_on _ _ u (m₁.tells b h Γ d) λ p L q v.
-                      goes_on _ _ u₂ (retell_block (lowered v.after).same g.lower v.next m₂ c h₂ Δ d₂) λ i M q₂ v₂.
+                      goes_on _ _ u₂ (retell_block (lowered v.after).same g.lower v.next second_told c h₂ Δ d₂) λ i M q₂ v₂.
                       accepts_now (both p i) (L ++ M) (record {
                         mark = f p i (em ∙ mark_is r₁.judgement p (block_mark _ _ rt b n _ p L q) v.mark) v₂.mark;
                         next = en ∙ v₂.next ∙ omega arith;

@@ -20,11 +20,12 @@ use Rattle.file_sections.specs.Layout.{tables_of}
 use Rattle.file_sections.proofs.LawsRecords.{nodes_long}
 use Rattle.bindings.specs.Bindings.{Scoped, Holds}
 use Rattle.bindings.proofs.LawsBindings.{holds_some}
+use Rattle.answers.specs.declared.answer.Broken.{Broken}
 use Rattle.answers.specs.declared.answer.Judgement.TheVariants.{Refused}
 use Rattle.answers.specs.declared.answer.Judged.{Judged}
 use Rattle.answers.specs.Answers.{Refuses, AnswerIs}
 use Rattle.expressions.specs.Contract.{context_of, Fine, After, Meets, accepts, refuses, Few}
-use Rattle.expressions.proofs.LawsMeets.{Unrefused, pairs_told, part_of}
+use Rattle.expressions.proofs.LawsMeets.{Unrefused, pairs_told, refuses_with, part_of}
 use Rattle.expressions.proofs.LawsChild.{few_parts_in}
 use Rattle.expressions.proofs.LawsList.{no_more}
 use Rattle.expressions.proofs.LawsAfter.{after_none}
@@ -72,10 +73,10 @@ module _ (T : Tables) (C : Context ℕ) (rt : ℕ) (z : Stmt) (zs : Stmts) (n pr
   all_ok d M e q = (rw (eq-eqb p 0 e, q), rw (eq-eqb p 0 e, q, no_more (execute_all T C rt zs (n + size_stmt z) n d.mark d.scope)) (omega arith))
 
 -- a refused statement's outcome
-refusal-of : {P : Done → List (Label ℕ) → Type 0} {r : Judged} {a b π k : ℕ} (o : Out Done) → Meets P r π o k → r.judgement ≡ Refused a b
-    → ((d : Done) (L : List (Label ℕ)) → P d L → r.judgement ≡ marked d.mark) → (p q : ℕ) × (o ≡ no p q) × (r.judgement ≡ Refused p q)
+refusal-of : {P : Done → List (Label ℕ) → Type 0} {r : Judged} {a : Broken} {b π k : ℕ} (o : Out Done) → Meets P r π o k → r.judgement ≡ Refused a b
+    → ((d : Done) (L : List (Label ℕ)) → P d L → r.judgement ≡ marked d.mark) → (p q : ℕ) × (o ≡ no p q) × Refuses r p q (π + k)
 refusal-of {a = a} {b = b} o (accepts d L k v s) e f = absurd (marked_no d.mark a b (sym (f d L v) ∙ e))
-refusal-of o (refuses p q k j s) e f = (p, q, refl, j)
+refusal-of o (refuses p q k s) e f = (p, q, refl, s)
 
 -- the first i statements of ss, which stand at n in the scope Γ, are accepted, the last of them at `previous` with the mark; the others
 -- stand at `at`, before which `compared` pairs were compared
@@ -232,7 +233,7 @@ module _ {F : List ℕ} {S : Sections} {X R W K : List ℕ} {base start rt n s �
               p.rest (omega (arith, p.counted, more)) in
               subst (λ o. Meets (Running F S X base n (size_stmts ss) s R W R₁ W₁ K₁ r) r π o (all_in F S W base rt ss n parent 0 Γ).pairs)
               (sym (p.ran ∙ ap (after_run p.labels) stops))
-              (refuses 14 previous (all_in F S W base rt ss n parent 0 Γ).pairs e.judged (omega (arith, e.sum, p.here, p.sum, none)))
+              (refuses_with 14 previous (all_in F S W base rt ss n parent 0 Γ).pairs e (omega (arith, p.here, p.sum, none)))
 
       pub run_ready : ReadyStmt F S X R₁ W₁ K₁ base at height compared
       run_ready =
@@ -256,17 +257,17 @@ module _ {F : List ℕ} {S : Sections} {X R W K : List ℕ} {base start rt n s �
         told_first : (z : Stmt) (zs : Stmts) → count_stmts (then z zs) + i ≡ left → ToldStmt F S X R₁ W₁ base start rt (is_empty zs) at height compared R₂ W₂ K₂ r₁
         told_first z zs c = subst (λ b. ToldStmt F S X R₁ W₁ base start rt b at height compared R₂ W₂ K₂ r₁) (is_last i left z zs c) m₁
 
-        pub run_no : {p q : ℕ} → r₁.judgement ≡ Refused p q → ToldStmts F S X R W base start rt n s π left parent R₂ W₂ K₂ r₁
+        pub run_no : {p : Broken} {q : ℕ} → r₁.judgement ≡ Refused p q → ToldStmts F S X R W base start rt n s π left parent R₂ W₂ K₂ r₁
         run_no e = record { tells = λ ss h c Γ d. go ss Γ (w.part ss h c Γ d) }
           where
-            refusing : (ss : Stmts) (L : List (Label ℕ)) (z : Stmt) (zs : Stmts) (Δ : Scope ℕ) (a b k : ℕ) → (stmt_in F S W base rt (is_empty zs) z at Δ).out ≡ no a b → r₁.judgement ≡ Refused a b
-                → compared ≡ π + k → r₁.at.pairs ≡ compared + (stmt_in F S W base rt (is_empty zs) z at Δ).pairs
+            refusing : (ss : Stmts) (L : List (Label ℕ)) (z : Stmt) (zs : Stmts) (Δ : Scope ℕ) (a b k : ℕ) → (stmt_in F S W base rt (is_empty zs) z at Δ).out ≡ no a b
+                → Refuses r₁ a b (compared + (stmt_in F S W base rt (is_empty zs) z at Δ).pairs) → compared ≡ π + k
                 → Meets (Running F S X base n (size_stmts ss) s R W R₂ W₂ K₂ r₁) r₁ π (after_run L (all_in F S W base rt (then z zs) at previous mark Δ).out)
                 (k + (all_in F S W base rt (then z zs) at previous mark Δ).pairs)
-            refusing ss L z zs Δ a b k q j e f =
+            refusing ss L z zs Δ a b k q e f =
                 let (stops, same) = all_no (tables_of F S) (context_of (tables_of F S) W base) rt z zs at previous mark Δ a b goes q in
                 subst (λ o. Meets (Running F S X base n (size_stmts ss) s R W R₂ W₂ K₂ r₁) r₁ π (after_run L o) (k + (all_in F S W base rt (then z zs) at previous mark Δ).pairs))
-                (sym stops) (refuses a b (k + (all_in F S W base rt (then z zs) at previous mark Δ).pairs) j (omega (arith, e, f, same)))
+                (sym stops) (refuses_with a b (k + (all_in F S W base rt (then z zs) at previous mark Δ).pairs) e (omega (arith, f, same)))
 
             go : (ss : Stmts) (Γ : Scope ℕ) → RunPart F S X base start rt n s π R W left parent at height compared previous mark i R₁ W₁ K₁ ss Γ
                 → Meets (Running F S X base n (size_stmts ss) s R W R₂ W₂ K₂ r₁) r₁ π (all_in F S W base rt ss n parent 0 Γ).out (all_in F S W base rt ss n parent 0 Γ).pairs
@@ -278,7 +279,7 @@ module _ {F : List ℕ} {S : Sections} {X R W K : List ℕ} {base start rt n s �
                 (λ z zs h c.
                 let told = retell_stmt p.after.same g.fine.above (told_first z zs c) z h.0 p.scope p.held in
                 let (a, b, q, j) = refusal-of _ told e (λ d L v. v.mark) in
-                refusing ss p.labels z zs p.scope a b p.spent q j p.here (pairs_told told))
+                refusing ss p.labels z zs p.scope a b p.spent q j p.here)
                 p.rest (omega (arith, p.counted, more)) p.stand p.counted)
 
         pub run_again : {m : ℕ} → Unrefused r₁ → m ≡ mark_of r₁.judgement

@@ -2,7 +2,7 @@
 use mathlib.Core.Path.{refl}
 use Rattle.answers.proofs.LawsAnswers.{answered}
 use Rattle.expressions.proofs.LawsMeets.{untyped, unlisted}
-use Rattle.expressions.proofs.LawsChild.{has_node, child_type}
+use Rattle.expressions.proofs.LawsChild.{child_type}
 use Rattle.simple_statements.proofs.LawsCallStatement.{call_first, call_no, call_sort, call_type, call_value, call_count, call_list, call_no_2, call_row, call_ok}
 use Rattle.simple_statements.proofs.simple.call_statement.Goals as goal
 
@@ -37,10 +37,6 @@ returns-then-type_kind-ne3-clause-told c =
 pub type_c-count-requires : goal.type_c-count-requires
 type_c-count-requires c =
     child_type (call_first c.requires.ready_stmt c.requires.node_value) c.expression-one.ensures.told c.in-Typed.is
-
-pub node_children-requires : goal.node_children-requires
-node_children-requires c =
-    has_node c.requires.ready_stmt.fine.good_tables c.requires.ready_stmt.within
 
 pub returns-then-node_children-count-clause-told : goal.returns-then-node_children-count-clause-told
 returns-then-node_children-count-clause-told c =

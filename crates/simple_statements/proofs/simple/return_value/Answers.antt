@@ -3,14 +3,10 @@ use native.Mathlib.Omega.{arith}
 use mathlib.Core.Path.{refl}
 use Rattle.answers.proofs.LawsAnswers.{answered}
 use Rattle.expressions.proofs.LawsMeets.{untyped}
-use Rattle.expressions.proofs.LawsChild.{has_type, child_within, child_fine}
+use Rattle.expressions.proofs.LawsChild.{child_within, child_fine}
 use Rattle.simple_statements.proofs.LawsMarks.{mark_fits}
 use Rattle.simple_statements.proofs.LawsReturns.{value_first, value_void, value_no, value_counted, value_type, value_ok}
 use Rattle.simple_statements.proofs.simple.return_value.Goals as goal
-
-pub type_kind-requires : goal.type_kind-requires
-type_kind-requires c =
-    has_type c.requires.ready_stmt.0.fine.good_tables c.requires.ready_stmt.1
 
 pub returns-then-type_kind-eq3-clause-told : goal.returns-then-type_kind-eq3-clause-told
 returns-then-type_kind-eq3-clause-told c =

@@ -4,14 +4,9 @@ use mathlib.Core.Path.{ap, refl}
 use mathlib.Core.Bool.{not}
 use Rattle.answers.proofs.LawsAnswers.{answered}
 use Rattle.expressions.proofs.LawsMeets.{untyped}
-use Rattle.expressions.proofs.LawsChild.{has_node}
 use Rattle.simple_statements.proofs.LawsMarks.{mark_fits}
 use Rattle.simple_statements.proofs.LawsVariable.{variable_first, variable_no, variable_fine, variable_some, variable_bindable, variable_taken, variable_ok}
 use Rattle.simple_statements.proofs.simple.variable.Goals as goal
-
-pub overflow_add-value : goal.overflow_add-value
-overflow_add-value c =
-    omega (arith, c.requires.ready_stmt.within, c.requires.ready_stmt.fine.good_tables.laid.nodes_most)
 
 pub expression-one-requires : goal.expression-one-requires
 expression-one-requires c =
@@ -20,10 +15,6 @@ expression-one-requires c =
 pub returns-in_default-clause-told : goal.returns-in_default-clause-told
 returns-in_default-clause-told c =
     variable_no c.requires.ready_stmt c.requires.node_value c.expression-one.ensures.told (untyped _ c.in_default.not-Typed)
-
-pub node_x-name-requires : goal.node_x-name-requires
-node_x-name-requires c =
-    has_node c.requires.ready_stmt.fine.good_tables c.requires.ready_stmt.within
 
 pub is_fresh-requires : goal.is_fresh-requires
 is_fresh-requires c =
@@ -36,10 +27,6 @@ returns-then-not-is_fresh-clause-told c =
 pub bind-requires : goal.bind-requires
 bind-requires c =
     variable_bindable c.requires.ready_stmt c.requires.node_value c.expression-one.ensures.told c.in-Typed.is
-
-pub overflow_add-after : goal.overflow_add-after
-overflow_add-after c =
-    omega (arith, c.requires.ready_stmt.fine.scoped.high, c.requires.ready_stmt.fine.good_tables.laid.nodes_most, c.requires.ready_stmt.fine.good_tables.laid.built_ins_most)
 
 pub ends-requires : goal.ends-requires
 ends-requires c =

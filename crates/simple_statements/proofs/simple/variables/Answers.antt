@@ -1,6 +1,5 @@
 -- `simple::variables` meets its contract. The loop keeps: the vars passed are accepted, and the others stand from the node come to.
 use borrow.Author.Rules.{rules}
-use native.Mathlib.Omega.{arith}
 use mathlib.Core.Path.{refl}
 use Rattle.answers.proofs.LawsAnswers.{answered}
 use Rattle.expressions.proofs.LawsMeets.{unlisted}

@@ -1,5 +1,6 @@
 -- What the members of the cycle need. Assumes nothing.
 use Rattle.std.proofs.Common.{refl, rules, arith}
+use mathlib.Core.Path.{ap}
 use Rattle.answers.proofs.LawsAnswers.{answered}
 use Rattle.expressions.proofs.LawsChild.{child_type}
 use Rattle.statements.proofs.LawsArms.{arms_first, arms_no, arms_left, arms_asked, arms_no_2, arms_goes, arms_ok}
@@ -16,172 +17,172 @@ use Rattle.statements.proofs.cycle.+statements.Goals as goal
 pub arms-block-one-requires : goal.arms-block-one-requires
 arms-block-one-requires t c = (omega (arith, c.decreases), arms_first c.requires)
 
-pub arms-returns-in-Refused : goal.arms-returns-in-Refused
-arms-returns-in-Refused t c = arms_no c.requires c.block-one.ensures c.in-Refused.is
+pub arms-returns-in-Refused-clause-told : goal.arms-returns-in-Refused-clause-told
+arms-returns-in-Refused-clause-told t c = arms_no c.requires c.block-one.ensures.told c.in-Refused.is
 
 pub arms-leave-requires : goal.arms-leave-requires
-arms-leave-requires t c = let l = arms_left c.requires c.block-one.ensures (record { never = c.in_default.not-Refused }) in (l.0, omega (arith, l.1))
+arms-leave-requires t c = let l = arms_left c.requires c.block-one.ensures.told (record { never = c.in_default.not-Refused }) in (l.0, omega (arith, l.1))
 
 pub arms-block-two-requires : goal.arms-block-two-requires
-arms-block-two-requires t c = let g = arms_asked c.requires c.block-one.ensures (record { never = c.in_default.not-Refused }) c.leave.ensures in (omega (arith, g.0, c.decreases, c.requires.within), g.1)
+arms-block-two-requires t c = let g = arms_asked c.requires c.block-one.ensures.told (record { never = c.in_default.not-Refused }) c.leave.ensures.left in (omega (arith, g.0, c.decreases, c.requires.within), rw c.leave.ensures.work_unchanged g.1)
 
-pub arms-returns-in-Refused-second : goal.arms-returns-in-Refused-second
-arms-returns-in-Refused-second t c = arms_no_2 c.requires c.block-one.ensures (record { never = c.in_default.not-Refused }) c.leave.ensures c.block-two.ensures c.in-Refused-second.is
+pub arms-returns-in-Refused-judgement-clause-told : goal.arms-returns-in-Refused-judgement-clause-told
+arms-returns-in-Refused-judgement-clause-told t c = arms_no_2 c.requires c.block-one.ensures.told (record { never = c.in_default.not-Refused }) c.leave.ensures.left (ap (λ b. b.now) c.leave.ensures.work_unchanged) c.block-two.ensures.told c.in-Refused-judgement.is
 
-pub arms-returns-then-mark_of-eq0 : goal.arms-returns-then-mark_of-eq0
-arms-returns-then-mark_of-eq0 t c =
-    arms_goes c.requires c.block-one.ensures (record { never = c.in_default.not-Refused }) c.leave.ensures c.block-two.ensures (record { never = c.in_default-second.not-Refused }) c.mark_of.ensures.0 c.if-mark_of-eq0.true (answered c.goes_on.ensures refl refl refl)
+pub arms-returns-then-mark_of-eq0-clause-told : goal.arms-returns-then-mark_of-eq0-clause-told
+arms-returns-then-mark_of-eq0-clause-told t c =
+    arms_goes c.requires c.block-one.ensures.told (record { never = c.in_default.not-Refused }) c.leave.ensures.left (ap (λ b. b.now) c.leave.ensures.work_unchanged) c.block-two.ensures.told (record { never = c.in_default-judgement.not-Refused }) c.mark_of.ensures.0 c.if-mark_of-eq0.true (answered c.goes_on.ensures refl refl refl)
 
-pub arms-returns : goal.arms-returns
-arms-returns t c =
-    arms_ok c.requires c.block-one.ensures (record { never = c.in_default.not-Refused }) c.leave.ensures c.block-two.ensures (record { never = c.in_default-second.not-Refused }) c.mark_of.ensures.0 c.if-mark_of-eq0.false
+pub arms-returns-clause-told : goal.arms-returns-clause-told
+arms-returns-clause-told t c =
+    arms_ok c.requires c.block-one.ensures.told (record { never = c.in_default.not-Refused }) c.leave.ensures.left (ap (λ b. b.now) c.leave.ensures.work_unchanged) c.block-two.ensures.told (record { never = c.in_default-judgement.not-Refused }) c.mark_of.ensures.0 c.if-mark_of-eq0.false
 
-pub block-overflow_add-at : goal.block-overflow_add-at
-block-overflow_add-at t c = omega (arith, c.requires.within, c.requires.fine.good_tables.laid.nodes_most)
+pub block-overflow_add-inside : goal.block-overflow_add-inside
+block-overflow_add-inside t c = omega (arith, c.requires.within, c.requires.fine.good_tables.laid.nodes_most)
 
-pub block-node_children-requires : goal.block-node_children-requires
-block-node_children-requires t c = block_node c.requires
+pub block-node_children-count-requires : goal.block-node_children-count-requires
+block-node_children-count-requires t c = block_node c.requires
 
 pub block-statements-all-requires : goal.block-statements-all-requires
-block-statements-all-requires t c = (omega (arith, c.decreases, c.requires.within), block_call c.requires c.node_children.ensures.0)
+block-statements-all-requires t c = (omega (arith, c.decreases, c.requires.within), block_call c.requires c.node_children-count.ensures.0)
 
-pub block-returns-in-Refused : goal.block-returns-in-Refused
-block-returns-in-Refused t c = block_refused c.requires c.node_children.ensures.0 c.statements-all.ensures c.in-Refused.is
+pub block-returns-in-Refused-clause-told : goal.block-returns-in-Refused-clause-told
+block-returns-in-Refused-clause-told t c = block_refused c.requires c.node_children-count.ensures.0 c.statements-all.ensures.told c.in-Refused.is
 
 pub block-leave-requires : goal.block-leave-requires
-block-leave-requires t c = block_left c.requires c.node_children.ensures.0 c.statements-all.ensures (record { never = c.in_default.not-Refused })
+block-leave-requires t c = block_left c.requires c.node_children-count.ensures.0 c.statements-all.ensures.told (record { never = c.in_default.not-Refused })
 
 pub block-ends-requires : goal.block-ends-requires
-block-ends-requires t c = block_ends c.requires c.node_children.ensures.0 c.statements-all.ensures (record { never = c.in_default.not-Refused }) c.mark_of.ensures.1
+block-ends-requires t c = block_ends c.requires c.node_children-count.ensures.0 c.statements-all.ensures.told (record { never = c.in_default.not-Refused }) c.mark_of.ensures.1
 
-pub block-returns : goal.block-returns
-block-returns t c =
-    block_ok c.requires c.node_children.ensures.0 c.statements-all.ensures (record { never = c.in_default.not-Refused }) c.leave.ensures c.mark_of.ensures.0 (answered c.ends.ensures.value refl refl refl) c.ends.ensures.rows_after
+pub block-returns-clause-told : goal.block-returns-clause-told
+block-returns-clause-told t c =
+    rw c.leave.ensures.work_unchanged (block_ok c.requires c.node_children-count.ensures.0 c.statements-all.ensures.told (record { never = c.in_default.not-Refused }) c.leave.ensures.left c.mark_of.ensures.0 (answered c.ends.ensures.value refl refl refl) c.ends.ensures.rows_after)
 
-pub for_loop-overflow_add-at : goal.for_loop-overflow_add-at
-for_loop-overflow_add-at t c = omega (arith, c.requires.ready_stmt.0.within, c.requires.ready_stmt.0.fine.good_tables.laid.nodes_most)
+pub for_loop-overflow_add-inside : goal.for_loop-overflow_add-inside
+for_loop-overflow_add-inside t c = omega (arith, c.requires.ready_stmt.0.within, c.requires.ready_stmt.0.fine.good_tables.laid.nodes_most)
 
-pub for_loop-node_children-requires : goal.for_loop-node_children-requires
-for_loop-node_children-requires t c = stmt_node c.requires.ready_stmt.0
+pub for_loop-node_children-count-requires : goal.for_loop-node_children-count-requires
+for_loop-node_children-count-requires t c = stmt_node c.requires.ready_stmt.0
 
-pub for_loop-overflow_sub-node_children : goal.for_loop-overflow_sub-node_children
-for_loop-overflow_sub-node_children t c = for_count c.requires.ready_stmt.0 c.requires.node_value c.node_children.ensures.0
+pub for_loop-overflow_sub-count : goal.for_loop-overflow_sub-count
+for_loop-overflow_sub-count t c = for_count c.requires.ready_stmt.0 c.requires.node_value c.node_children-count.ensures.0
 
 pub for_loop-variables-one-requires : goal.for_loop-variables-one-requires
-for_loop-variables-one-requires t c = for_first c.requires.ready_stmt.0 c.requires.node_value c.node_children.ensures.0
+for_loop-variables-one-requires t c = for_first c.requires.ready_stmt.0 c.requires.node_value c.node_children-count.ensures.0
 
-pub for_loop-returns-in_default : goal.for_loop-returns-in_default
-for_loop-returns-in_default t c = for_no c.requires.ready_stmt.0 c.requires.node_value c.node_children.ensures.0 c.variables-one.ensures (record { never = c.in_default.not-GoesOn })
+pub for_loop-returns-in_default-clause-told : goal.for_loop-returns-in_default-clause-told
+for_loop-returns-in_default-clause-told t c = for_no c.requires.ready_stmt.0 c.requires.node_value c.node_children-count.ensures.0 c.variables-one.ensures.told (record { never = c.in_default.not-GoesOn })
 
 pub for_loop-condition-two-requires : goal.for_loop-condition-two-requires
-for_loop-condition-two-requires t c = for_second c.requires.ready_stmt.0 c.requires.node_value c.node_children.ensures.0 c.variables-one.ensures c.in-GoesOn.is refl
+for_loop-condition-two-requires t c = for_second c.requires.ready_stmt.0 c.requires.node_value c.node_children-count.ensures.0 c.variables-one.ensures.told c.in-GoesOn.is refl
 
-pub for_loop-returns-in_default-second : goal.for_loop-returns-in_default-second
-for_loop-returns-in_default-second t c =
-    for_no_2 c.requires.ready_stmt.0 c.requires.node_value c.node_children.ensures.0 c.variables-one.ensures c.in-GoesOn.is refl c.condition-two.ensures (record { never = c.in_default-second.not-GoesOn })
+pub for_loop-returns-in_default-judgement-clause-told : goal.for_loop-returns-in_default-judgement-clause-told
+for_loop-returns-in_default-judgement-clause-told t c =
+    for_no_2 c.requires.ready_stmt.0 c.requires.node_value c.node_children-count.ensures.0 c.variables-one.ensures.told c.in-GoesOn.is refl c.condition-two.ensures.told (record { never = c.in_default-judgement.not-GoesOn })
 
 pub for_loop-turn-three-requires : goal.for_loop-turn-three-requires
 for_loop-turn-three-requires t c =
-    let g = for_third c.requires.ready_stmt.0 c.requires.node_value c.node_children.ensures.0 c.variables-one.ensures c.in-GoesOn.is refl c.condition-two.ensures c.in-GoesOn-second.is c.requires.ready_stmt.1 in (omega (arith, g.0, c.decreases, c.requires.ready_stmt.0.within), g.1)
+    let g = for_third c.requires.ready_stmt.0 c.requires.node_value c.node_children-count.ensures.0 c.variables-one.ensures.told c.in-GoesOn.is refl c.condition-two.ensures.told c.in-GoesOn-judgement.is c.requires.ready_stmt.1 in (omega (arith, g.0, c.decreases, c.requires.ready_stmt.0.within), g.1)
 
-pub for_loop-returns-in-Refused : goal.for_loop-returns-in-Refused
-for_loop-returns-in-Refused t c =
-    for_no_3 c.requires.ready_stmt.0 c.requires.node_value c.node_children.ensures.0 c.variables-one.ensures c.in-GoesOn.is refl c.condition-two.ensures c.in-GoesOn-second.is c.turn-three.ensures c.in-Refused.is
+pub for_loop-returns-in-Refused-clause-told : goal.for_loop-returns-in-Refused-clause-told
+for_loop-returns-in-Refused-clause-told t c =
+    for_no_3 c.requires.ready_stmt.0 c.requires.node_value c.node_children-count.ensures.0 c.variables-one.ensures.told c.in-GoesOn.is refl c.condition-two.ensures.told c.in-GoesOn-judgement.is c.turn-three.ensures.told c.in-Refused.is
 
 pub for_loop-leave-requires : goal.for_loop-leave-requires
 for_loop-leave-requires t c =
-    let l = for_leaves c.requires.ready_stmt.0 c.requires.node_value c.node_children.ensures.0 c.variables-one.ensures c.in-GoesOn.is refl c.condition-two.ensures c.in-GoesOn-second.is c.turn-three.ensures (record { never = c.in_default-third.not-Refused }) in (l.0, omega (arith, l.1))
+    let l = for_leaves c.requires.ready_stmt.0 c.requires.node_value c.node_children-count.ensures.0 c.variables-one.ensures.told c.in-GoesOn.is refl c.condition-two.ensures.told c.in-GoesOn-judgement.is c.turn-three.ensures.told (record { never = c.in_default-judgement-2.not-Refused }) in (l.0, omega (arith, l.1))
 
 pub for_loop-ends-requires : goal.for_loop-ends-requires
 for_loop-ends-requires t c =
-    for_ends c.requires.ready_stmt.0 c.requires.node_value c.node_children.ensures.0 c.variables-one.ensures c.in-GoesOn.is refl c.condition-two.ensures c.in-GoesOn-second.is c.turn-three.ensures (record { never = c.in_default-third.not-Refused })
+    for_ends c.requires.ready_stmt.0 c.requires.node_value c.node_children-count.ensures.0 c.variables-one.ensures.told c.in-GoesOn.is refl c.condition-two.ensures.told c.in-GoesOn-judgement.is c.turn-three.ensures.told (record { never = c.in_default-judgement-2.not-Refused })
 
-pub for_loop-returns : goal.for_loop-returns
-for_loop-returns t c =
-    for_ok c.requires.ready_stmt.0 c.requires.node_value c.node_children.ensures.0 c.variables-one.ensures c.in-GoesOn.is refl c.condition-two.ensures c.in-GoesOn-second.is c.turn-three.ensures (record { never = c.in_default-third.not-Refused }) c.leave.ensures (answered c.ends.ensures.value refl refl refl) c.ends.ensures.rows_after
+pub for_loop-returns-clause-told : goal.for_loop-returns-clause-told
+for_loop-returns-clause-told t c =
+    rw c.leave.ensures.work_unchanged (for_ok c.requires.ready_stmt.0 c.requires.node_value c.node_children-count.ensures.0 c.variables-one.ensures.told c.in-GoesOn.is refl c.condition-two.ensures.told c.in-GoesOn-judgement.is c.turn-three.ensures.told (record { never = c.in_default-judgement-2.not-Refused }) c.leave.ensures.left (answered c.ends.ensures.value refl refl refl) c.ends.ensures.rows_after)
 
-pub if_else-overflow_add-at : goal.if_else-overflow_add-at
-if_else-overflow_add-at t c = omega (arith, c.requires.ready_stmt.0.within, c.requires.ready_stmt.0.fine.good_tables.laid.nodes_most)
+pub if_else-overflow_add-test : goal.if_else-overflow_add-test
+if_else-overflow_add-test t c = omega (arith, c.requires.ready_stmt.0.within, c.requires.ready_stmt.0.fine.good_tables.laid.nodes_most)
 
 pub if_else-expression-one-requires : goal.if_else-expression-one-requires
 if_else-expression-one-requires t c = if_first c.requires.ready_stmt c.requires.node_value
 
-pub if_else-returns-in_default : goal.if_else-returns-in_default
-if_else-returns-in_default t c = if_no c.requires.ready_stmt c.requires.node_value c.expression-one.ensures (record { never = c.in_default.not-Typed })
+pub if_else-returns-in_default-clause-told : goal.if_else-returns-in_default-clause-told
+if_else-returns-in_default-clause-told t c = if_no c.requires.ready_stmt c.requires.node_value c.expression-one.ensures.told (record { never = c.in_default.not-Typed })
 
 pub if_else-type_kind-requires : goal.if_else-type_kind-requires
-if_else-type_kind-requires t c = if_type c.requires.ready_stmt c.requires.node_value c.expression-one.ensures c.in-Typed.is
+if_else-type_kind-requires t c = if_type c.requires.ready_stmt c.requires.node_value c.expression-one.ensures.told c.in-Typed.is
 
-pub if_else-returns-then-type_kind-ne1 : goal.if_else-returns-then-type_kind-ne1
-if_else-returns-then-type_kind-ne1 t c = if_sort c.requires.ready_stmt c.requires.node_value c.expression-one.ensures c.in-Typed.is c.type_kind.ensures.0 c.if-type_kind-ne1.true c.refused.ensures.0
+pub if_else-returns-then-type_kind-ne1-clause-told : goal.if_else-returns-then-type_kind-ne1-clause-told
+if_else-returns-then-type_kind-ne1-clause-told t c = if_sort c.requires.ready_stmt c.requires.node_value c.expression-one.ensures.told c.in-Typed.is c.type_kind.ensures.0 c.if-type_kind-ne1.true c.refused.ensures.0
 
 pub if_else-arms-both-requires : goal.if_else-arms-both-requires
-if_else-arms-both-requires t c = let g = if_second c.requires.ready_stmt c.requires.node_value c.expression-one.ensures c.in-Typed.is in (omega (arith, g.0, c.decreases, c.requires.ready_stmt.0.within), g.1)
+if_else-arms-both-requires t c = let g = if_second c.requires.ready_stmt c.requires.node_value c.expression-one.ensures.told c.in-Typed.is in (omega (arith, g.0, c.decreases, c.requires.ready_stmt.0.within), g.1)
 
-pub if_else-returns-in-Refused : goal.if_else-returns-in-Refused
-if_else-returns-in-Refused t c = if_no_2 c.requires.ready_stmt c.requires.node_value c.expression-one.ensures c.in-Typed.is c.type_kind.ensures.0 c.if-type_kind-ne1.false c.arms-both.ensures c.in-Refused.is
+pub if_else-returns-in-Refused-clause-told : goal.if_else-returns-in-Refused-clause-told
+if_else-returns-in-Refused-clause-told t c = if_no_2 c.requires.ready_stmt c.requires.node_value c.expression-one.ensures.told c.in-Typed.is c.type_kind.ensures.0 c.if-type_kind-ne1.false c.arms-both.ensures.told c.in-Refused.is
 
 pub if_else-ends-requires : goal.if_else-ends-requires
 if_else-ends-requires t c =
-    if_ends c.requires.ready_stmt c.requires.node_value c.expression-one.ensures c.in-Typed.is c.type_kind.ensures.0 c.if-type_kind-ne1.false c.arms-both.ensures (record { never = c.in_default-second.not-Refused }) c.mark_of.ensures.1
+    if_ends c.requires.ready_stmt c.requires.node_value c.expression-one.ensures.told c.in-Typed.is c.type_kind.ensures.0 c.if-type_kind-ne1.false c.arms-both.ensures.told (record { never = c.in_default-judgement.not-Refused }) c.mark_of.ensures.1
 
-pub if_else-returns : goal.if_else-returns
-if_else-returns t c =
-    if_ok c.requires.ready_stmt c.requires.node_value c.expression-one.ensures c.in-Typed.is c.type_kind.ensures.0 c.if-type_kind-ne1.false c.arms-both.ensures (record { never = c.in_default-second.not-Refused }) c.mark_of.ensures.0 (answered c.ends.ensures.value refl refl refl) c.ends.ensures.rows_after
+pub if_else-returns-clause-told : goal.if_else-returns-clause-told
+if_else-returns-clause-told t c =
+    if_ok c.requires.ready_stmt c.requires.node_value c.expression-one.ensures.told c.in-Typed.is c.type_kind.ensures.0 c.if-type_kind-ne1.false c.arms-both.ensures.told (record { never = c.in_default-judgement.not-Refused }) c.mark_of.ensures.0 (answered c.ends.ensures.value refl refl refl) c.ends.ensures.rows_after
 
-pub if_null-overflow_add-at : goal.if_null-overflow_add-at
-if_null-overflow_add-at t c = omega (arith, c.requires.ready_stmt.0.within, c.requires.ready_stmt.0.fine.good_tables.laid.nodes_most)
+pub if_null-overflow_add-value : goal.if_null-overflow_add-value
+if_null-overflow_add-value t c = omega (arith, c.requires.ready_stmt.0.within, c.requires.ready_stmt.0.fine.good_tables.laid.nodes_most)
 
 pub if_null-expression-one-requires : goal.if_null-expression-one-requires
 if_null-expression-one-requires t c = null_first c.requires.ready_stmt c.requires.node_value
 
-pub if_null-returns-in_default : goal.if_null-returns-in_default
-if_null-returns-in_default t c = null_no c.requires.ready_stmt c.requires.node_value c.expression-one.ensures (record { never = c.in_default.not-Typed })
+pub if_null-returns-in_default-clause-told : goal.if_null-returns-in_default-clause-told
+if_null-returns-in_default-clause-told t c = null_no c.requires.ready_stmt c.requires.node_value c.expression-one.ensures.told (record { never = c.in_default.not-Typed })
 
 pub if_null-type_kind-requires : goal.if_null-type_kind-requires
-if_null-type_kind-requires t c = null_type c.requires.ready_stmt c.requires.node_value c.expression-one.ensures c.in-Typed.is
+if_null-type_kind-requires t c = null_type c.requires.ready_stmt c.requires.node_value c.expression-one.ensures.told c.in-Typed.is
 
-pub if_null-returns-then-type_kind-ne7 : goal.if_null-returns-then-type_kind-ne7
-if_null-returns-then-type_kind-ne7 t c = null_sort c.requires.ready_stmt c.requires.node_value c.expression-one.ensures c.in-Typed.is c.type_kind.ensures.0 c.if-type_kind-ne7.true c.refused.ensures.0
+pub if_null-returns-then-type_kind-ne7-clause-told : goal.if_null-returns-then-type_kind-ne7-clause-told
+if_null-returns-then-type_kind-ne7-clause-told t c = null_sort c.requires.ready_stmt c.requires.node_value c.expression-one.ensures.told c.in-Typed.is c.type_kind.ensures.0 c.if-type_kind-ne7.true c.refused.ensures.0
 
 pub if_null-node_t-t-requires : goal.if_null-node_t-t-requires
 if_null-node_t-t-requires t c = null_node c.requires.ready_stmt c.requires.node_value
 
 pub if_null-type_a-referred-requires : goal.if_null-type_a-referred-requires
-if_null-type_a-referred-requires t c = null_type c.requires.ready_stmt c.requires.node_value c.expression-one.ensures c.in-Typed.is
+if_null-type_a-referred-requires t c = null_type c.requires.ready_stmt c.requires.node_value c.expression-one.ensures.told c.in-Typed.is
 
 pub if_null-below-asked-requires : goal.if_null-below-asked-requires
-if_null-below-asked-requires t c = null_asked c.requires.ready_stmt c.requires.node_value c.expression-one.ensures c.in-Typed.is c.type_kind.ensures.0 c.if-type_kind-ne7.false c.node_t-t.ensures.0 c.type_a-referred.ensures.0
+if_null-below-asked-requires t c = null_asked c.requires.ready_stmt c.requires.node_value c.expression-one.ensures.told c.in-Typed.is c.type_kind.ensures.0 c.if-type_kind-ne7.false c.node_t-t.ensures.0 c.type_a-referred.ensures.0
 
 pub if_null-counting-tested-requires : goal.if_null-counting-tested-requires
 if_null-counting-tested-requires t c =
-    null_counted c.requires.ready_stmt c.requires.node_value c.expression-one.ensures c.in-Typed.is c.type_kind.ensures.0 c.if-type_kind-ne7.false c.node_t-t.ensures.0 c.type_a-referred.ensures.0 c.below-asked.ensures.holds_value
+    null_counted c.requires.ready_stmt c.requires.node_value c.expression-one.ensures.told c.in-Typed.is c.type_kind.ensures.0 c.if-type_kind-ne7.false c.node_t-t.ensures.0 c.type_a-referred.ensures.0 c.below-asked.ensures.holds_value
 
-pub if_null-returns-then-not-asked : goal.if_null-returns-then-not-asked
-if_null-returns-then-not-asked t c =
-    null_below c.requires.ready_stmt c.requires.node_value c.expression-one.ensures c.in-Typed.is c.type_kind.ensures.0 c.if-type_kind-ne7.false c.node_t-t.ensures.0 c.type_a-referred.ensures.0 c.below-asked.ensures.holds_value c.counting-tested.ensures c.if-not-asked.true c.refused-then-not-asked.ensures.0
+pub if_null-returns-then-not-asked-clause-told : goal.if_null-returns-then-not-asked-clause-told
+if_null-returns-then-not-asked-clause-told t c =
+    null_below c.requires.ready_stmt c.requires.node_value c.expression-one.ensures.told c.in-Typed.is c.type_kind.ensures.0 c.if-type_kind-ne7.false c.node_t-t.ensures.0 c.type_a-referred.ensures.0 c.below-asked.ensures.holds_value c.counting-tested.ensures c.if-not-asked.true c.refused-then-not-asked.ensures.0
 
 pub if_null-bind-requires : goal.if_null-bind-requires
-if_null-bind-requires t c = null_bindable c.requires.ready_stmt c.requires.node_value c.expression-one.ensures c.in-Typed.is c.node_t-t.ensures.0
+if_null-bind-requires t c = null_bindable c.requires.ready_stmt c.requires.node_value c.expression-one.ensures.told c.in-Typed.is c.node_t-t.ensures.0
 
-pub if_null-overflow_add-at-2 : goal.if_null-overflow_add-at-2
-if_null-overflow_add-at-2 t c = omega (arith, c.requires.ready_stmt.0.fine.scoped.high, c.requires.ready_stmt.0.fine.good_tables.laid.nodes_most, c.requires.ready_stmt.0.fine.good_tables.laid.built_ins_most)
+pub if_null-overflow_add-at : goal.if_null-overflow_add-at
+if_null-overflow_add-at t c = omega (arith, c.requires.ready_stmt.0.fine.scoped.high, c.requires.ready_stmt.0.fine.good_tables.laid.nodes_most, c.requires.ready_stmt.0.fine.good_tables.laid.built_ins_most)
 
 pub if_null-arms-both-requires : goal.if_null-arms-both-requires
 if_null-arms-both-requires t c =
-    let g = null_second c.requires.ready_stmt c.requires.node_value c.expression-one.ensures c.in-Typed.is c.type_kind.ensures.0 c.if-type_kind-ne7.false c.node_t-t.ensures.0 c.type_a-referred.ensures.0 c.below-asked.ensures.holds_value c.counting-tested.ensures c.bind.ensures in (omega (arith, g.0, c.decreases, c.requires.ready_stmt.0.within), g.1)
+    let g = null_second c.requires.ready_stmt c.requires.node_value c.expression-one.ensures.told c.in-Typed.is c.type_kind.ensures.0 c.if-type_kind-ne7.false c.node_t-t.ensures.0 c.type_a-referred.ensures.0 c.below-asked.ensures.holds_value c.counting-tested.ensures c.bind.ensures.bound in (omega (arith, g.0, c.decreases, c.requires.ready_stmt.0.within), g.1)
 
-pub if_null-returns-in-Refused : goal.if_null-returns-in-Refused
-if_null-returns-in-Refused t c =
-    null_no_2 c.requires.ready_stmt c.requires.node_value c.expression-one.ensures c.in-Typed.is c.type_kind.ensures.0 c.if-type_kind-ne7.false c.node_t-t.ensures.0 c.type_a-referred.ensures.0 c.below-asked.ensures.holds_value c.counting-tested.ensures c.bind.ensures c.if-not-asked.false c.arms-both.ensures c.in-Refused.is
+pub if_null-returns-in-Refused-clause-told : goal.if_null-returns-in-Refused-clause-told
+if_null-returns-in-Refused-clause-told t c =
+    null_no_2 c.requires.ready_stmt c.requires.node_value c.expression-one.ensures.told c.in-Typed.is c.type_kind.ensures.0 c.if-type_kind-ne7.false c.node_t-t.ensures.0 c.type_a-referred.ensures.0 c.below-asked.ensures.holds_value c.counting-tested.ensures c.bind.ensures.bound c.if-not-asked.false c.arms-both.ensures.told c.in-Refused.is
 
 pub if_null-ends-requires : goal.if_null-ends-requires
 if_null-ends-requires t c =
-    null_ends c.requires.ready_stmt c.requires.node_value c.expression-one.ensures c.in-Typed.is c.type_kind.ensures.0 c.if-type_kind-ne7.false c.node_t-t.ensures.0 c.type_a-referred.ensures.0 c.below-asked.ensures.holds_value c.counting-tested.ensures c.bind.ensures c.if-not-asked.false c.arms-both.ensures (record { never = c.in_default-second.not-Refused }) c.mark_of.ensures.1
+    null_ends c.requires.ready_stmt c.requires.node_value c.expression-one.ensures.told c.in-Typed.is c.type_kind.ensures.0 c.if-type_kind-ne7.false c.node_t-t.ensures.0 c.type_a-referred.ensures.0 c.below-asked.ensures.holds_value c.counting-tested.ensures c.bind.ensures.bound c.if-not-asked.false c.arms-both.ensures.told (record { never = c.in_default-judgement.not-Refused }) c.mark_of.ensures.1
 
-pub if_null-returns : goal.if_null-returns
-if_null-returns t c =
-    null_ok c.requires.ready_stmt c.requires.node_value c.expression-one.ensures c.in-Typed.is c.type_kind.ensures.0 c.if-type_kind-ne7.false c.node_t-t.ensures.0 c.type_a-referred.ensures.0 c.below-asked.ensures.holds_value c.counting-tested.ensures c.bind.ensures c.if-not-asked.false c.arms-both.ensures (record { never = c.in_default-second.not-Refused }) c.mark_of.ensures.0 (answered c.ends.ensures.value refl refl refl) c.ends.ensures.rows_after
+pub if_null-returns-clause-told : goal.if_null-returns-clause-told
+if_null-returns-clause-told t c =
+    null_ok c.requires.ready_stmt c.requires.node_value c.expression-one.ensures.told c.in-Typed.is c.type_kind.ensures.0 c.if-type_kind-ne7.false c.node_t-t.ensures.0 c.type_a-referred.ensures.0 c.below-asked.ensures.holds_value c.counting-tested.ensures c.bind.ensures.bound c.if-not-asked.false c.arms-both.ensures.told (record { never = c.in_default-judgement.not-Refused }) c.mark_of.ensures.0 (answered c.ends.ensures.value refl refl refl) c.ends.ensures.rows_after
 
 pub statement-node_kind-requires : goal.statement-node_kind-requires
 statement-node_kind-requires t c = stmt_node c.requires.0
@@ -214,38 +215,38 @@ pub statement-while_loop-requires : goal.statement-while_loop-requires
 statement-while_loop-requires t c =
     (omega (arith, c.decreases), (c.requires, while_kind c.requires.0 c.node_kind.ensures.0 (search rules) (search rules) (search rules) (search rules) (search rules) (search rules) (search rules) (search rules)))
 
-pub statement-returns-in-30 : goal.statement-returns-in-30
-statement-returns-in-30 t c = any_told c.assignment.ensures
+pub statement-returns-in-30-clause-told : goal.statement-returns-in-30-clause-told
+statement-returns-in-30-clause-told t c = any_told c.assignment.ensures.told
 
-pub statement-returns-in-31 : goal.statement-returns-in-31
-statement-returns-in-31 t c = var_told c.variable.ensures
+pub statement-returns-in-31-clause-told : goal.statement-returns-in-31-clause-told
+statement-returns-in-31-clause-told t c = var_told c.variable.ensures.told
 
-pub statement-returns-in-32 : goal.statement-returns-in-32
-statement-returns-in-32 t c = told_anywhere c.return_value.ensures
+pub statement-returns-in-32-clause-told : goal.statement-returns-in-32-clause-told
+statement-returns-in-32-clause-told t c = told_anywhere c.return_value.ensures.told
 
-pub statement-returns-in-33 : goal.statement-returns-in-33
-statement-returns-in-33 t c = told_anywhere c.return_void.ensures
+pub statement-returns-in-33-clause-told : goal.statement-returns-in-33-clause-told
+statement-returns-in-33-clause-told t c = told_anywhere c.return_void.ensures.told
 
-pub statement-returns-in-34 : goal.statement-returns-in-34
-statement-returns-in-34 t c = any_told c.call_statement.ensures
+pub statement-returns-in-34-clause-told : goal.statement-returns-in-34-clause-told
+statement-returns-in-34-clause-told t c = any_told c.call_statement.ensures.told
 
-pub statement-returns-in-35 : goal.statement-returns-in-35
-statement-returns-in-35 t c = told_anywhere c.if_else.ensures
+pub statement-returns-in-35-clause-told : goal.statement-returns-in-35-clause-told
+statement-returns-in-35-clause-told t c = told_anywhere c.if_else.ensures.told
 
-pub statement-returns-in-36 : goal.statement-returns-in-36
-statement-returns-in-36 t c = told_anywhere c.if_null.ensures
+pub statement-returns-in-36-clause-told : goal.statement-returns-in-36-clause-told
+statement-returns-in-36-clause-told t c = told_anywhere c.if_null.ensures.told
 
-pub statement-returns-in-37 : goal.statement-returns-in-37
-statement-returns-in-37 t c = told_anywhere c.for_loop.ensures
+pub statement-returns-in-37-clause-told : goal.statement-returns-in-37-clause-told
+statement-returns-in-37-clause-told t c = told_anywhere c.for_loop.ensures.told
 
-pub statement-returns-in_default : goal.statement-returns-in_default
-statement-returns-in_default t c = while_told c.while_loop.ensures
+pub statement-returns-in_default-clause-told : goal.statement-returns-in_default-clause-told
+statement-returns-in_default-clause-told t c = while_told c.while_loop.ensures.told
 
 pub statements-loop-i-init : goal.statements-loop-i-init
-statements-loop-i-init t c = (run_start c.requires, refl, refl)
+statements-loop-i-init t c = (run_start c.requires, (refl, refl))
 
-pub statements-returns-then-mark-ne0 : goal.statements-returns-then-mark-ne0
-statements-returns-then-mark-ne0 t c = run_stops c.requires c.loop-i.invariant.0 c.loop-i-test.true c.if-mark-ne0.true c.refused.ensures.0
+pub statements-returns-then-mark-ne0-clause-told : goal.statements-returns-then-mark-ne0-clause-told
+statements-returns-then-mark-ne0-clause-told t c = run_stops c.requires c.loop-i.invariant.0 c.loop-i-test.true c.if-mark-ne0.true c.refused.ensures.0
 
 pub statements-overflow_add-last : goal.statements-overflow_add-last
 statements-overflow_add-last t c = omega (arith, c.loop-i-test.true, c.ranges.count)
@@ -254,65 +255,58 @@ pub statements-statement-one-requires : goal.statements-statement-one-requires
 statements-statement-one-requires t c =
     (omega (arith, c.decreases, run_forward c.requires c.loop-i.invariant.0, (run_ready c.requires c.loop-i.invariant.0 c.loop-i-test.true).within), run_asked c.requires c.loop-i.invariant.0 c.loop-i-test.true)
 
-pub statements-returns-in-Refused : goal.statements-returns-in-Refused
-statements-returns-in-Refused t c = run_no c.requires c.loop-i.invariant.0 c.loop-i-test.true c.if-mark-ne0.false c.statement-one.ensures c.in-Refused.is
-
-pub statements-overflow_add-i : goal.statements-overflow_add-i
-statements-overflow_add-i t c = omega (arith, c.loop-i-test.true, c.ranges.count)
-
-pub statements-loop-i-smaller : goal.statements-loop-i-smaller
-statements-loop-i-smaller t c = omega (arith, c.loop-i-test.true)
+pub statements-returns-in-Refused-clause-told : goal.statements-returns-in-Refused-clause-told
+statements-returns-in-Refused-clause-told t c = run_no c.requires c.loop-i.invariant.0 c.loop-i-test.true c.if-mark-ne0.false c.statement-one.ensures.told c.in-Refused.is
 
 pub statements-loop-i-preserved : goal.statements-loop-i-preserved
 statements-loop-i-preserved t c = (
-  run_again c.requires c.loop-i.invariant.0 c.loop-i-test.true c.if-mark-ne0.false c.statement-one.ensures (record { never = c.in_default.not-Refused }) c.mark_of-mark.ensures.0,
-  search rules,
+  run_again c.requires c.loop-i.invariant.0 c.loop-i-test.true c.if-mark-ne0.false c.statement-one.ensures.told (record { never = c.in_default.not-Refused }) c.mark_of-mark.ensures.0,
   search rules,
 )
 
-pub statements-returns : goal.statements-returns
-statements-returns t c = run_done c.requires c.loop-i.invariant.0 c.loop-i-test.false (answered c.with_mark.ensures refl refl refl)
+pub statements-returns-clause-told : goal.statements-returns-clause-told
+statements-returns-clause-told t c = run_done c.requires c.loop-i.invariant.0 c.loop-i-test.false (answered c.with_mark.ensures refl refl refl)
 
 pub step-node_kind-requires : goal.step-node_kind-requires
 step-node_kind-requires t c = step_node c.requires
 
-pub step-overflow_add-at : goal.step-overflow_add-at
-step-overflow_add-at t c = omega (arith, c.requires.within, c.requires.fine.good_tables.laid.nodes_most)
+pub step-overflow_add-after : goal.step-overflow_add-after
+step-overflow_add-after t c = omega (arith, c.requires.within, c.requires.fine.good_tables.laid.nodes_most)
 
 pub step-ends-requires : goal.step-ends-requires
 step-ends-requires t c = step_fits c.requires
 
-pub step-returns-then-node_kind-eq40 : goal.step-returns-then-node_kind-eq40
-step-returns-then-node_kind-eq40 t c = step_absent c.requires c.node_kind.ensures.0 c.if-node_kind-eq40.true (answered c.ends.ensures.value refl refl refl) c.ends.ensures.rows_after
+pub step-returns-then-node_kind-eq40-clause-told : goal.step-returns-then-node_kind-eq40-clause-told
+step-returns-then-node_kind-eq40-clause-told t c = step_absent c.requires c.node_kind.ensures.0 c.if-node_kind-eq40.true (answered c.ends.ensures.value refl refl refl) c.ends.ensures.rows_after
 
 pub step-statement-one-requires : goal.step-statement-one-requires
 step-statement-one-requires t c = (omega (arith, c.decreases), step_first c.requires c.node_kind.ensures.0 c.if-node_kind-eq40.false)
 
-pub step-returns-in-Refused : goal.step-returns-in-Refused
-step-returns-in-Refused t c = step_no c.requires c.node_kind.ensures.0 c.if-node_kind-eq40.false c.statement-one.ensures c.in-Refused.is
+pub step-returns-in-Refused-clause-told : goal.step-returns-in-Refused-clause-told
+step-returns-in-Refused-clause-told t c = step_no c.requires c.node_kind.ensures.0 c.if-node_kind-eq40.false c.statement-one.ensures.told c.in-Refused.is
 
-pub step-returns-then-mark_of-ne0 : goal.step-returns-then-mark_of-ne0
-step-returns-then-mark_of-ne0 t c =
-    step_returns c.requires c.node_kind.ensures.0 c.if-node_kind-eq40.false c.statement-one.ensures (record { never = c.in_default.not-Refused }) c.mark_of.ensures.0 c.if-mark_of-ne0.true c.refused.ensures.0
+pub step-returns-then-mark_of-ne0-clause-told : goal.step-returns-then-mark_of-ne0-clause-told
+step-returns-then-mark_of-ne0-clause-told t c =
+    step_returns c.requires c.node_kind.ensures.0 c.if-node_kind-eq40.false c.statement-one.ensures.told (record { never = c.in_default.not-Refused }) c.mark_of.ensures.0 c.if-mark_of-ne0.true c.refused.ensures.0
 
 pub step-leave-requires : goal.step-leave-requires
-step-leave-requires t c = step_leaves c.requires c.node_kind.ensures.0 c.if-node_kind-eq40.false c.statement-one.ensures (record { never = c.in_default.not-Refused })
+step-leave-requires t c = step_leaves c.requires c.node_kind.ensures.0 c.if-node_kind-eq40.false c.statement-one.ensures.told (record { never = c.in_default.not-Refused })
 
-pub step-returns : goal.step-returns
-step-returns t c =
-    step_ok c.requires c.node_kind.ensures.0 c.if-node_kind-eq40.false c.statement-one.ensures (record { never = c.in_default.not-Refused }) c.mark_of.ensures.0 c.if-mark_of-ne0.false c.leave.ensures (answered c.goes_on.ensures refl refl refl)
+pub step-returns-clause-told : goal.step-returns-clause-told
+step-returns-clause-told t c =
+    rw c.leave.ensures.work_unchanged (step_ok c.requires c.node_kind.ensures.0 c.if-node_kind-eq40.false c.statement-one.ensures.told (record { never = c.in_default.not-Refused }) c.mark_of.ensures.0 c.if-mark_of-ne0.false c.leave.ensures.left (answered c.goes_on.ensures refl refl refl))
 
 pub turn-step-one-requires : goal.turn-step-one-requires
 turn-step-one-requires t c = (omega (arith, c.decreases), turn_first c.requires)
 
-pub turn-returns-in_default : goal.turn-returns-in_default
-turn-returns-in_default t c = turn_no c.requires c.step-one.ensures (record { never = c.in_default.not-GoesOn })
+pub turn-returns-in_default-clause-told : goal.turn-returns-in_default-clause-told
+turn-returns-in_default-clause-told t c = turn_no c.requires c.step-one.ensures.told (record { never = c.in_default.not-GoesOn })
 
 pub turn-block-requires : goal.turn-block-requires
-turn-block-requires t c = let g = turn_second c.requires c.step-one.ensures c.in-GoesOn.is in (omega (arith, g.0, c.decreases, c.requires.within), g.1)
+turn-block-requires t c = let g = turn_second c.requires c.step-one.ensures.told c.in-GoesOn.is in (omega (arith, g.0, c.decreases, c.requires.within), g.1)
 
-pub turn-returns : goal.turn-returns
-turn-returns t c = turn_told c.requires c.step-one.ensures c.in-GoesOn.is c.block.ensures
+pub turn-returns-clause-told : goal.turn-returns-clause-told
+turn-returns-clause-told t c = turn_told c.requires c.step-one.ensures.told c.in-GoesOn.is c.block.ensures.told
 
 pub while_loop-overflow_add-test : goal.while_loop-overflow_add-test
 while_loop-overflow_add-test t c = omega (arith, c.requires.ready_stmt.0.within, c.requires.ready_stmt.0.fine.good_tables.laid.nodes_most)
@@ -320,29 +314,29 @@ while_loop-overflow_add-test t c = omega (arith, c.requires.ready_stmt.0.within,
 pub while_loop-expression-one-requires : goal.while_loop-expression-one-requires
 while_loop-expression-one-requires t c = while_first c.requires.ready_stmt.0 c.requires.node_value
 
-pub while_loop-returns-in_default : goal.while_loop-returns-in_default
-while_loop-returns-in_default t c = while_no c.requires.ready_stmt.0 c.requires.node_value c.expression-one.ensures (record { never = c.in_default.not-Typed })
+pub while_loop-returns-in_default-clause-told : goal.while_loop-returns-in_default-clause-told
+while_loop-returns-in_default-clause-told t c = while_no c.requires.ready_stmt.0 c.requires.node_value c.expression-one.ensures.told (record { never = c.in_default.not-Typed })
 
 pub while_loop-type_kind-requires : goal.while_loop-type_kind-requires
-while_loop-type_kind-requires t c = child_type (while_first c.requires.ready_stmt.0 c.requires.node_value) c.expression-one.ensures c.in-Typed.is
+while_loop-type_kind-requires t c = child_type (while_first c.requires.ready_stmt.0 c.requires.node_value) c.expression-one.ensures.told c.in-Typed.is
 
-pub while_loop-returns-then-type_kind-ne1 : goal.while_loop-returns-then-type_kind-ne1
-while_loop-returns-then-type_kind-ne1 t c = while_sort c.requires.ready_stmt.0 c.requires.node_value c.expression-one.ensures c.in-Typed.is c.type_kind.ensures.0 c.if-type_kind-ne1.true c.refused.ensures.0
+pub while_loop-returns-then-type_kind-ne1-clause-told : goal.while_loop-returns-then-type_kind-ne1-clause-told
+while_loop-returns-then-type_kind-ne1-clause-told t c = while_sort c.requires.ready_stmt.0 c.requires.node_value c.expression-one.ensures.told c.in-Typed.is c.type_kind.ensures.0 c.if-type_kind-ne1.true c.refused.ensures.0
 
 pub while_loop-block-two-requires : goal.while_loop-block-two-requires
 while_loop-block-two-requires t c =
-    let g = while_second c.requires.ready_stmt.0 c.requires.node_value c.expression-one.ensures c.in-Typed.is c.type_kind.ensures.0 c.requires.ready_stmt.1 in (omega (arith, g.0, c.decreases, c.requires.ready_stmt.0.within), g.1)
+    let g = while_second c.requires.ready_stmt.0 c.requires.node_value c.expression-one.ensures.told c.in-Typed.is c.type_kind.ensures.0 c.requires.ready_stmt.1 in (omega (arith, g.0, c.decreases, c.requires.ready_stmt.0.within), g.1)
 
-pub while_loop-returns-in-Refused : goal.while_loop-returns-in-Refused
-while_loop-returns-in-Refused t c = while_no_2 c.requires.ready_stmt.0 c.requires.node_value c.expression-one.ensures c.in-Typed.is c.type_kind.ensures.0 c.if-type_kind-ne1.false c.block-two.ensures c.in-Refused.is
+pub while_loop-returns-in-Refused-clause-told : goal.while_loop-returns-in-Refused-clause-told
+while_loop-returns-in-Refused-clause-told t c = while_no_2 c.requires.ready_stmt.0 c.requires.node_value c.expression-one.ensures.told c.in-Typed.is c.type_kind.ensures.0 c.if-type_kind-ne1.false c.block-two.ensures.told c.in-Refused.is
 
 pub while_loop-while_mark-mark-requires : goal.while_loop-while_mark-mark-requires
 while_loop-while_mark-mark-requires t c = while_test c.requires.ready_stmt.0 c.requires.node_value
 
 pub while_loop-ends-requires : goal.while_loop-ends-requires
 while_loop-ends-requires t c =
-    while_ends c.requires.ready_stmt.0 c.requires.node_value c.expression-one.ensures c.in-Typed.is c.type_kind.ensures.0 c.if-type_kind-ne1.false c.block-two.ensures (record { never = c.in_default-second.not-Refused }) c.while_mark-mark.ensures.1
+    while_ends c.requires.ready_stmt.0 c.requires.node_value c.expression-one.ensures.told c.in-Typed.is c.type_kind.ensures.0 c.if-type_kind-ne1.false c.block-two.ensures.told (record { never = c.in_default-judgement.not-Refused }) c.while_mark-mark.ensures.1
 
-pub while_loop-returns : goal.while_loop-returns
-while_loop-returns t c =
-    while_ok c.requires.ready_stmt.0 c.requires.node_value c.expression-one.ensures c.in-Typed.is c.type_kind.ensures.0 c.if-type_kind-ne1.false c.block-two.ensures (record { never = c.in_default-second.not-Refused }) c.while_mark-mark.ensures.0 (answered c.ends.ensures.value refl refl refl) c.ends.ensures.rows_after
+pub while_loop-returns-clause-told : goal.while_loop-returns-clause-told
+while_loop-returns-clause-told t c =
+    while_ok c.requires.ready_stmt.0 c.requires.node_value c.expression-one.ensures.told c.in-Typed.is c.type_kind.ensures.0 c.if-type_kind-ne1.false c.block-two.ensures.told (record { never = c.in_default-judgement.not-Refused }) c.while_mark-mark.ensures.0 (answered c.ends.ensures.value refl refl refl) c.ends.ensures.rows_after
