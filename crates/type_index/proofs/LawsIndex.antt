@@ -161,24 +161,6 @@ module _ (t : ℕ → Ty) where
       (same_ty (t i) (t j))
       (λ e. (same_is (t i) (t j)).1 (sym (first_type i) ∙ ap t (eqb-true (first_of i) (first_of j) e) ∙ first_type j), λ s. eq-eqb (first_of i) (first_of j) (first-equal i j (same_sound (t i) (t j) s)))
 
--- entries read at their places
-module _ (index : List ℕ) where
-  pub lowest_read : (i x : ℕ) → x ≡ get_or index i 0 → x ≡ lowest_entry index i
-  unfolding lowest_entry
-  lowest_read i x e = e
-
-  pub struct_read : (i x : ℕ) → x ≡ get_or index (512 + i) 0 → x ≡ struct_entry index i
-  unfolding struct_entry
-  struct_read i x e = e
-
-  pub formed_read : (i x : ℕ) → x ≡ get_or index (1024 + i) 0 → eqb x 1 ≡ formed_entry index i
-  unfolding formed_entry
-  formed_read i x e = ap (λ y. eqb y 1) e
-
-  pub parts_read : (i x : ℕ) → x ≡ get_or index (2112 + i) 0 → x ≡ parts_entry index i
-  unfolding parts_entry
-  parts_read i x e = e
-
 -- the index of a file has places for the entries of its types
 pub entered : {s : List ℕ} {S : Sections} {index : List ℕ} {n i : ℕ} → GoodTables s S → Indexed index (tables_of s S) n → i < S.types → Entered index i
 entered R I h = record { low = omega (arith, R.laid.types_most); long = I.long }

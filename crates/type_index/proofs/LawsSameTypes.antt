@@ -184,9 +184,6 @@ module _ (s : List ℕ) (S : Sections) (a b j k : ℕ) (R : GoodTables s S) (l :
 
 -- the walk over parameters
 module _ (index : List ℕ) (T : Tables) (p q : ℕ) where
-  pub params_from : (m n count : ℕ) (u : Bool) → m ≡ p → n ≡ q → u ≡ same_params index T m n count → u ≡ same_params index T p q count
-  params_from m n count u em en e = e ∙ rw (em, en)
-
   -- two parameters are equal, as the index has it
   abbrev pub same_param : ℕ → Bool
   same_param j = eqb (lowest_entry index (entry_at T (p + j))) (lowest_entry index (entry_at T (q + j)))
@@ -266,13 +263,6 @@ module _ (s : List ℕ) (S : Sections) (index : List ℕ) (i : ℕ) (R : GoodTab
 
   pub returns_in : kind_at (tables_of s S) i ≡ 6 → Operand s S index i
   returns_in k = record { there = h; entered = returns_entered _ refl k }
-
--- equal operands, as the index has it
-pub operands_from : (index : List ℕ) (p q m n : ℕ) (u : Bool) → m ≡ p → n ≡ q → u ≡ eqb (lowest_entry index m) (lowest_entry index n) → u ≡ eqb (lowest_entry index p) (lowest_entry index q)
-operands_from index p q m n u em en e = e ∙ rw (em, en)
-
-pub operand_entered : (s : List ℕ) (S : Sections) (index : List ℕ) (i x : ℕ) → x ≡ (type_at (tables_of s S) i).a → Operand s S index i → Entered index x
-operand_entered s S index i x e O = rw e O.entered
 
 -- two function types
 module _ (s : List ℕ) (S : Sections) (a b : ℕ) (R : GoodTables s S) (l : a < b) (h : b < S.types) (ka : kind_at (tables_of s S) a ≡ 6) (kb : kind_at (tables_of s S) b ≡ 6) where

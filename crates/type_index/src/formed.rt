@@ -12,6 +12,7 @@ use file_sections::Sections;
 use file_sections::records::{list_entry, type_a, type_b, type_c};
 
 // What the index has for the struct that the type i names: where i is indexed, its first record, or the number of structs.
+#[tactic(auto, unfolding(crate::specs::Index::struct_entry))]
 pub fn struct_record(index: &[u16], i: usize) -> usize
     requires { Entered index.now i }
     ensures { result ≡ struct_entry index.now i }
@@ -20,6 +21,7 @@ pub fn struct_record(index: &[u16], i: usize) -> usize
 }
 
 // The index has i for well-formed: where i is indexed, this type is well-formed, as a return type.
+#[tactic(auto, unfolding(crate::specs::Index::formed_entry))]
 pub fn is_formed(index: &[u16], i: usize) -> bool
     requires { Entered index.now i }
     ensures { result ≡ formed_entry index.now i }

@@ -101,6 +101,7 @@ fn index_one(file: &[u8], sections: Sections, records: &[u16], index: &mut [u16]
     ensures chained_2 { Chained index.new (tables_of file.now sections) (i + 1) }
 {
     let kind = type_kind(file, sections, i);
+    // (the kinds are the file's numbers: document 01's form)
     match kind {
         4 => index_struct(file, sections, records, index, i),
         5 | 7 => index_holder(file, sections, index, i, kind),

@@ -12,6 +12,7 @@ use file_sections::Sections;
 use file_sections::records::{list_entry, type_a, type_b, type_c};
 
 // What the index has for the parts of the type i: where i is indexed, their number.
+#[tactic(auto, unfolding(crate::specs::Index::parts_entry))]
 pub fn parts_of(index: &[u16], i: usize) -> usize
     requires { Entered index.now i }
     ensures { (result ≡ parts_entry index.now i) × (result < 65536) }

@@ -1,6 +1,6 @@
 // Equal types under their lowest number. The entry i of the index is the lowest number of a type equal to the type i. It is found by a
-// walk along a chain, from the head at 2048 + bucket over the links at 1536 + j, since equal types have equal buckets: one walk for
-// struct types, one for holders, which are array and nullable types, and one for function types.
+// walk along a chain, from the head at 2048 + bucket over the links at 1536 + j, since equal types have equal buckets: with one test
+// for struct types, one for holders, which are array and nullable types, and one for function types.
 ghost use Rattle.std.specs.Prelude.{◌≡◌, ◌⊎◌, ◌<◌, ◌≤◌, eqb, length};
 ghost use Rattle.oat.specs.Tables.{type_at};
 ghost use Rattle.oat.specs.TypeRules.{kind_at};
@@ -15,6 +15,7 @@ use file_sections::Sections;
 use file_sections::records::{list_entry, type_a, type_b, type_c, type_kind};
 
 // The lowest number of a type equal to the type i.
+#[tactic(auto, unfolding(crate::specs::Index::lowest_entry))]
 pub fn lowest(index: &[u16], i: usize) -> usize
     requires { Entered index.now i }
     ensures { result ≡ lowest_entry index.now i }

@@ -17,6 +17,7 @@ pub fn last_where<F: Fn(usize) -> bool>(
     requires tests { (k : ℕ) (r : Bool) → k < way.count → F.post test k r → r ≡ way.passes k }
     ensures { MatchOption result (NonePasses way) (LastPasses way) }
 {
+    // (a `while`: the links lead on, and no index is counted)
     let mut after = entry(numbers, head);
     while 0 < after {
         let k = after - 1;
