@@ -5,21 +5,20 @@ use mathlib.Core.List.{List, [], ◌∷◌}
 use mathlib.Core.Logic.{◌⊎◌, inl, inr, ⊎_elim}
 use Prim.Native.Nat.{ℕ, ◌+◌, ◌<◌, ◌≤◌}
 use native.Mathlib.Omega.{arith}
-use lib.Bits.{bit_and}
 use lib.ListN.{get_or}
 use lib.Dec.{eqb, leb, ltb}
-use borrow.Author.Tests.{not-true, not-false, eqb-true, leb-true, ltb-true, eq-eqb, ne_eqb, le-leb, lt-leb, lt-ltb, le-ltb}
+use borrow.Author.Tests.{eqb-true, leb-true, ltb-true, eq-eqb, le-leb}
 use Rattle.oat.specs.Basics.{pick}
 use Rattle.oat.specs.Tables.{Tables}
 use Rattle.oat.specs.TableRules.{has_kind}
 use Rattle.oat.specs.Nodes.{has_reference_kind}
 use Rattle.oat.proofs.LawsBasics.{and_parts}
-use Rattle.node_tree.specs.Shape.{within, admits, x_fits, t_fits, count_fits, for_role, child_role}
+use Rattle.node_tree.specs.Shape.{within, admits, x_fits, t_fits, count_fits}
 use Rattle.node_tree.specs.Demands.{typed, bit_of, stands_as, plain_for, kind_or, Keeps}
 use Rattle.node_tree.specs.declared.demands.Demand.{Demand}
 use Rattle.node_tree.specs.declared.shape.Role.{Role}
 use Rattle.node_tree.specs.declared.shape.Role.TheVariants.{Declaration, Parameter, Expression, Initializer, Target, Var, Statement, Block, Condition, Step}
-use Rattle.node_tree.proofs.LawsShape.{kind_asked, for_block, for_step, for_condition, for_var, role_2, role_21, role_30, role_35, role_37, role_38, role_39, role_other}
+use Rattle.node_tree.proofs.LawsShape.{kind_asked}
 
 -- a test at every role
 abbrev values : (Role → Bool) → List Bool
@@ -213,89 +212,3 @@ no_demand k r h = record {
       let y : ◌≡◌ {A = ℕ} 0 1 = cc in
       absurd (omega arith);
 }
-
--- stands, by its code
-module _ (d : Demand) (bit : ℕ) where
-  pub stands_no : bit_and d.roles bit ≡ 0 → false ≡ stands_as d bit
-  unfolding stands_as
-  stands_no h = rw h
-
-  pub stands_yes : (bit_and d.roles bit ≡ 0 → ⊥) → true ≡ stands_as d bit
-  unfolding stands_as
-  stands_yes h = rw (ne_eqb (bit_and d.roles bit) 0 h)
-
--- the bits of children, by the arms of a `match`
-first_of : (t : Bool) (c : Bool) (x y : Role) (a b : ℕ) → a ≡ bit_of c x → b ≡ bit_of c y → pick t a b ≡ bit_of c (pick t x y)
-first_of true c x y a b ea eb = ea
-first_of false c x y a b ea eb = eb
-
-module _ (c : Bool) (k count i r : ℕ) where
-  by_role : (x : Role) → r ≡ bit_of c x → x ≡ child_role k count i → r ≡ bit_of c (child_role k count i)
-  by_role x e h = e ∙ ap (bit_of c) h
-
-  pub bit_2 : k ≡ 2 → r ≡ pick (eqb (i + 1) count) 128 2 → r ≡ bit_of c (child_role k count i)
-  bit_2 e h = by_role (pick (eqb (i + 1) count) Block Parameter) (h ∙ first_of (eqb (i + 1) count) c Block Parameter 128 2 refl refl) (role_2 k count i _ e refl)
-
-  pub bit_21 : k ≡ 21 → r ≡ 8 → r ≡ bit_of c (child_role k count i)
-  bit_21 e h = by_role Initializer h (role_21 k count i e)
-
-  pub bit_30 : (v : ℕ) → k ≡ 30 → v ≡ pick c 1024 4 → r ≡ pick (eqb i 0) 16 v → r ≡ bit_of c (child_role k count i)
-  bit_30 v e ev h = by_role (pick (eqb i 0) Target Expression) (h ∙ first_of (eqb i 0) c Target Expression 16 v refl ev) (role_30 k count i _ e refl)
-
-  pub bit_35 : (v : ℕ) → 35 ≤ k → k < 37 → v ≡ pick c 1024 4 → r ≡ pick (eqb i 0) v 128 → r ≡ bit_of c (child_role k count i)
-  bit_35 v a b ev h = by_role (pick (eqb i 0) Expression Block) (h ∙ first_of (eqb i 0) c Expression Block v 128 ev refl) (role_35 k count i _ a b refl)
-
-  pub bit_38 : (v : ℕ) → k ≡ 38 → v ≡ pick c 1024 4 → r ≡ pick (eqb i 0) v 128 → r ≡ bit_of c (child_role k count i)
-  bit_38 v e ev h = by_role (pick (eqb i 0) Expression Block) (h ∙ first_of (eqb i 0) c Expression Block v 128 ev refl) (role_38 k count i _ e refl)
-
-  pub bit_37 : k ≡ 37 → r ≡ bit_of c (for_role count i) → r ≡ bit_of c (child_role k count i)
-  bit_37 e h = by_role (for_role count i) h (role_37 k count i _ e refl)
-
-  pub bit_39 : k ≡ 39 → r ≡ 64 → r ≡ bit_of c (child_role k count i)
-  bit_39 e h = by_role Statement h (role_39 k count i e)
-
-  pub bit_other : (k ≡ 2 → ⊥) → (k ≡ 21 → ⊥) → (k ≡ 30 → ⊥) → (k ≡ 38 → ⊥) → (k ≡ 37 → ⊥) → (k ≡ 39 → ⊥) → (k ≡ 35 → ⊥) → (k ≡ 36 → ⊥) → r ≡ pick c 1024 4 → r ≡ bit_of c (child_role k count i)
-  bit_other a b d e f g l m h = by_role Expression h (role_other k count i a b d e f g l m)
-
--- the bits of a for's children
-module _ (c : Bool) (count i r : ℕ) where
-  for-role : (x : Role) → r ≡ bit_of c x → x ≡ for_role count i → r ≡ bit_of c (for_role count i)
-  for-role x e h = e ∙ ap (bit_of c) h
-
-  pub bit_block : i + 1 ≡ count → r ≡ 128 → r ≡ bit_of c (for_role count i)
-  bit_block e h = for-role Block h (for_block count i e)
-
-  pub bit_step : (i + 1 ≡ count → ⊥) → i + 2 ≡ count → r ≡ 512 → r ≡ bit_of c (for_role count i)
-  bit_step a e h = for-role Step h (for_step count i a e)
-
-  pub bit_condition : (i + 1 ≡ count → ⊥) → (i + 2 ≡ count → ⊥) → i + 3 ≡ count → r ≡ pick c 65536 256 → r ≡ bit_of c (for_role count i)
-  bit_condition a b e h = for-role Condition h (for_condition count i a b e)
-
-  pub bit_var : (i + 1 ≡ count → ⊥) → (i + 2 ≡ count → ⊥) → (i + 3 ≡ count → ⊥) → r ≡ 32 → r ≡ bit_of c (for_role count i)
-  bit_var a b d h = for-role Var h (for_var count i a b d)
-
--- plain, by its code
-pub typed_below : (t free kind typed : ℕ) → t < free → true ≡ (ltb t free || eqb kind typed)
-typed_below t free kind typed h = rw (lt-ltb t free h)
-
-pub typed_here : (t free kind typed : ℕ) → free ≤ t → eqb kind typed ≡ (ltb t free || eqb kind typed)
-typed_here t free kind typed h = rw (le-ltb t free h)
-
-module _ (d : Demand) (x t kind count : ℕ) where
-  pub plain_x : d.limit < x → false ≡ plain_for d x t kind count
-  unfolding plain_for
-  plain_x h = rw (lt-leb x d.limit h)
-
-  module _ (hx : x ≤ d.limit) (b : Bool) (eb : b ≡ (ltb t d.free || eqb kind d.typed)) where
-    pub plain_t : not b ≡ true → false ≡ plain_for d x t kind count
-    unfolding plain_for
-    plain_t h = rw (le-leb x d.limit hx, ← eb, not-true b h)
-
-    module _ (hb : not b ≡ false) where
-      pub plain_few : count < d.least → false ≡ plain_for d x t kind count
-      unfolding plain_for
-      plain_few h = rw (le-leb x d.limit hx, ← eb, not-false b hb, lt-leb d.least count h)
-
-      pub plain_most : d.least ≤ count → leb count d.most ≡ plain_for d x t kind count
-      unfolding plain_for
-      plain_most h = rw (le-leb x d.limit hx, ← eb, not-false b hb, le-leb d.least count h)

@@ -2,11 +2,12 @@
 use mathlib.Core.Path.{◌≡◌, refl, sym, ◌∙◌, ap}
 use mathlib.Core.Bool.{Bool, true, false, not, ◌&&◌, ◌||◌}
 use mathlib.Core.List.{List}
+use Rattle.std.specs.Prelude.{Option, None, Some}
 use Prim.Native.Nat.{ℕ, ◌+◌, ◌-◌, ◌*◌, ◌<◌, ◌≤◌}
 use native.Mathlib.Omega.{arith}
-use lib.ListN.{length}
+use lib.ListN.{length, get_or}
 use lib.Dec.{eqb, ltb}
-use borrow.Author.Tests.{not-true, not-false, eqb-true, ltb-true, lt-ltb, le-ltb, eq-eqb, ne_eqb}
+use borrow.Author.Tests.{not-true, not-false, eqb-true, ltb-true, lt-ltb}
 use Rattle.oat.specs.Basics.{pick}
 use Rattle.oat.specs.Tables.{type_at, node_at}
 use Rattle.oat.specs.TypeRules.{kind_at}
@@ -14,8 +15,11 @@ use Rattle.oat.specs.TableRules.{has_kind}
 use Rattle.oat.proofs.LawsBasics.{and_parts}
 use Rattle.file_sections.specs.declared.Sections.{Sections}
 use Rattle.file_sections.specs.Numbers.{number_at}
-use Rattle.file_sections.specs.Layout.{Laid, Has, tables_of}
-use Rattle.file_sections.proofs.LawsRecords.{types_long, nodes_long, type_kind_is, type_c_is, node_kind_is, node_x_is, node_t_is, node_children_is}
+use Rattle.file_sections.specs.Layout.{Laid, tables_of}
+use Rattle.file_sections.specs.Layout.{records_at, type_from, node_from}
+use Rattle.file_sections.proofs.LawsRecords.{types_long, nodes_long}
+use Rattle.oat.specs.Tables.{TypeRecord, NodeRecord}
+use Rattle.oat.proofs.LawsBasics.{tabulate_at}
 use Rattle.node_tree.specs.Shape.{admits, x_fits, t_fits, params_of, count_fits, child_role}
 use Rattle.node_tree.specs.Tree.{Ending, Broken, At, node_fits, node_right, children_of, tree_of, trees_right}
 use Rattle.node_tree.specs.Demands.{bit_of, stands_as, plain_for, kind_or, TypeFits, Keeps}
@@ -44,25 +48,39 @@ place_small w =
     let l = p.laid in
     omega (arith, p.place, p.within, l.list_at, l.fields_at, l.structs_at, l.built_ins_at, l.nodes_at, l.types_most, l.list_most, l.fields_most, l.structs_most, l.built_ins_most, l.nodes_most)
 
+-- a record of a section, by the numbers that it is read from
+record_is : {A : Type 0} (from : (ℕ → ℕ) → A) (size : ℕ) (s : List ℕ) (at count i : ℕ) (d : A) → i < count → get_or (records_at from size s at count) i d ≡ from (λ j. number_at s (at + i * size + j))
+unfolding records_at
+record_is from size s at count i d h = tabulate_at _ _ i d h
+
+type_is : (s : List ℕ) (S : Sections) (i : ℕ) → i < S.types → type_at (tables_of s S) i ≡ type_from (λ j. number_at s (1 + i * 4 + j))
+unfolding tables_of
+type_is s S i h = record_is type_from 4 s 1 S.types i _ h
+
+node_is : (s : List ℕ) (S : Sections) (i : ℕ) → i < S.nodes → node_at (tables_of s S) i ≡ node_from (λ j. number_at s (S.nodes_at + i * 4 + j))
+unfolding tables_of
+node_is s S i h = record_is node_from 4 s S.nodes_at S.nodes i _ h
+
 -- the numbers of a node
 module _ (s : List ℕ) (types at : ℕ) (four : (at + 3) * 2 + 1 < length s) (S : Sections) (n : ℕ) (p : Spot s types at S n) where
   there : n < S.nodes
   there = omega (arith, p.place, p.laid.end)
 
-  has : Has s S n S.nodes
-  has = record { laid = p.laid; within = there }
+  -- its record, by its place
+  here : node_at (tables_of s S) n ≡ node_from (λ j. number_at s (at + j))
+  here = node_is s S n there ∙ ap (λ (m : ℕ). node_from (λ j. number_at s (m + j))) (sym p.place)
 
   kind_is : (k : ℕ) → k ≡ number_at s at → k ≡ (node_at (tables_of s S) n).kind
-  kind_is k e = node_kind_is s S n k has (e ∙ ap (number_at s) p.place)
+  kind_is k e = e ∙ ap (number_at s) (omega arith) ∙ sym (ap (λ (r : NodeRecord). r.kind) here)
 
   x_is : (x : ℕ) → x ≡ number_at s (at + 1) → x ≡ (node_at (tables_of s S) n).x
-  x_is x e = node_x_is s S n x has (e ∙ ap (λ (m : ℕ). number_at s (m + 1)) p.place)
+  x_is x e = e ∙ sym (ap (λ (r : NodeRecord). r.x) here)
 
   t_is : (t : ℕ) → t ≡ number_at s (at + 2) → t ≡ (node_at (tables_of s S) n).t
-  t_is t e = node_t_is s S n t has (e ∙ ap (λ (m : ℕ). number_at s (m + 2)) p.place)
+  t_is t e = e ∙ sym (ap (λ (r : NodeRecord). r.t) here)
 
   children_are : (m : ℕ) → m ≡ number_at s (at + 3) → m ≡ (node_at (tables_of s S) n).children
-  children_are m e = node_children_is s S n m has (e ∙ ap (λ (m : ℕ). number_at s (m + 3)) p.place)
+  children_are m e = e ∙ sym (ap (λ (r : NodeRecord). r.children) here)
 
   -- the node is right where it may stand and fits
   right_is : (c : Bool) (role : Role) (k : ℕ) → k ≡ number_at s at → (a b : Bool) → a ≡ admits c role k → b ≡ node_fits (tables_of s S) n → (a && b) ≡ node_right (tables_of s S) c role n
@@ -70,27 +88,13 @@ module _ (s : List ℕ) (types at : ℕ) (four : (at + 3) * 2 + 1 < length s) (S
   right_is c role k ek a b ea eb = rw (nodes_long, lt-ltb n S.nodes there, ← kind_is k ek, ← ea, ← eb)
 
 -- the kind of a type, and a function's parameters
-pub kind_past : (s : List ℕ) (types t : ℕ) → types ≤ t → 65536 ≡ kind_for s types t
-unfolding kind_for
-kind_past s types t h = rw (le-ltb t types h)
-
-pub kind_here : (s : List ℕ) (types t n : ℕ) → t < types → n ≡ number_at s (1 + t * 4) → n ≡ kind_for s types t
-unfolding kind_for
-kind_here s types t n h e = rw (lt-ltb t types h) e
-
-pub params_some : (k n m : ℕ) → k ≡ 2 → n ≡ m → n ≡ pick (eqb k 2) m 0
-params_some k n m e h = rw (eq-eqb k 2 e) h
-
-pub params_none : (k m : ℕ) → (k ≡ 2 → ⊥) → 0 ≡ pick (eqb k 2) m 0
-params_none k m h = rw (ne_eqb k 2 h)
-
 module _ (s : List ℕ) (types at : ℕ) (S : Sections) (n : ℕ) (p : Spot s types at S n) where
   kind_told : (t r : ℕ) → r ≡ kind_for s types t → r ≡ kind_or (tables_of s S) t
   unfolding kind_for kind_or
   kind_told t r e = e ∙ rw (p.counted, types_long) (go (ltb t S.types) refl)
     where
       go : (b : Bool) → ltb t S.types ≡ b → pick b (number_at s (1 + t * 4)) 65536 ≡ pick b (kind_at (tables_of s S) t) 65536
-      go true h = type_kind_is s S t (number_at s (1 + t * 4)) (record { laid = p.laid; within = ltb-true t S.types h }) refl
+      go true h = ap (number_at s) (omega arith) ∙ sym (ap (λ (r : TypeRecord). r.kind) (type_is s S t (ltb-true t S.types h)))
       go false h = refl
 
   -- a function's type is one of the file
@@ -106,50 +110,50 @@ module _ (s : List ℕ) (types at : ℕ) (S : Sections) (n : ℕ) (p : Spot s ty
     where
       go : (b : Bool) → eqb k 2 ≡ b → pick b (number_at s (1 + t * 4 + 3)) 0 ≡ pick b (type_at (tables_of s S) t).c 0
       go true h =
-          type_c_is s S t (number_at s (1 + t * 4 + 3)) (record { laid = p.laid; within = function_type k t f (eqb-true k 2 h) }) refl
+          sym (ap (λ (r : TypeRecord). r.c) (type_is s S t (function_type k t f (eqb-true k 2 h))))
       go false h = refl
 
 -- a function's type is one of the file, by the code's numbers
-pub function_typed : (s : List ℕ) (types at k t kind : ℕ) (d : Bool) → Whole s types at → kind ≡ kind_for s types t → TypeFits k t kind d → not d ≡ false → k ≡ 2 → t < types
+pub function_typed : (s : List ℕ) (types at k t kind : ℕ) (d : Bool) → Whole s types at → kind ≡ kind_for s types t → TypeFits k t kind d → d ≡ true → k ≡ 2 → t < types
 function_typed s types at k t kind d w er ed h e =
     let q = w.standing in
     let f = ed.is (tables_of s q.sections) (kind_told s types at q.sections q.node q.spot t kind er) in
-    let l = function_type s types at q.sections q.node q.spot k t (sym f ∙ not-false d h) e in
+    let l = function_type s types at q.sections q.node q.spot k t (sym f ∙ h) e in
     omega (arith, q.spot.counted)
 
 -- the node at a place is right, by its code
 module _ (s : List ℕ) (types at : ℕ) (c : Bool) (role : Role) (w : Whole s types at) (k : ℕ) (ek : k ≡ number_at s at) (a : Bool) (ea : a ≡ admits c role k) where
-  pub right_not_admitted : not a ≡ true → RightAt s types at c role false
+  pub right_not_admitted : a ≡ false → RightAt s types at c role false
   right_not_admitted h = record {
     is =
-        λ S n p. ap (λ (b : Bool). b && node_fits (tables_of s S) n) (sym (not-true a h)) ∙ right_is s types at w.four S n p c role k ek a (node_fits (tables_of s S) n) ea refl;
+        λ S n p. ap (λ (b : Bool). b && node_fits (tables_of s S) n) (sym h) ∙ right_is s types at w.four S n p c role k ek a (node_fits (tables_of s S) n) ea refl;
   }
 
-  module _ (ha : not a ≡ false) where
+  module _ (ha : a ≡ true) where
     fits_right : (r : Bool) → ((S : Sections) (n : ℕ) → Spot s types at S n → r ≡ node_fits (tables_of s S) n) → RightAt s types at c role r
     fits_right r f = record {
       is =
-          λ S n p. ap (λ (b : Bool). b && r) (sym (not-false a ha)) ∙ right_is s types at w.four S n p c role k ek a r ea (f S n p);
+          λ S n p. ap (λ (b : Bool). b && r) (sym ha) ∙ right_is s types at w.four S n p c role k ek a r ea (f S n p);
     }
 
     module _ (x : ℕ) (ex : x ≡ number_at s (at + 1)) (b : Bool) (eb : b ≡ x_fits k x) where
-      pub right_x_wrong : not b ≡ true → RightAt s types at c role false
+      pub right_x_wrong : b ≡ false → RightAt s types at c role false
       right_x_wrong h =
           fits_right false (λ S n p. x_wrong (tables_of s S) n k x b (kind_is s types at w.four S n p k ek) (x_is s types at w.four S n p x ex) eb h)
 
-      module _ (hb : not b ≡ false) (t kind : ℕ) (et : t ≡ number_at s (at + 2)) (er : kind ≡ kind_for s types t) (d : Bool) (ed : TypeFits k t kind d) where
+      module _ (hb : b ≡ true) (t kind : ℕ) (et : t ≡ number_at s (at + 2)) (er : kind ≡ kind_for s types t) (d : Bool) (ed : TypeFits k t kind d) where
         t_told : (S : Sections) (n : ℕ) → Spot s types at S n → d ≡ t_fits (tables_of s S) k t
         t_told S n p = ed.is (tables_of s S) (kind_told s types at S n p t kind er)
 
-        pub right_t_wrong : not d ≡ true → RightAt s types at c role false
+        pub right_t_wrong : d ≡ false → RightAt s types at c role false
         right_t_wrong h =
             fits_right false
             (λ S n p. t_wrong (tables_of s S) n k x b (kind_is s types at w.four S n p k ek) (x_is s types at w.four S n p x ex) eb hb t d (t_is s types at w.four S n p t et) (t_told S n p) h)
 
-        pub right_count : not d ≡ false → (q m : ℕ) (r : Bool) → m ≡ number_at s (at + 3) → q ≡ pick (eqb k 2) (number_at s (1 + t * 4 + 3)) 0 → r ≡ count_fits k q m → RightAt s types at c role r
+        pub right_count : d ≡ true → (q m : ℕ) (r : Bool) → m ≡ number_at s (at + 3) → q ≡ pick (eqb k 2) (number_at s (1 + t * 4 + 3)) 0 → r ≡ count_fits k q m → RightAt s types at c role r
         right_count h q m r em eq er =
             fits_right r
-            (λ S n p. count_is (tables_of s S) n k x b (kind_is s types at w.four S n p k ek) (x_is s types at w.four S n p x ex) eb hb t d (t_is s types at w.four S n p t et) (t_told S n p) h q m r (children_are s types at w.four S n p m em) (params_told s types at S n p k t q (sym (t_told S n p) ∙ not-false d h) eq) er)
+            (λ S n p. count_is (tables_of s S) n k x b (kind_is s types at w.four S n p k ek) (x_is s types at w.four S n p x ex) eb hb t d (t_is s types at w.four S n p t et) (t_told S n p) h q m r (children_are s types at w.four S n p m em) (params_told s types at S n p k t q (sym (t_told S n p) ∙ h) eq) er)
 
 -- a plain node is right
 pub plain_not : (s : List ℕ) (types at bit : ℕ) → PlainAt s types at bit false
@@ -183,12 +187,6 @@ pub record SoFar (s : List ℕ) (types kind : ℕ) (c : Bool) (count first level
   pub standing : Standing s types at
   pub same : (S : Sections) (n : ℕ) → Spot s types first S n → (j : ℕ) × Spot s types at S j × (children_of (tree_of l (tables_of s S) d) (child_role k m) (m - i) i j ≡ children_of (tree_of levels (tables_of s S) c) (child_role kind count) count 0 n)
 
-pub none_so_far : (s : List ℕ) (types kind : ℕ) (c : Bool) (count first levels : ℕ) → Standing s types first → SoFar s types kind c count first levels kind c count levels 0 first
-none_so_far s types kind c count first levels w = record {
-  standing = w;
-  same = λ S n p. (n, p, no_child_yet (tree_of levels (tables_of s S) c) (child_role kind count) count n);
-}
-
 -- the node after one without children
 after : (s : List ℕ) (types at : ℕ) → Whole s types at → (S : Sections) (n : ℕ) → Spot s types at S n → Spot s types (at + 4) S (n + 1)
 after s types at w S n p = record {
@@ -203,20 +201,14 @@ standing_after s types at w =
     let q = w.standing in
     record { sections = q.sections; node = q.node + 1; spot = after s types at w q.sections q.node q.spot }
 
--- no node stands at the place 0
-place_some : (s : List ℕ) (types at : ℕ) (S : Sections) (n : ℕ) → Spot s types at S n → 0 < S.nodes_at
-place_some s types at S n p =
-    let l = p.laid in
-    omega (arith, l.list_at, l.fields_at, l.structs_at, l.built_ins_at, l.nodes_at)
+-- an ending that has no place is broken, and any other is a node
+ends_nowhere : (S : Sections) (o : Ending) → None ≡ place_of S o → o ≡ Broken
+ends_nowhere S Broken e = refl
+ends_nowhere S (At n) e = cc
 
--- an ending whose place is 0 is broken, and any other is a node
-ends_nowhere : (S : Sections) (o : Ending) → 0 < S.nodes_at → 0 ≡ place_of S o → o ≡ Broken
-ends_nowhere S Broken h e = refl
-ends_nowhere S (At n) h e = absurd (omega arith)
-
-ends_there : (S : Sections) (o : Ending) (r : ℕ) → (r ≡ 0 → ⊥) → r ≡ place_of S o → (m : ℕ) × (o ≡ At m) × (r ≡ S.nodes_at + m * 4)
-ends_there S Broken r h e = absurd (h e)
-ends_there S (At n) r h e = (n, refl, e)
+ends_there : (S : Sections) (o : Ending) (r : ℕ) → Some r ≡ place_of S o → (m : ℕ) × (o ≡ At m) × (r ≡ S.nodes_at + m * 4)
+ends_there S Broken r e = cc
+ends_there S (At n) r e = (n, refl, cc)
 
 -- the tree at a place: its node is right, and the node's children end at `next`
 module _ (s : List ℕ) (types at : ℕ) (c : Bool) (role : Role) (levels : ℕ) (w : Whole s types at) (some : levels ≡ 0 → ⊥) (b : Bool) (right : RightAt s types at c role b) (hb : not b ≡ false) (m : ℕ) (em : m ≡ number_at s (at + 3)) where
@@ -229,25 +221,25 @@ module _ (s : List ℕ) (types at : ℕ) (c : Bool) (role : Role) (levels : ℕ)
       let e : (node_at (tables_of s S) n).children ≡ 0 = sym (children_are s types at w.four S n p m em) ∙ z in
       sym (below_is S n p) ∙ rw e
 
-  module _ (k : ℕ) (ek : k ≡ number_at s at) (d : Bool) (ed : d ≡ (c || eqb k 1)) (next : ℕ) (ends : Ends s types k d m (at + 4) (levels - 1) next) where
-    inner_tree : (S : Sections) (n : ℕ) → Spot s types at S n → next ≡ place_of S (tree_of levels (tables_of s S) c role n)
+  module _ (k : ℕ) (ek : k ≡ number_at s at) (d : Bool) (ed : d ≡ (c || eqb k 1)) (o : Option ℕ) (ends : Ends s types k d m (at + 4) (levels - 1) o) where
+    inner_tree : (S : Sections) (n : ℕ) → Spot s types at S n → o ≡ place_of S (tree_of levels (tables_of s S) c role n)
     inner_tree S n p =
         ends.is S (n + 1) (after s types at w S n p)
         ∙ rw (ed, kind_is s types at w.four S n p k ek, children_are s types at w.four S n p m em) (ap (place_of S) (below_is S n p))
 
-    inner_broken : next ≡ 0 → (S : Sections) (n : ℕ) → Spot s types at S n → tree_of levels (tables_of s S) c role n ≡ Broken
+    inner_broken : o ≡ None → (S : Sections) (n : ℕ) → Spot s types at S n → tree_of levels (tables_of s S) c role n ≡ Broken
     inner_broken z S n p =
-        ends_nowhere S (tree_of levels (tables_of s S) c role n) (place_some s types at S n p) (sym z ∙ inner_tree S n p)
+        ends_nowhere S (tree_of levels (tables_of s S) c role n) (sym z ∙ inner_tree S n p)
 
-    inner_ends : (next ≡ 0 → ⊥) → (S : Sections) (n : ℕ) → Spot s types at S n → (j : ℕ) × Spot s types next S j × (tree_of levels (tables_of s S) c role n ≡ At j)
-    inner_ends z S n p =
-        let (j, e, f) = ends_there S (tree_of levels (tables_of s S) c role n) next z (inner_tree S n p) in
+    inner_ends : (next : ℕ) → o ≡ Some next → (S : Sections) (n : ℕ) → Spot s types at S n → (j : ℕ) × Spot s types next S j × (tree_of levels (tables_of s S) c role n ≡ At j)
+    inner_ends next z S n p =
+        let (j, e, f) = ends_there S (tree_of levels (tables_of s S) c role n) next (sym z ∙ inner_tree S n p) in
         let (past, among) = tree_ends levels (tables_of s S) c role n j e in
         (j, record { laid = p.laid; counted = p.counted; place = f; within = omega (arith, nodes_long s S) }, e)
 
 -- the next child decides
 module _ (s : List ℕ) (types kind : ℕ) (c : Bool) (count first levels k : ℕ) (d : Bool) (m l i at : ℕ) (so : SoFar s types kind c count first levels k d m l i at) (h : i < m) where
-  child_broken : ((S : Sections) (j : ℕ) → Spot s types at S j → tree_of l (tables_of s S) d (child_role k m i) j ≡ Broken) → Ends s types kind c count first levels 0
+  child_broken : ((S : Sections) (j : ℕ) → Spot s types at S j → tree_of l (tables_of s S) d (child_role k m i) j ≡ Broken) → Ends s types kind c count first levels None
   child_broken f = record {
     is =
         λ S n p.
@@ -268,15 +260,15 @@ module _ (s : List ℕ) (types kind : ℕ) (c : Bool) (count first levels k : �
         (x, r, children_next (tree_of l (tables_of s S) d) (child_role k m) m _ i j e h (tree_of l (tables_of s S) d (child_role k m i) j) refl x g);
   }
 
-  pub child_no_level : l ≡ 0 → Ends s types kind c count first levels 0
+  pub child_no_level : l ≡ 0 → Ends s types kind c count first levels None
   child_no_level z = child_broken (λ S j p. sym (tree_none l (tables_of s S) d (child_role k m i) j z))
 
-  pub child_past : length s ≤ at * 2 → Ends s types kind c count first levels 0
+  pub child_past : length s ≤ at * 2 → Ends s types kind c count first levels None
   child_past e =
       child_broken (λ S j p. sym (tree_past l s S d (child_role k m i) j (omega (arith, p.place, p.laid.end))))
 
   module _ (b : Bool) (right : RightAt s types at d (child_role k m i) b) where
-    pub child_wrong : not b ≡ true → Ends s types kind c count first levels 0
+    pub child_wrong : not b ≡ true → Ends s types kind c count first levels None
     child_wrong e =
         child_broken
         (λ S j p. sym (tree_wrong l (tables_of s S) d (child_role k m i) j (sym (right.is S j p) ∙ not-true b e)))
@@ -306,31 +298,31 @@ module _ (s : List ℕ) (types kind : ℕ) (c : Bool) (count first levels k : �
                 ∙ rw (ed, ef, kind_is s types at w.four S j q below ek, children_are s types at w.four S j q inner ei)
                 (below_is s types at d (child_role k m i) l w some b right hb inner ei S j q)
 
-        module _ (next : ℕ) (ends : Ends s types below f inner (at + 4) (l - 1) next) where
-          pub child_inner_broken : next ≡ 0 → Ends s types kind c count first levels 0
+        module _ (o : Option ℕ) (ends : Ends s types below f inner (at + 4) (l - 1) o) where
+          pub child_inner_broken : o ≡ None → Ends s types kind c count first levels None
           child_inner_broken z =
-              child_broken (λ S j p. inner_broken s types at d (child_role k m i) l w some b right hb inner ei below ek f ef next ends z S j p)
+              child_broken (λ S j p. inner_broken s types at d (child_role k m i) l w some b right hb inner ei below ek f ef o ends z S j p)
 
-          pub child_inner : (next ≡ 0 → ⊥) → (r x : ℕ) → r ≡ next → x ≡ i + 1 → SoFar s types kind c count first levels k d m l x r
-          child_inner z r x e ex =
-              rw (e, ex)
-              (child_next next
-              λ S j p. inner_ends s types at d (child_role k m i) l w some b right hb inner ei below ek f ef next ends z S j p)
+          pub child_inner : (r x : ℕ) → o ≡ Some r → x ≡ i + 1 → SoFar s types kind c count first levels k d m l x r
+          child_inner r x z ex =
+              rw ex
+              (child_next r
+              λ S j p. inner_ends s types at d (child_role k m i) l w some b right hb inner ei below ek f ef o ends r z S j p)
 
           -- less of the file is left
-          pub child_fewer : (next ≡ 0 → ⊥) → at < next
-          child_fewer z =
+          pub child_fewer : (next : ℕ) → o ≡ Some next → at < next
+          child_fewer next z =
               let q = so.standing in
-              let (x, p, e) = inner_ends s types at d (child_role k m i) l w some b right hb inner ei below ek f ef next ends z q.sections q.node q.spot in
+              let (x, p, e) = inner_ends s types at d (child_role k m i) l w some b right hb inner ei below ek f ef o ends next z q.sections q.node q.spot in
               let (past, among) = tree_ends l (tables_of s q.sections) d (child_role k m i) q.node x e in
               omega (arith, p.place, q.spot.place)
 
-pub children_done : (s : List ℕ) (types kind : ℕ) (c : Bool) (count first levels k : ℕ) (d : Bool) (m l i at : ℕ) → SoFar s types kind c count first levels k d m l i at → i ≤ m → m ≤ i → Ends s types kind c count first levels at
+pub children_done : (s : List ℕ) (types kind : ℕ) (c : Bool) (count first levels k : ℕ) (d : Bool) (m l i at : ℕ) → SoFar s types kind c count first levels k d m l i at → i ≤ m → m ≤ i → Ends s types kind c count first levels (Some at)
 children_done s types kind c count first levels k d m l i at so a b = record {
   is =
       λ S n p.
       let (j, q, e) = so.same S n p in
-      q.place ∙ ap (place_of S) (children_end (tree_of l (tables_of s S) d) (child_role k m) m _ i j e a b);
+      ap Some q.place ∙ ap (place_of S) (children_end (tree_of l (tables_of s S) d) (child_role k m) m _ i j e a b);
 }
 
 -- a declaration has children
@@ -396,22 +388,22 @@ module _ (depth : ℕ) (s : List ℕ) (S : Sections) (at : ℕ) (g : LeftAt dept
       left_wrong w =
           left_broken (sym (tree_wrong depth (tables_of s S) false Declaration g.node (sym (right.is S g.node g.spot) ∙ not-true b w)))
 
-      module _ (hb : not b ≡ false) (w : Whole s S.types at) (some : depth ≡ 0 → ⊥) (m : ℕ) (em : m ≡ number_at s (at + 3)) (k : ℕ) (ek : k ≡ number_at s at) (d : Bool) (ed : d ≡ (false || eqb k 1)) (next : ℕ) (ends : Ends s S.types k d m (at + 4) (depth - 1) next) where
-        pub left_inner_broken : next ≡ 0 → false ≡ trees_right depth (tables_of s S)
+      module _ (hb : not b ≡ false) (w : Whole s S.types at) (some : depth ≡ 0 → ⊥) (m : ℕ) (em : m ≡ number_at s (at + 3)) (k : ℕ) (ek : k ≡ number_at s at) (d : Bool) (ed : d ≡ (false || eqb k 1)) (o : Option ℕ) (ends : Ends s S.types k d m (at + 4) (depth - 1) o) where
+        pub left_inner_broken : o ≡ None → false ≡ trees_right depth (tables_of s S)
         left_inner_broken z =
-            left_broken (inner_broken s S.types at false Declaration depth w some b right hb m em k ek d ed next ends z S g.node g.spot)
+            left_broken (inner_broken s S.types at false Declaration depth w some b right hb m em k ek d ed o ends z S g.node g.spot)
 
-        pub left_next : (next ≡ 0 → ⊥) → LeftAt depth s S next
-        left_next z =
-            let (j, p, e) = inner_ends s S.types at false Declaration depth w some b right hb m em k ek d ed next ends z S g.node g.spot in
+        pub left_next : (next : ℕ) → o ≡ Some next → LeftAt depth s S next
+        left_next next z =
+            let (j, p, e) = inner_ends s S.types at false Declaration depth w some b right hb m em k ek d ed o ends next z S g.node g.spot in
             record {
               node = j;
               spot = p;
               left = trees_next depth s S g.node g.left (tree_of depth (tables_of s S) false Declaration g.node) among refl j e;
             }
 
-        pub left_fewer : (next ≡ 0 → ⊥) → length s - next * 2 < length s - at * 2
-        left_fewer z =
-            let (j, p, e) = inner_ends s S.types at false Declaration depth w some b right hb m em k ek d ed next ends z S g.node g.spot in
+        pub left_fewer : (next : ℕ) → o ≡ Some next → length s - next * 2 < length s - at * 2
+        left_fewer next z =
+            let (j, p, e) = inner_ends s S.types at false Declaration depth w some b right hb m em k ek d ed o ends next z S g.node g.spot in
             let f = fewer_left depth s S g.node g.left (tree_of depth (tables_of s S) false Declaration g.node) among refl j e in
             omega (arith, p.place, g.spot.place, g.spot.laid.end)

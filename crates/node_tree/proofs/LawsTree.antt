@@ -1,13 +1,13 @@
 -- The node tree: where it ends, one child after another, and the declarations up to the last node. Assumes nothing.
 use mathlib.Core.Path.{◌≡◌, refl, sym, ◌∙◌}
-use mathlib.Core.Bool.{Bool, true, false, not, ◌&&◌, ◌||◌}
+use mathlib.Core.Bool.{Bool, true, false, ◌&&◌, ◌||◌}
 use mathlib.Core.List.{List}
 use Prim.Native.Nat.{ℕ, zero, suc, ◌+◌, ◌-◌, ◌<◌, ◌≤◌}
 use native.Mathlib.Numerals.{sub-one}
 use native.Mathlib.Omega.{arith}
 use lib.ListN.{length}
 use lib.Dec.{eqb, ltb}
-use borrow.Author.Tests.{not-true, not-false, ltb-true, le-ltb, eq-eqb, ne_eqb}
+use borrow.Author.Tests.{ltb-true, le-ltb, eq-eqb, ne_eqb}
 use Rattle.oat.specs.Basics.{pick}
 use Rattle.oat.specs.Tables.{Tables, node_at}
 use Rattle.oat.proofs.LawsBasics.{and_parts}
@@ -21,25 +21,18 @@ use Rattle.node_tree.specs.declared.shape.Role.TheVariants.{Declaration}
 
 -- the node's operands and child count
 module _ (T : Tables) (n k x : ℕ) (a : Bool) (ek : k ≡ (node_at T n).kind) (ex : x ≡ (node_at T n).x) (ea : a ≡ x_fits k x) where
-  pub x_wrong : not a ≡ true → false ≡ node_fits T n
+  pub x_wrong : a ≡ false → false ≡ node_fits T n
   unfolding node_fits
-  x_wrong h = rw (← ek, ← ex, ← ea, not-true a h)
+  x_wrong h = rw (← ek, ← ex, ← ea, h)
 
-  module _ (right : not a ≡ false) (t : ℕ) (b : Bool) (et : t ≡ (node_at T n).t) (eb : b ≡ t_fits T k t) where
-    pub t_wrong : not b ≡ true → false ≡ node_fits T n
+  module _ (right : a ≡ true) (t : ℕ) (b : Bool) (et : t ≡ (node_at T n).t) (eb : b ≡ t_fits T k t) where
+    pub t_wrong : b ≡ false → false ≡ node_fits T n
     unfolding node_fits
-    t_wrong h = rw (← ek, ← ex, ← et, ← ea, ← eb, not-false a right, not-true b h)
+    t_wrong h = rw (← ek, ← ex, ← et, ← ea, ← eb, right, h)
 
-    pub count_is : not b ≡ false → (p c : ℕ) (r : Bool) → c ≡ (node_at T n).children → p ≡ params_of T k t → r ≡ count_fits k p c → r ≡ node_fits T n
+    pub count_is : b ≡ true → (p c : ℕ) (r : Bool) → c ≡ (node_at T n).children → p ≡ params_of T k t → r ≡ count_fits k p c → r ≡ node_fits T n
     unfolding node_fits
-    count_is h p c r ec ep er = rw (← ek, ← ex, ← et, ← ec, ← ep, ← ea, ← eb, ← er, not-false a right, not-false b h)
-
--- below a global everything is constant
-pub constant_above : (c : Bool) (k : ℕ) → c ≡ true → c ≡ (c || eqb k 1)
-constant_above c k e = rw e
-
-pub constant_here : (c : Bool) (k : ℕ) → c ≡ false → eqb k 1 ≡ (c || eqb k 1)
-constant_here c k e = rw e
+    count_is h p c r ec ep er = rw (← ek, ← ex, ← et, ← ec, ← ep, ← ea, ← eb, ← er, right, h)
 
 -- a tree whose node is wrong is broken
 pub tree_none : (d : ℕ) (T : Tables) (c : Bool) (role : Role) (n : ℕ) → d ≡ 0 → Broken ≡ tree_of d T c role n

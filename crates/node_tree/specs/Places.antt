@@ -1,5 +1,5 @@
 -- Nodes by their place in the file, as reading goes through them: counted in numbers, like the sections. Assumes nothing.
-use Rattle.std.specs.Prelude.{◌≡◌, Bool, true, List, ℕ, ◌+◌, ◌*◌, ◌<◌, ◌≤◌, length, ltb}
+use Rattle.std.specs.Prelude.{◌≡◌, Bool, true, List, ℕ, ◌+◌, ◌*◌, ◌<◌, ◌≤◌, length, ltb, Option, None, Some}
 use Rattle.oat.specs.Basics.{pick}
 use Rattle.file_sections.specs.declared.Sections.{Sections}
 use Rattle.file_sections.specs.Numbers.{number_at}
@@ -40,11 +40,11 @@ pub record RightAt (s : List ℕ) (types at : ℕ) (constant : Bool) (role : Rol
 pub record PlainAt (s : List ℕ) (types at bit : ℕ) (r : Bool) : Type 0 where
   pub right : r ≡ true → (constant : Bool) (role : Role) → bit ≡ bit_of constant role → (S : Sections) (n : ℕ) → Spot s types at S n → node_right (tables_of s S) constant role n ≡ true
 
--- an ending as a place: 0 where the tree is broken
-abbrev pub place_of : Sections → Ending → ℕ
-place_of S Broken = 0
-place_of S (At n) = S.nodes_at + n * 4
+-- an ending as a place: none where the tree is broken
+abbrev pub place_of : Sections → Ending → Option ℕ
+place_of S Broken = None
+place_of S (At n) = Some (S.nodes_at + n * 4)
 
 -- r is where the children of a node end, the first of which stands at the place `first`
-pub record Ends (s : List ℕ) (types kind : ℕ) (constant : Bool) (count first levels r : ℕ) : Type 0 where
+pub record Ends (s : List ℕ) (types kind : ℕ) (constant : Bool) (count first levels : ℕ) (r : Option ℕ) : Type 0 where
   pub is : (S : Sections) (n : ℕ) → Spot s types first S n → r ≡ place_of S (children_of (tree_of levels (tables_of s S) constant) (child_role kind count) count 0 n)

@@ -1,9 +1,9 @@
 // What a node of a kind may be with no further question, in numbers: the quick way of reading, which most nodes go. `shape` has the rules.
-ghost use Rattle.std.specs.Prelude.{◌≡◌, ◌||◌, ◌+◌, ◌<◌, eqb, ltb};
-ghost use Rattle.oat.specs.Basics.{pick};
+ghost use Rattle.std.specs.Prelude.{◌≡◌, ◌||◌, eqb, ltb};
 ghost use Rattle.node_tree.specs.Demands;
-ghost use Rattle.node_tree.specs.Shape.{for_role, child_role};
 ghost use Rattle.node_tree.specs.Demands.{Keeps, bit_of, stands_as, plain_for};
+
+use crate::shape::Role;
 
 // Any x, or any number of children: numbers are of 16 bits.
 const ANY: usize = 65535;
@@ -15,7 +15,7 @@ const STRUCT: usize = 4;
 const ARRAY: usize = 5;
 
 const NULLABLE: usize = 7;
-// The roles that a node may stand in, as bits: in none,
+// The roles that a node may stand in, as bits, so that one test tells whether a node may stand in a role: in none,
 const NOWHERE: usize = 0;
 // as a declaration,
 const DECLARATION: usize = 1;
@@ -40,6 +40,7 @@ const BLOCK: usize = 128;
 // as a for's condition (256 + 65,536) or step (512).
 const ABSENT: usize = 66304;
 
+// `free` and `typed` in place of an Option, and 65,536 in place of None: tried, slower (reading takes up to 1.2 of the time, and the compiler makes no tables).
 // A demand. Its node's x is at most `limit`; its t is less than `free`, or a type of the kind `typed`; it has `least` to `most` children. It stands in
 // one of `roles`.
 #[derive(Clone, Copy)]
@@ -57,12 +58,12 @@ fn bare(limit: usize, least: usize, most: usize, roles: usize) -> Demand
     ensures { result ≡ Demands.bare limit least most roles }
 {
     Demand {
-        limit: limit,
+        limit,
         free: 1,
         typed: NO_KIND,
-        least: least,
-        most: most,
-        roles: roles,
+        least,
+        most,
+        roles,
     }
 }
 
@@ -71,12 +72,12 @@ fn typed(kind: usize, limit: usize, least: usize, most: usize, roles: usize) -> 
     ensures { result ≡ Demands.typed kind limit least most roles }
 {
     Demand {
-        limit: limit,
+        limit,
         free: 0,
         typed: kind,
-        least: least,
-        most: most,
-        roles: roles,
+        least,
+        most,
+        roles,
     }
 }
 
@@ -119,112 +120,43 @@ pub fn demand_of(kind: usize) -> Demand
     }
 }
 
-// The bit of an expression; in a global's tree it has its own.
-fn value_bit(constant: bool) -> usize
-    ensures { result ≡ pick constant 1024 4 }
+// The bit of a role; where expressions must be constant, that of an expression and of a condition is another.
+pub fn bit_of(constant: bool, role: Role) -> usize
+    ensures { result ≡ bit_of constant role }
 {
-    if constant {
-        return 1024;
-    }
-    4
-}
-
-// The bit of a for's condition, likewise.
-fn condition_bit(constant: bool) -> usize
-    ensures { result ≡ pick constant 65536 256 }
-{
-    if constant {
-        return 65536;
-    }
-    256
-}
-
-// The bit of the role of the child i of `count` in a for: vars, condition, step, block.
-fn for_bit(count: usize, i: usize, constant: bool) -> usize
-    requires { i < 65536 }
-    ensures { result ≡ bit_of constant (for_role count i) }
-{
-    if i + 1 == count {
-        return 128;
-    }
-    if i + 2 == count {
-        return 512;
-    }
-    if i + 3 == count {
-        return condition_bit(constant);
-    }
-    32
-}
-
-// The last child of a function is its block, the others are parameters.
-fn function_bit(count: usize, i: usize) -> usize
-    requires { i < 65536 }
-    ensures { result ≡ pick (eqb (i + 1) count) 128 2 }
-{
-    if i + 1 == count {
-        return 128;
-    }
-    2
-}
-
-// The first child has one role, the others another.
-fn first_bit(i: usize, first: usize, other: usize) -> usize
-    ensures { result ≡ pick (eqb i 0) first other }
-{
-    if i == 0 {
-        return first;
-    }
-    other
-}
-
-// The bit of the role of the child i of `count` below a node of this kind (`child_role` of `shape`).
-pub fn child_bit(kind: usize, count: usize, i: usize, constant: bool) -> usize
-    requires { i < 65536 }
-    ensures { result ≡ bit_of constant (child_role kind count i) }
-{
-    match kind {
-        2 => function_bit(count, i),
-        21 => 8,
-        30 => first_bit(i, 16, value_bit(constant)),
-        35 | 36 | 38 => first_bit(i, value_bit(constant), 128),
-        37 => for_bit(count, i, constant),
-        39 => 64,
-        _ => value_bit(constant),
+    match role {
+        Role::Declaration => 1,
+        Role::Parameter => 2,
+        Role::Expression => if constant { 1024 } else { 4 },
+        Role::Initializer => 8,
+        Role::Target => 16,
+        Role::Var => 32,
+        Role::Statement => 64,
+        Role::Block => 128,
+        Role::Condition => if constant { 65536 } else { 256 },
+        Role::Step => 512,
     }
 }
 
 // A node of this demand may stand in the role of this bit.
+#[tactic(auto, unfolding(crate::specs::Demands::stands_as))]
 pub fn stands(demand: Demand, bit: usize) -> bool
     ensures { result ≡ stands_as demand bit }
 {
-    if demand.roles & bit == 0 {
-        return false;
-    }
-    true
+    demand.roles & bit != 0
 }
 
 // t is less than the demand's bound, or a type of the kind that it names.
 fn typed_so(demand: Demand, t: usize, kind: usize) -> bool
     ensures { result ≡ (ltb t demand.free || eqb kind demand.typed) }
 {
-    if t < demand.free {
-        return true;
-    }
-    kind == demand.typed
+    t < demand.free || kind == demand.typed
 }
 
 // The operands and the child count are what the demand asks; `kind` is the kind of the type t.
+#[tactic(auto, unfolding(crate::specs::Demands::plain_for))]
 pub fn plain(demand: Demand, x: usize, t: usize, kind: usize, count: usize) -> bool
     ensures { result ≡ plain_for demand x t kind count }
 {
-    if demand.limit < x {
-        return false;
-    }
-    if !typed_so(demand, t, kind) {
-        return false;
-    }
-    if count < demand.least {
-        return false;
-    }
-    count <= demand.most
+    x <= demand.limit && typed_so(demand, t, kind) && demand.least <= count && count <= demand.most
 }

@@ -26,44 +26,34 @@ pub enum Role {
 fn is_declaration(kind: usize) -> bool
     ensures { result ≡ (eqb kind 1 || eqb kind 2) }
 {
-    match kind {
-        1..=2 => true,
-        _ => false,
-    }
+    matches!(kind, 1..=2)
 }
 
 // The kinds of expressions; in a global's tree (`constant`) 10 to 16 and 21 alone.
+#[tactic(auto, unfolding(crate::specs::Shape::is_expression))]
 fn is_expression(constant: bool, kind: usize) -> bool
     ensures { result ≡ is_expression constant kind }
 {
-    match kind {
-        10..=16 | 21 => true,
-        17..=20 | 23..=26 => !constant,
-        _ => false,
-    }
+    matches!(kind, 10..=16 | 21) || !constant && matches!(kind, 17..=20 | 23..=26)
 }
 
 // The kinds of statements.
+#[tactic(auto, unfolding(crate::specs::Shape::is_statement))]
 fn is_statement(kind: usize) -> bool
     ensures { result ≡ is_statement kind }
 {
-    match kind {
-        30..=38 => true,
-        _ => false,
-    }
+    matches!(kind, 30..=38)
 }
 
 // The kinds of the left side of an assignment.
 fn is_target(kind: usize) -> bool
     ensures { result ≡ (eqb kind 15 || eqb kind 19 || eqb kind 23) }
 {
-    match kind {
-        15 | 19 | 23 => true,
-        _ => false,
-    }
+    matches!(kind, 15 | 19 | 23)
 }
 
 // A node of this kind may stand in this role.
+#[tactic(auto, unfolding(crate::specs::Shape::admits))]
 pub fn admits(constant: bool, role: Role, kind: usize) -> bool
     ensures { result ≡ Shape.admits constant role kind }
 {
@@ -82,6 +72,7 @@ pub fn admits(constant: bool, role: Role, kind: usize) -> bool
 }
 
 // x is an operand of the kind, or 0.
+#[tactic(auto, unfolding(crate::specs::Shape::x_fits))]
 pub fn x_fits(kind: usize, x: usize) -> bool
     ensures { result ≡ x_fits kind x }
 {
@@ -108,6 +99,7 @@ pub fn t_fits(kind: usize, t: usize, typed: usize) -> bool
 }
 
 // A node of this kind has so many children.
+#[tactic(auto, unfolding(crate::specs::Shape::count_fits))]
 pub fn count_fits(kind: usize, params: usize, count: usize) -> bool
     requires { params < 65536 }
     ensures { result ≡ count_fits kind params count }
@@ -125,53 +117,45 @@ pub fn count_fits(kind: usize, params: usize, count: usize) -> bool
 }
 
 // The role of the child i of `count` in a for: vars, condition, step, block.
+#[tactic(auto, unfolding(crate::specs::Shape::for_role))]
 fn for_role(count: usize, i: usize) -> Role
     requires { i < 65536 }
     ensures { result ≡ for_role count i }
 {
     if i + 1 == count {
-        return Role::Block;
+        Role::Block
+    } else if i + 2 == count {
+        Role::Step
+    } else if i + 3 == count {
+        Role::Condition
+    } else {
+        Role::Var
     }
-    if i + 2 == count {
-        return Role::Step;
-    }
-    if i + 3 == count {
-        return Role::Condition;
-    }
-    Role::Var
-}
-
-// The last child of a function is its block.
-fn function_role(count: usize, i: usize) -> Role
-    requires { i < 65536 }
-    ensures { result ≡ pick (eqb (i + 1) count) Role.Block Role.Parameter }
-{
-    if i + 1 == count {
-        return Role::Block;
-    }
-    Role::Parameter
-}
-
-// The first child has one role, the others another.
-fn first_role(i: usize, first: Role, other: Role) -> Role
-    ensures { result ≡ pick (eqb i 0) first other }
-{
-    if i == 0 {
-        return first;
-    }
-    other
 }
 
 // The role of the child i of `count` below a node of this kind.
+#[tactic(auto, unfolding(crate::specs::Shape::child_role))]
 pub fn child_role(kind: usize, count: usize, i: usize) -> Role
     requires { i < 65536 }
     ensures { result ≡ child_role kind count i }
 {
     match kind {
-        2 => function_role(count, i),
+        2 => if i + 1 == count {
+            Role::Block
+        } else {
+            Role::Parameter
+        },
         21 => Role::Initializer,
-        30 => first_role(i, Role::Target, Role::Expression),
-        35 | 36 | 38 => first_role(i, Role::Expression, Role::Block),
+        30 => if i == 0 {
+            Role::Target
+        } else {
+            Role::Expression
+        },
+        35 | 36 | 38 => if i == 0 {
+            Role::Expression
+        } else {
+            Role::Block
+        },
         37 => for_role(count, i),
         39 => Role::Statement,
         _ => Role::Expression,

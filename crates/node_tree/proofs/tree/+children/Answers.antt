@@ -1,6 +1,7 @@
 -- `tree::children` meets its contract. Each call of itself has a level less. The invariant of the loop: the children left, from the child `i` of the node
 -- that the loop has come to, end where those of the first node do; less of the file is left each time. Assumes nothing.
-use mathlib.Core.Path.{refl}
+use mathlib.Core.Path.{◌≡◌, refl}
+use Rattle.std.specs.Prelude.{None}
 use native.Mathlib.Omega.{arith}
 use borrow.Author.Rules.{rules}
 use Rattle.node_tree.proofs.LawsPlaces.{whole, child_no_level, child_past, child_wrong, child_leaf, child_last, child_inner_broken, child_inner, child_fewer, children_done, standing_after}
@@ -33,18 +34,20 @@ loop-i-preserved-then-i-many t c =
       child_last _ _ _ _ _ _ _ _ _ _ _ _ _ c.loop-i.invariant.3 c.loop-i-test.true _ c.child_right.ensures (rw c.if-not-child_right.false) w c.if-deep-eq0.false _ c.number-inner.ensures.0 _ c.number-below.ensures.0 _ c.constant_below-fixed.ensures c.if-i-many.true _ _ refl refl,
     )
 
-pub children-next-requires : goal.children-next-requires
-children-next-requires t c = (omega arith, (standing_after _ _ _ (whole _ _ _ c.loop-i.invariant.3.standing c.if-file-at.false), omega arith, search rules))
+pub children-requires : goal.children-requires
+children-requires t c = (omega arith, (standing_after _ _ _ (whole _ _ _ c.loop-i.invariant.3.standing c.if-file-at.false), omega arith, search rules))
 
-pub returns-then-next-eq0 : goal.returns-then-next-eq0
-returns-then-next-eq0 t c =
+pub returns-in_err-at : goal.returns-in_err-at
+returns-in_err-at t c =
     let w = whole _ _ _ c.loop-i.invariant.3.standing c.if-file-at.false in
-    child_inner_broken _ _ _ _ _ _ _ _ _ _ _ _ _ c.loop-i.invariant.3 c.loop-i-test.true _ c.child_right.ensures (rw c.if-not-child_right.false) w c.if-deep-eq0.false _ c.number-inner.ensures.0 _ c.number-below.ensures.0 _ c.constant_below.ensures _ c.children-next.ensures c.if-next-eq0.true
+    let none : c.from_residual.result ≡ None = cc in
+    rw none
+    (child_inner_broken _ _ _ _ _ _ _ _ _ _ _ _ _ c.loop-i.invariant.3 c.loop-i-test.true _ c.child_right.ensures (rw c.if-not-child_right.false) w c.if-deep-eq0.false _ c.number-inner.ensures.0 _ c.number-below.ensures.0 _ c.constant_below.ensures _ c.children.ensures c.in_err-at.was)
 
 pub loop-i-smaller : goal.loop-i-smaller
 loop-i-smaller t c =
     let w = whole _ _ _ c.loop-i.invariant.3.standing c.if-file-at.false in
-    omega (arith, c.if-file-at.false, child_fewer _ _ _ _ _ _ _ _ _ _ _ _ _ c.loop-i.invariant.3 c.loop-i-test.true _ c.child_right.ensures (rw c.if-not-child_right.false) w c.if-deep-eq0.false _ c.number-inner.ensures.0 _ c.number-below.ensures.0 _ c.constant_below.ensures _ c.children-next.ensures c.if-next-eq0.false)
+    omega (arith, c.if-file-at.false, child_fewer _ _ _ _ _ _ _ _ _ _ _ _ _ c.loop-i.invariant.3 c.loop-i-test.true _ c.child_right.ensures (rw c.if-not-child_right.false) w c.if-deep-eq0.false _ c.number-inner.ensures.0 _ c.number-below.ensures.0 _ c.constant_below.ensures _ c.children.ensures _ c.in_ok-at.was)
 
 pub loop-i-preserved : goal.loop-i-preserved
 loop-i-preserved t c =
@@ -52,7 +55,7 @@ loop-i-preserved t c =
       omega arith,
       search rules,
       search rules,
-      child_inner _ _ _ _ _ _ _ _ _ _ _ _ _ c.loop-i.invariant.3 c.loop-i-test.true _ c.child_right.ensures (rw c.if-not-child_right.false) w c.if-deep-eq0.false _ c.number-inner.ensures.0 _ c.number-below.ensures.0 _ c.constant_below.ensures _ c.children-next.ensures c.if-next-eq0.false _ _ refl refl,
+      child_inner _ _ _ _ _ _ _ _ _ _ _ _ _ c.loop-i.invariant.3 c.loop-i-test.true _ c.child_right.ensures (rw c.if-not-child_right.false) w c.if-deep-eq0.false _ c.number-inner.ensures.0 _ c.number-below.ensures.0 _ c.constant_below.ensures _ c.children.ensures _ _ c.in_ok-at.was refl,
     )
 
 pub returns : goal.returns

@@ -31,11 +31,11 @@ number-requires c = (whole _ _ _ (left_standing _ _ _ _ c.loop-at.invariant) c.l
 pub overflow_add-at-in-loop-at : goal.overflow_add-at-in-loop-at
 overflow_add-at-in-loop-at c = omega (arith, place_small (left_standing _ _ _ _ c.loop-at.invariant))
 
-pub children-next-requires : goal.children-next-requires
-children-next-requires c = let w = (whole _ _ _ (left_standing _ _ _ _ c.loop-at.invariant) c.loop-at-test.true) in (standing_after _ _ _ w, declaration_some _ _ _ _ w _ c.node_right.ensures (rw c.if-not-node_right.false) _ c.number.ensures.0, search rules)
+pub children-requires : goal.children-requires
+children-requires c = let w = (whole _ _ _ (left_standing _ _ _ _ c.loop-at.invariant) c.loop-at-test.true) in (standing_after _ _ _ w, declaration_some _ _ _ _ w _ c.node_right.ensures (rw c.if-not-node_right.false) _ c.number.ensures.0, search rules)
 
-pub returns-then-next-eq0 : goal.returns-then-next-eq0
-returns-then-next-eq0 c = search (left_inner_broken, whole, left_standing, rules)
+pub returns-in_default : goal.returns-in_default
+returns-in_default c = search (left_inner_broken, whole, left_standing, rules)
 
 pub loop-at-smaller : goal.loop-at-smaller
 loop-at-smaller c = search (left_fewer, whole, left_standing, rules)
