@@ -79,14 +79,43 @@ not_high k l =
     rw (ne_eqb k 2 (λ e. omega arith), ne_eqb k 4 (λ e. omega arith), ne_eqb k 5 (λ e. omega arith), ne_eqb k 6 (λ e. omega arith))
 
 -- parameters, one by one
-pub no_params : (T : Tables) (p q count : ℕ) → count ≡ 0 → Matches (record { holds = true; pairs = 0 }) (compare_params T p q count)
-unfolding compare_params written_params
-no_params T p q count e = rw (e, compare_none (declared T)) (record { holds = refl; pairs = refl })
-
 param_decides : (T : Tables) (p q count : ℕ) → (count ≡ 0 → ⊥) → (kind_of (type_of T (entry_at T p)) ≡ 3 → ⊥) → compare_params T p q count ≡ and_next (compare_at T (entry_at T p) (entry_at T q)) (compare_params T (p + 1) (q + 1) (count - 1))
 unfolding compare_params written_params
 param_decides T p q zero n v = absurd (n refl)
 param_decides T p q (suc count) n v = rw (sub-one, add-one p, add-one q) (compare_also (declared T) _ _ _ _ v)
+
+-- the first j parameters are below those at their places, after `pairs` pairs, and the others decide
+pub record Passed (T : Tables) (p q count j pairs : ℕ) : Type 0 where
+  pub rest : compare_params T p q count ≡ and_next (record { holds = true; pairs = pairs }) (compare_params T (p + j) (q + j) (count - j))
+
+after_none : (d : Pairs.Compared) → d ≡ and_next (plainly true) d
+after_none d =
+    let e : 0 + d.pairs ≡ d.pairs = omega arith in
+    rw e refl
+
+pub none_passed : (T : Tables) (p q count : ℕ) → Passed T p q count 0 0
+none_passed T p q count =
+    let e : count - 0 ≡ count = omega arith in
+    record { rest = rw (add-zero p, add-zero q, e) (after_none (compare_params T p q count)) }
+
+pub all_passed : (T : Tables) (p q count j pairs : ℕ) → j ≤ count → count ≤ j → Passed T p q count j pairs → Matches (record { holds = true; pairs = pairs }) (compare_params T p q count)
+unfolding compare_params written_params
+all_passed T p q count j pairs h k P =
+    let e : count - j ≡ 0 = omega arith in
+    let is = rw (e, compare_none (declared T)) at P.rest in
+    record { holds = sym (ap (λ c. c.holds) is); pairs = omega (arith, ap (λ c. c.pairs) is) }
+
+-- one comparison more, after m pairs
+module _ (c d : Pairs.Compared) (m k n : ℕ) where
+  next_holds : c.holds ≡ true → c.pairs ≡ k → n ≡ m + k → and_next (record { holds = true; pairs = m }) (and_next c d) ≡ and_next (record { holds = true; pairs = n }) d
+  next_holds e ek en =
+      let f : m + (c.pairs + d.pairs) ≡ n + d.pairs = omega arith in
+      rw e (ap (λ x. record { holds = d.holds; pairs = x }) f)
+
+  next_fails : c.holds ≡ false → c.pairs ≡ k → n ≡ m + k → and_next (record { holds = true; pairs = m }) (and_next c d) ≡ record { holds = false; pairs = n }
+  next_fails e ek en =
+      let f : m + (c.pairs + 0) ≡ n = omega arith in
+      rw e (ap (λ x. record { holds = false; pairs = x }) f)
 
 -- equal types that are well-formed
 module _ (index : List ℕ) (a b : ℕ) (t : Bool) (et : t ≡ eqb (lowest_entry index a) (lowest_entry index b)) where
@@ -296,31 +325,35 @@ module _ (s : List ℕ) (S : Sections) where
               pair_on r (record { holds = v.holds; pairs = t.pairs + v.pairs }) (er ∙ ap (λ k. record { holds = v.holds; pairs = k }) (omega arith)) (goes_on _ _ t et v _ refl h (as_compared T x y v ev))
               (of-one-number ∙ ap₂ (λ i j. pair (and_next (compare_params T p q m) (compare_at T i j))) (sym ex) (sym ey))
 
-  -- parameters: the first one, and the others
-  module _ (i p count : ℕ) (params : Params s S i p count) (some : count ≡ 0 → ⊥) where
-    pub first_lower : (x : ℕ) → x ≡ entry_at T p → x < i
-    first_lower x e = omega (arith, rw add-zero at (params.lower 0 (omega arith)))
+  -- a parameter
+  module _ (i p count : ℕ) (params : Params s S i p count) (j : ℕ) (h : j < count) (x : ℕ) (ex : x ≡ entry_at T (p + j)) where
+    pub param_listed : p + j < S.list
+    param_listed = omega (arith, params.listed)
 
-    pub other_params : Params s S i (p + 1) (count - 1)
-    other_params = record {
-      listed = omega (arith, params.listed);
-      lower = λ j h. rw (shift j) (params.lower (suc j) (omega arith));
-      value = λ j h. rw (shift j) (params.value (suc j) (omega arith));
-    }
-      where
-        shift : (j : ℕ) → p + 1 + j ≡ p + suc j
-        shift j = omega arith
+    pub param_lower : x < i
+    param_lower = omega (arith, params.lower j h)
 
-    module _ (good_tables : GoodTables s S) (l : i < S.types) (q x y : ℕ) (ex : x ≡ entry_at T p) (ey : y ≡ entry_at T q) (t : Compared) (et : Says T x y t) where
-      first_decides : compare_params T p q count ≡ and_next (compare_at T x y) (compare_params T (p + 1) (q + 1) (count - 1))
-      first_decides =
-          let h : entry_at T p < S.types = omega (arith, first_lower x ex) in
-          param_decides T p q count some
-          (λ z. rw add-zero at (params.value 0 (omega arith)) (sym (kind_is s S good_tables (entry_at T p) h) ∙ z))
-          ∙ ap₂ (λ j k. and_next (compare_at T j k) (compare_params T (p + 1) (q + 1) (count - 1))) (sym ex) (sym ey)
+    param_value : GoodTables s S → i < S.types → kind_of (type_of T (entry_at T (p + j))) ≡ 3 → ⊥
+    param_value R l z =
+        params.value j h (sym (kind_is s S R (entry_at T (p + j)) (omega (arith, params.lower j h))) ∙ z)
 
-      pub first_fails : not t.holds ≡ true → Matches t (compare_params T p q count)
-      first_fails h = rw first_decides (stops _ _ t (as_compared T x y t et) h)
+    -- against the parameter at its place, after those passed
+    module _ (good_tables : GoodTables s S) (l : i < S.types) (q y : ℕ) (ey : y ≡ entry_at T (q + j)) (r : Compared) (says : Says T x y r) (m : ℕ) (P : Passed T p q count j m) where
+      decided : compare_params T p q count ≡ and_next (record { holds = true; pairs = m }) (and_next (compare_at T x y) (compare_params T (p + (j + 1)) (q + (j + 1)) (count - (j + 1))))
+      decided =
+          let shift : (n : ℕ) → n + j + 1 ≡ n + (j + 1) = λ n. omega arith in
+          let fewer : count - j - 1 ≡ count - (j + 1) = omega arith in
+          P.rest
+          ∙ ap (and_next (record { holds = true; pairs = m })) (param_decides T (p + j) (q + j) (count - j) (λ z. omega arith) (param_value good_tables l)
+          ∙ rw (sym ex, sym ey, shift p, shift q, fewer) refl)
 
-      pub others_decide : (v r : Compared) → r ≡ record { holds = v.holds; pairs = t.pairs + v.pairs } → not t.holds ≡ false → Matches v (compare_params T (p + 1) (q + 1) (count - 1)) → Matches r (compare_params T p q count)
-      others_decide v r er h ev = rw first_decides (goes_on _ _ t (as_compared T x y t et) v r er h ev)
+      matches : Matches r (compare_at T x y)
+      matches = as_compared T x y r says
+
+      pub more_passed : (n : ℕ) → n ≡ m + r.pairs → not r.holds ≡ false → Passed T p q count (j + 1) n
+      more_passed n en f = record { rest = decided ∙ next_holds _ _ m r.pairs n (sym matches.holds ∙ not-false r.holds f) (sym matches.pairs) en }
+
+      pub param_fails : (n : ℕ) → n ≡ m + r.pairs → not r.holds ≡ true → Matches (record { holds = false; pairs = n }) (compare_params T p q count)
+      param_fails n en f =
+          let is = decided ∙ next_fails _ _ m r.pairs n (sym matches.holds ∙ not-true r.holds f) (sym matches.pairs) en in
+          record { holds = sym (ap (λ c. c.holds) is); pairs = sym (ap (λ c. c.pairs) is) }

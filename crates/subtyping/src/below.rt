@@ -174,24 +174,24 @@ fn params_below(
     requires { GoodTables file.now sections × Indexed index.now (tables_of file.now sections) sections.types × (a < sections.types) × (b < sections.types) × Params file.now sections a p count × Params file.now sections b q count }
     ensures { Matches result (compare_params (tables_of file.now sections) p q count) × (result.pairs ≤ 400 * count) }
 {
-    if count == 0 {
-        return Compared {
-            holds: true,
-            pairs: 0,
-        };
+    let mut pairs = 0;
+    for j in 0..count {
+        let compared = below(
+            file,
+            sections,
+            index,
+            list_entry(file, sections, p + j),
+            list_entry(file, sections, q + j),
+        );
+        pairs += compared.pairs;
+        if !compared.holds {
+            return Compared {
+                holds: false,
+                pairs,
+            };
+        }
     }
-    let first = below(
-        file,
-        sections,
-        index,
-        list_entry(file, sections, p),
-        list_entry(file, sections, q),
-    );
-    if !first.holds {
-        return first;
-    }
-    let others = params_below(file, sections, index, a, b, p + 1, q + 1, count - 1);
-    others.after(first.pairs)
+    Compared { holds: true, pairs }
 }
 
 // Two types of one kind.

@@ -1,9 +1,10 @@
 -- `below::below`, `below::by_kinds`, `below::kind_below`, `below::function_below` and `below::params_below` meet their contracts. Assumes
 -- nothing.
+use mathlib.Core.Path.{refl}
 use Prim.Native.Nat.{◌<◌}
 use native.Mathlib.Omega.{arith}
 use borrow.Author.Rules.{rules}
-use Rattle.subtyping.proofs.LawsTypesBelow.{answers, itself_below, array_lower, nullable_lower, returns_lower, params_of, params_too, kinds_apart, below_4, from_7, string_held, other_held, base_below, struct_is, function_is, array_is, nullable_is, counts_differ, params_fail, returns_are, no_params, first_lower, other_params, first_fails, others_decide}
+use Rattle.subtyping.proofs.LawsTypesBelow.{answers, itself_below, array_lower, nullable_lower, returns_lower, params_of, params_too, kinds_apart, below_4, from_7, string_held, other_held, base_below, struct_is, function_is, array_is, nullable_is, counts_differ, params_fail, returns_are, none_passed, all_passed, param_listed, param_lower, more_passed, param_fails}
 use Rattle.subtyping.proofs.below.+below_by_kinds_function_below_kind_below_params_below.Goals as goal
 use Rattle.subtyping.proofs.below.+below_by_kinds_function_below_kind_below_params_below.Goals.{by_kinds-in_default-via-then-kind-lt4, by_kinds-in_default-via-else-kind-lt4+else-kind-lt7, by_kinds-in-2-1, by_kinds-in_default+else-kind-lt4+then-kind-lt7}
 
@@ -92,25 +93,24 @@ kind_below-returns-in-7 t c = search (nullable_is, rules)
 pub kind_below-returns-in_default : goal.kind_below-returns-in_default
 kind_below-returns-in_default t c = search (base_below, rules)
 
-pub params_below-returns-then-count-eq0 : goal.params_below-returns-then-count-eq0
-params_below-returns-then-count-eq0 t c = (search (no_params, rules), search rules)
+pub params_below-loop-j-init : goal.params_below-loop-j-init
+params_below-loop-j-init t c = (search (none_passed, rules), search rules)
 
-pub params_below-below-first-requires : goal.params_below-below-first-requires
-params_below-below-first-requires t c =
-    let x : c.list_entry.result < c.args.a = search (first_lower, rules) in
-    let y : c.list_entry-2.result < c.args.b = search (first_lower, rules) in
+pub params_below-below-compared-requires : goal.params_below-below-compared-requires
+params_below-below-compared-requires t c =
+    let x : c.list_entry.result < c.args.a = search (param_lower, rules) in
+    let y : c.list_entry-in-loop-j.result < c.args.b = search (param_lower, rules) in
     (omega arith, search rules)
 
-pub params_below-returns-then-not-first : goal.params_below-returns-then-not-first
-params_below-returns-then-not-first t c = (search (first_fails, rules), search rules)
-
-pub params_below-params_below-others-requires : goal.params_below-params_below-others-requires
-params_below-params_below-others-requires t c = (omega arith, (search rules, search rules, search rules, search rules, search (other_params, rules), search (other_params, rules)))
-
-pub params_below-after-requires : goal.params_below-after-requires
-params_below-after-requires t c =
+pub params_below-returns-then-not-compared : goal.params_below-returns-then-not-compared
+params_below-returns-then-not-compared t c =
     let P = c.requires in
-    omega (arith, c.params_below-others.ensures.1, c.below-first.ensures.pairs_bound.1, P.4.listed, P.0.laid.list_most)
+    (param_fails _ _ _ _ _ P.4 _ c.loop-j-test.true _ c.list_entry.ensures.0 P.0 P.2 _ _ c.list_entry-in-loop-j.ensures.0 _ c.below-compared.ensures.holds_value _ c.loop-j.invariant.0 _ refl c.if-not-compared.true, omega (arith, c.below-compared.ensures.pairs_bound.1))
+
+pub params_below-loop-j-preserved : goal.params_below-loop-j-preserved
+params_below-loop-j-preserved t c =
+    let P = c.requires in
+    (more_passed _ _ _ _ _ P.4 _ c.loop-j-test.true _ c.list_entry.ensures.0 P.0 P.2 _ _ c.list_entry-in-loop-j.ensures.0 _ c.below-compared.ensures.holds_value _ c.loop-j.invariant.0 _ refl c.if-not-compared.false, omega (arith, c.below-compared.ensures.pairs_bound.1))
 
 pub params_below-returns : goal.params_below-returns
-params_below-returns t c = (search (others_decide, rules), search rules)
+params_below-returns t c = (search (all_passed, rules), omega arith)
