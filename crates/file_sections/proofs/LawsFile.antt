@@ -9,8 +9,8 @@ use native.Mathlib.Numerals.{add-one, unary_clauses}
 use native.Mathlib.Omega.{arith}
 use lib.ListN.{length, get_or, drop, length-append, drop_of_length-le}
 use lib.Seq.{drop-cons, get_or-append-add}
-use lib.Dec.{eqb}
-use borrow.Author.Tests.{eqb-true}
+use borrow.Author.Rules.{rules}
+use borrow.Author.Tests.{tests}
 use Rattle.std.specs.Prelude.{Ok, Err}
 use Rattle.oat.specs.Basics.{pick, tabulate}
 use Rattle.oat.specs.Tables.{Tables, type_numbers, entry_numbers, field_numbers, struct_numbers, built_in_numbers, node_numbers, record_numbers, section_numbers, numbers_of, bytes_of, file_of}
@@ -19,6 +19,7 @@ use Rattle.oat.proofs.LawsBasics.{tabulate_long}
 use Rattle.file_sections.specs.Numbers.{number_at}
 use Rattle.file_sections.specs.Layout.{section_of, front_sections, front_of, all_sections, sections_of, Laid, type_from, entry_from, field_from, struct_from, built_in_from, node_from, records_at, tables_of}
 use Rattle.file_sections.specs.declared.Sections.{Sections}
+use Rattle.file_sections.specs.declared.Unreadable.{Unreadable}
 use Rattle.file_sections.specs.declared.Unreadable.TheVariants.{Length}
 use Rattle.file_sections.specs.declared.layout.Section.{Section}
 use Rattle.file_sections.proofs.LawsLayout.{ok_same, then_ok, Stood, stood, FrontStood, front_stood, ok_is_no_err, counted, front_good, sections_good}
@@ -152,10 +153,10 @@ all_laid s F structs built_ins nodes f d e g w =
       nodes = moved s _ _ _ (sym g.count) (omega (arith, e));
     }
 
--- the last test, that nothing is left over
-used_up : (n m : ℕ) (b : Bool) (S U : Sections) → eqb n m ≡ b → Ok S ≡ pick b (Ok U) (Err Length) → (n ≡ m) × (S ≡ U)
-used_up n m true S U h e = (eqb-true n m h, ok_same e)
-used_up n m false S U h e = absurd (ok_is_no_err e)
+-- the last test
+last_passes : {A : Type 0} (b : Bool) (x y : A) (e : Unreadable) → Ok x ≡ pick b (Ok y) (Err e) → (b ≡ true) × (x ≡ y)
+last_passes true x y e h = (refl, ok_same h)
+last_passes false x y e h = absurd (ok_is_no_err h)
 
 pub all_stood : (s : List ℕ) (S : Sections) → Ok S ≡ sections_of s → AllStood s S
 unfolding sections_of
@@ -164,7 +165,8 @@ all_stood s S e =
     let (structs, ea, ka) = then_ok (section_of s F.structs_at 256 3) _ S kf in
     let (built_ins, eb, kb) = then_ok (section_of s structs.next 128 2) _ S ka in
     let (nodes, ec, kc) = then_ok (section_of s built_ins.next 4096 4) _ S kb in
-    let (w, is) = used_up (length s) (nodes.next * 2) _ S (all_sections F structs.count structs.next built_ins.count built_ins.next nodes.count) refl kc in
+    let (passed, is) = last_passes _ S (all_sections F structs.count structs.next built_ins.count built_ins.next nodes.count) Length kc in
+    let w : length s ≡ nodes.next * 2 = search (passed, rules, tests) in
     subst (AllStood s) (sym is)
     (all_laid s F structs built_ins nodes
     (front_stood s _ F refl ef)
