@@ -36,7 +36,7 @@ use Rattle.expressions.proofs.LawsMeets.{Untyped, accepts_now, pairs_told, stops
 use Rattle.expressions.proofs.LawsAfter.{ready, typing_of, after_append, rule_typed}
 use Rattle.expressions.proofs.LawsScope.{typed_in}
 use Rattle.expressions.proofs.LawsLabels.{expr_long, expr_closed}
-use Rattle.expressions.proofs.LawsChild.{few_parts_in, has_node, has_type, base_within, kind_within, element_within, type_entered, formed_is}
+use Rattle.expressions.proofs.LawsChild.{few_parts_in, has_type, base_within, kind_within, element_within, type_entered, formed_is}
 use Rattle.expressions.proofs.LawsRules.{requires_true, First, first_no, first_sort}
 use Rattle.expressions.proofs.LawsShape.{on_filled, size_one, stands_within}
 
@@ -93,9 +93,6 @@ module _ {F : List ℕ} {S : Sections} {X R W K : List ℕ} {base n s m π : ℕ
     type_there = base_within g.fine.good_tables (omega arith);
   }
 
-  pub filling_node : Has F S n S.nodes
-  filling_node = has_node g.fine.good_tables (omega (arith, g.after_node, g.within))
-
   pub filling_array : {t₁ : ℕ} → t₁ ≡ (node_at (tables_of F S) n).t → Has F S t₁ S.types
   filling_array {t₁} et = has_type g.fine.good_tables (subst (λ i. i < S.types) (sym et) (kind_within g.fine.good_tables 5 g.array))
 
@@ -103,23 +100,6 @@ module _ {F : List ℕ} {S : Sections} {X R W K : List ℕ} {base n s m π : ℕ
   filling_element et ex = array_element g.fine.good_tables g.array et ex
 
   module _ {W₁ K₁ : List ℕ} (b : Bound F S W K s n 0 W₁ K₁) where
-    pub filling_ready : Ready F S X R W₁ K₁ base m (s + 1) π
-    filling_ready = record {
-      fine = record {
-        good_tables = g.fine.good_tables;
-        indexed = g.fine.indexed;
-        rows_long = g.fine.rows_long;
-        scoped = b.scoped;
-        low = g.fine.low;
-        above = omega (arith, g.fine.above);
-      };
-      within = g.within;
-      tree = g.tree;
-      stands = g.stands;
-      room = g.room;
-      few = g.few;
-    }
-
     module _ {R₂ W₂ K₂ : List ℕ} {r₁ : Judged} (m₁ : Told F S X R W₁ base m (s + 1) π R₂ W₂ K₂ r₁) where
       pub filling_no : Untyped r₁ → ToldFilling F S X R W base n s m π R₂ W₂ K₂ r₁
       filling_no u = record { tells = λ e h. child_no _ _ _ u (retell_bound g.fine.above b m₁ e h) }

@@ -21,9 +21,8 @@ use Rattle.typing_rules.proofs.LawsPairs.{FewParts, few_parts, asked_most, expr_
 use Rattle.typing_rules.proofs.LawsFields.{member_of}
 use Rattle.typing_rules.specs.Check.{next_result}
 use Rattle.file_sections.specs.declared.Sections.{Sections}
-use Rattle.file_sections.specs.Layout.{tables_of, GoodTables}
+use Rattle.file_sections.specs.Layout.{tables_of}
 use Rattle.file_sections.proofs.LawsRecords.{nodes_long, structs_long}
-use Rattle.type_index.specs.Index.{Indexed}
 use Rattle.bindings.specs.Bindings.{scope_of}
 use Rattle.fields.specs.Lookup.{field_in}
 use Rattle.fields.proofs.LawsLookup.{member-in}

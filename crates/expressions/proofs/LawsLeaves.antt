@@ -15,16 +15,16 @@ use Rattle.typing_rules.specs.Contexts.{Scope, Hit, find, find_name, or_else}
 use Rattle.typing_rules.specs.Operators.{literal_type}
 use Rattle.typing_rules.specs.Judge.{typed_as, plain, named, formed, judging}
 use Rattle.file_sections.specs.declared.Sections.{Sections}
-use Rattle.file_sections.specs.Layout.{Has, tables_of}
+use Rattle.file_sections.specs.Layout.{tables_of}
 use Rattle.type_index.specs.Index.{declared, formed_entry, Entered}
-use Rattle.bindings.specs.Bindings.{names_of, scope_of, latest, Some as Holding}
+use Rattle.bindings.specs.Bindings.{names_of, scope_of, latest}
 use Rattle.bindings.proofs.LawsBindings.{latest_low, found_is, missing_is}
 use Rattle.answers.specs.declared.answer.Judged.{Judged}
 use Rattle.answers.specs.Answers.{with_row, LeafAnswer, NullAnswer, NameAnswer, literal_kind}
 use Rattle.expressions.specs.Contract.{context_of, After, Typing, Meets, Answers, Ready, Told}
 use Rattle.expressions.proofs.LawsMeets.{accepts_now, refuses_now, stops, passes}
 use Rattle.expressions.proofs.LawsAfter.{after_none, after_row}
-use Rattle.expressions.proofs.LawsChild.{has_node, base_within, kind_within, type_entered}
+use Rattle.expressions.proofs.LawsChild.{base_within, kind_within, type_entered}
 use Rattle.expressions.proofs.LawsShape.{on_null, on_literal, on_name, literal-type}
 
 -- an accepted leaf
@@ -72,9 +72,6 @@ module _ {F : List ℕ} {S : Sections} {X R W K : List ℕ} {base n s π : ℕ} 
         go t e false f = stops _ 9 n _ _ (null_formed t false e f) (a.unformed f)
 
   -- `literal`
-  pub literal_asked : (n < S.nodes) × (S.nodes * 2 ≤ length R)
-  literal_asked = (g.within, g.fine.rows_long)
-
   pub literal_told : {R' : List ℕ} {r : Judged} → 11 ≤ (node_at (tables_of F S) n).kind → (node_at (tables_of F S) n).kind ≤ 14
       → LeafAnswer (literal_kind (node_at (tables_of F S) n).kind) n s π r → R' ≡ with_row R n (literal_kind (node_at (tables_of F S) n).kind) 65535
       → Told F S X R W base n s π R' W K r
@@ -94,12 +91,6 @@ module _ {F : List ℕ} {S : Sections} {X R W K : List ℕ} {base n s π : ℕ} 
       low (text x) = omega arith
 
   -- `name`
-  pub name_some : Holding F S W K
-  name_some = record { height = s; scoped = g.fine.scoped }
-
-  pub name_asked : Holding F S W K × (n < S.nodes) × (S.nodes * 2 ≤ length R)
-  name_asked = (name_some, g.within, g.fine.rows_long)
-
   pub name_told : {R' : List ℕ} {r : Judged} → (node_at (tables_of F S) n).kind ≡ 15 → NameAnswer F S R W K n s π R' r → Told F S X R W base n s π R' W K r
   unfolding judging
   name_told {R'} {r} kind a =

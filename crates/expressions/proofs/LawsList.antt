@@ -17,8 +17,7 @@ use Rattle.typing_rules.specs.Labels.{Label}
 use Rattle.typing_rules.specs.Judge.{Out, ok, no, Counted, and_then, needs, pairs_after, asked, each_asked, arguments_asked, judge, judges, judging, judging_all}
 use Rattle.typing_rules.proofs.LawsPairs.{FewParts, each_most, arguments_most, expr_pairs, exprs_pairs}
 use Rattle.file_sections.specs.declared.Sections.{Sections}
-use Rattle.file_sections.specs.Layout.{tables_of, GoodTables}
-use Rattle.type_index.specs.Index.{Indexed}
+use Rattle.file_sections.specs.Layout.{tables_of}
 use Rattle.bindings.specs.Bindings.{scope_of}
 use Rattle.subtyping.specs.declared.below.Compared.{Compared as Comparing}
 use Rattle.answers.specs.declared.answer.Judgement.TheVariants.{Typed, GoesOn}

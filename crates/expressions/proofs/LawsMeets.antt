@@ -32,9 +32,6 @@ untyped r h = record { never = h }
 pub unlisted : (r : Judged) → (r.judgement ≡ GoesOn → ⊥) → Unlisted r
 unlisted r h = record { never = h }
 
-pub unrefused : (r : Judged) → ((p : Broken) (q : ℕ) → r.judgement ≡ Refused p q → ⊥) → Unrefused r
-unrefused r h = record { never = h }
-
 -- a type is no refusal, nor is an answer that goes on
 typed_unrefused : {r : Judged} {t : ℕ} → r.judgement ≡ Typed t → Unrefused r
 typed_unrefused y = record { never = λ p q e. let z : ◌≡◌ {A = ℕ} 0 1 = cc in omega arith }
