@@ -56,9 +56,6 @@ either_mark T C rt b c n Γ Δ p L j =
     ok_is (λ a M. a ≤ 1) k₂ (both_small v w (block_mark T C rt c (n + size_block b) Δ w N i₂))
 
 module _ {F : List ℕ} {S : Sections} {X R W K : List ℕ} {base rt n s top π : ℕ} (g : ReadyArms F S X R W K base rt n s top π) where
-  pub arms_first : ReadyBlock F S X R W K base top rt n top π
-  arms_first = ready_block n g.first g.fine (g.fine.above, omega arith) g.returned g.stands (omega (arith, g.room)) (omega (arith, g.few))
-
   module _ {R₁ W₁ K₁ : List ℕ} {r₁ : Judged} (m₁ : ToldBlock F S X R W base top rt n top π R₁ W₁ K₁ r₁) where
     pub arms_no : {p : Broken} {q : ℕ} → r₁.judgement ≡ Refused p q → ToldArms F S X R W base rt n s top π R₁ W₁ K₁ r₁
     arms_no e = record { tells = λ b c h h₂ Γ Δ d d₂. part_no _ _ _ (λ p L v. (p, v.mark)) e (m₁.tells b h Γ d) }

@@ -61,9 +61,6 @@ module _ {F : List ℕ} {S : Sections} {X : List ℕ} {base : ℕ} where
       }
 
 module _ {F : List ℕ} {S : Sections} {X R W K : List ℕ} {base start rt n s π : ℕ} (g : ReadyBlock F S X R W K base start rt n s π) where
-  pub block_node : Has F S n S.nodes
-  block_node = has_node g.fine.good_tables g.within
-
   pub block_call : {c : ℕ} → c ≡ (node_at (tables_of F S) n).children → ReadyStmts F S X R W K base start rt (n + 1) s π c
   block_call {c} e =
       on_block (λ b. BlockStands (tables_of F S) n b → s + size_block b ≤ S.built_ins + S.nodes → Few π (size_block b) → ReadyStmts F S X R W K base start rt (n + 1) s π c)

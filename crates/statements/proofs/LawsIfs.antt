@@ -207,9 +207,6 @@ module _ {F : List ℕ} {S : Sections} {X R W K : List ℕ} {base rt n s π : �
       (λ x t a b c h l f. ready (n + 1) a given.0.fine h.2 (omega arith) (omega arith)) kind
       given.0.tree given.0.stands given.0.room given.0.few
 
-  pub null_node : Has F S n S.nodes
-  null_node = has_node given.0.fine.good_tables given.0.within
-
   module _ {R₁ W₁ K₁ : List ℕ} {r₁ : Judged} (m₁ : Told F S X R W base (n + 1) s π R₁ W₁ K₁ r₁) where
     pub null_no : Untyped r₁ → ToldAnywhere F S X R W base rt n s π R₁ W₁ K₁ r₁
     unfolding executing

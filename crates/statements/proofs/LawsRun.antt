@@ -217,9 +217,6 @@ module _ {F : List ℕ} {S : Sections} {X R W K : List ℕ} {base start rt n s �
     pub run_forward : n ≤ at
     run_forward = omega (arith, so_far.reached)
 
-    pub run_low : s ≤ height
-    run_low = so_far.low
-
     module _ (more : i < left) where
       pub run_stops : {r : Judged} → (mark ≡ 0 → ⊥) → Refuses r 14 previous compared → ToldStmts F S X R W base start rt n s π left parent R₁ W₁ K₁ r
       run_stops {r} f e = record { tells = λ ss h c Γ d. go ss Γ (w.part ss h c Γ d) }

@@ -32,9 +32,6 @@ last_kind k l m f30 f31 f32 f33 f34 f35 f36 f37 =
 
 -- the kind of a statement that is ready, as the dispatcher reads it
 module _ {F : List ℕ} {S : Sections} {X R W K : List ℕ} {base n s π : ℕ} (g : ReadyStmt F S X R W K base n s π) where
-  pub stmt_node : Has F S n S.nodes
-  stmt_node = has_node g.fine.good_tables g.within
-
   module _ {k : ℕ} (ek : k ≡ (node_at (tables_of F S) n).kind) where
     pub stmt_kind_at : {i : ℕ} → k ≡ i → (node_at (tables_of F S) n).kind ≡ i
     stmt_kind_at e = sym ek ∙ e
@@ -50,16 +47,7 @@ module _ {F : List ℕ} {S : Sections} {X R W K : List ℕ} {base n s π : ℕ} 
         → (k ≡ 34 → ⊥) → (k ≡ 35 → ⊥) → (k ≡ 36 → ⊥) → (k ≡ 37 → ⊥) → (node_at (tables_of F S) n).kind ≡ 38
     while_kind f30 f31 f32 f33 f34 f35 f36 f37 = stmt_kind_at (last_kind k stmt_kind_low stmt_kind_high f30 f31 f32 f33 f34 f35 f36 f37)
 
--- a statement whose answer holds for more than its block, its place or its return type
+-- a statement whose answer holds for more than its block, its place and its return type
 module _ {F : List ℕ} {S : Sections} {X R W R₁ W₁ K₁ : List ℕ} {base start rt n s π : ℕ} {last : Bool} {r : Judged} where
-  pub var_told : ToldVar F S X R W base start n s π R₁ W₁ K₁ r → ToldStmt F S X R W base start rt last n s π R₁ W₁ K₁ r
-  var_told t = record { tells = t.tells rt last }
-
-  pub while_told : ToldWhile F S X R W base rt last n s π R₁ W₁ K₁ r → ToldStmt F S X R W base start rt last n s π R₁ W₁ K₁ r
-  while_told t = record { tells = t.tells start }
-
-  pub told_anywhere : ToldAnywhere F S X R W base rt n s π R₁ W₁ K₁ r → ToldStmt F S X R W base start rt last n s π R₁ W₁ K₁ r
-  told_anywhere t = record { tells = t.tells start last }
-
   pub any_told : ToldAny F S X R W base n s π R₁ W₁ K₁ r → ToldStmt F S X R W base start rt last n s π R₁ W₁ K₁ r
-  any_told t = told_anywhere (t.tells rt)
+  any_told t = record { tells = (t.tells rt).tells start last }

@@ -64,12 +64,6 @@ AnswersStep F S X R W base start rt n s π R' W' K' r z =
     → Meets (Blocking F S X base n (size_step z) s R W R' W' K' r) r π (step_in F S W base rt z n Γ).out (step_in F S W base rt z n Γ).pairs
 
 module _ {F : List ℕ} {S : Sections} {X R W K : List ℕ} {base start rt n s π : ℕ} (g : ReadyStep F S X R W K base start rt n s π) where
-  pub step_node : Has F S n S.nodes
-  step_node = has_node g.fine.good_tables g.within
-
-  pub step_fits : (n * 2 + 1 < length R) × (n < 65536) × (0 ≤ 1)
-  step_fits = mark_fits g.fine g.within (omega arith)
-
   module _ {k : ℕ} (ek : k ≡ (node_at (tables_of F S) n).kind) where
     -- 40
     pub step_absent : {r : Judged} {R' : List ℕ} → k ≡ 40 → AnswerIs (marked 0) (n + 1) s π r → R' ≡ with_row R n 0 65535

@@ -37,9 +37,6 @@ step_mark T C rt (step y) n Γ p L j =
     ok_is (λ p L. p ≡ 0) k1 refl
 
 module _ {F : List ℕ} {S : Sections} {X R W K : List ℕ} {base start rt n s π : ℕ} (g : ReadyTurn F S X R W K base start rt n s π) where
-  pub turn_first : ReadyStep F S X R W K base start rt n s π
-  turn_first = record { fine = g.fine; begins = g.begins; within = g.within; returned = g.returned; tree = g.tree; stands = g.stands; room = omega (arith, g.room); few = omega (arith, g.few) }
-
   module _ {R₁ W₁ K₁ : List ℕ} {r₁ : Judged} (m₁ : ToldStep F S X R W base start rt n s π R₁ W₁ K₁ r₁) where
     pub turn_no : Unlisted r₁ → ToldTurn F S X R W base start rt n s π R₁ W₁ K₁ r₁
     turn_no u =

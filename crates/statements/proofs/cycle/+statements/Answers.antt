@@ -3,19 +3,16 @@ use Rattle.std.proofs.Common.{refl, rules, arith}
 use mathlib.Core.Path.{ap}
 use Rattle.answers.proofs.LawsAnswers.{answered}
 use Rattle.expressions.proofs.LawsChild.{child_type}
-use Rattle.statements.proofs.LawsArms.{arms_first, arms_no, arms_left, arms_asked, arms_no_2, arms_goes, arms_ok}
-use Rattle.statements.proofs.LawsBlock.{block_node, block_call, block_refused, block_left, block_ends, block_ok}
+use Rattle.statements.proofs.LawsArms.{arms_no, arms_left, arms_asked, arms_no_2, arms_goes, arms_ok}
+use Rattle.statements.proofs.LawsBlock.{block_call, block_refused, block_left, block_ends, block_ok}
 use Rattle.statements.proofs.LawsFor.{for_count, for_first, for_no, for_second, for_no_2, for_third, for_no_3, for_leaves, for_ends, for_ok}
-use Rattle.statements.proofs.LawsIfs.{if_first, if_no, if_type, if_second, if_sort, if_no_2, if_ends, if_ok, null_first, null_node, null_no, null_type, null_bindable, null_second, null_sort, null_asked, null_counted, null_below, null_no_2, null_ends, null_ok}
+use Rattle.statements.proofs.LawsIfs.{if_first, if_no, if_type, if_second, if_sort, if_no_2, if_ends, if_ok, null_first, null_no, null_type, null_bindable, null_second, null_sort, null_asked, null_counted, null_below, null_no_2, null_ends, null_ok}
 use Rattle.statements.proofs.LawsRun.{run_start, run_forward, run_stops, run_ready, run_asked, run_no, run_again, run_done}
-use Rattle.statements.proofs.LawsStatement.{stmt_node, stmt_kind_at, while_kind, var_told, while_told, told_anywhere, any_told}
-use Rattle.statements.proofs.LawsStep.{step_node, step_fits, step_absent, step_first, step_no, step_returns, step_leaves, step_ok}
-use Rattle.statements.proofs.LawsTurn.{turn_first, turn_no, turn_second, turn_told}
+use Rattle.statements.proofs.LawsStatement.{while_kind, any_told}
+use Rattle.statements.proofs.LawsStep.{step_absent, step_first, step_no, step_returns, step_leaves, step_ok}
+use Rattle.statements.proofs.LawsTurn.{turn_no, turn_second, turn_told}
 use Rattle.statements.proofs.LawsWhile.{while_first, while_test, while_no, while_sort, while_second, while_no_2, while_ends, while_ok}
 use Rattle.statements.proofs.cycle.+statements.Goals as goal
-
-pub arms-block-one-requires : goal.arms-block-one-requires
-arms-block-one-requires t c = (omega (arith, c.decreases), arms_first c.requires)
 
 pub arms-returns-in-Refused-clause-told : goal.arms-returns-in-Refused-clause-told
 arms-returns-in-Refused-clause-told t c = arms_no c.requires c.block-one.ensures.told c.in-Refused.is
@@ -37,12 +34,6 @@ pub arms-returns-clause-told : goal.arms-returns-clause-told
 arms-returns-clause-told t c =
     arms_ok c.requires c.block-one.ensures.told (record { never = c.in_default.not-Refused }) c.leave.ensures.left (ap (λ b. b.now) c.leave.ensures.work_unchanged) c.block-two.ensures.told (record { never = c.in_default-judgement.not-Refused }) c.mark_of.ensures.0 c.if-mark_of-eq0.false
 
-pub block-overflow_add-inside : goal.block-overflow_add-inside
-block-overflow_add-inside t c = omega (arith, c.requires.within, c.requires.fine.good_tables.laid.nodes_most)
-
-pub block-node_children-count-requires : goal.block-node_children-count-requires
-block-node_children-count-requires t c = block_node c.requires
-
 pub block-statements-all-requires : goal.block-statements-all-requires
 block-statements-all-requires t c = (omega (arith, c.decreases, c.requires.within), block_call c.requires c.node_children-count.ensures.0)
 
@@ -58,12 +49,6 @@ block-ends-requires t c = block_ends c.requires c.node_children-count.ensures.0 
 pub block-returns-clause-told : goal.block-returns-clause-told
 block-returns-clause-told t c =
     rw c.leave.ensures.work_unchanged (block_ok c.requires c.node_children-count.ensures.0 c.statements-all.ensures.told (record { never = c.in_default.not-Refused }) c.leave.ensures.left c.mark_of.ensures.0 (answered c.ends.ensures.value refl refl refl) c.ends.ensures.rows_after)
-
-pub for_loop-overflow_add-inside : goal.for_loop-overflow_add-inside
-for_loop-overflow_add-inside t c = omega (arith, c.requires.ready_stmt.0.within, c.requires.ready_stmt.0.fine.good_tables.laid.nodes_most)
-
-pub for_loop-node_children-count-requires : goal.for_loop-node_children-count-requires
-for_loop-node_children-count-requires t c = stmt_node c.requires.ready_stmt.0
 
 pub for_loop-overflow_sub-count : goal.for_loop-overflow_sub-count
 for_loop-overflow_sub-count t c = for_count c.requires.ready_stmt.0 c.requires.node_value c.node_children-count.ensures.0
@@ -101,9 +86,6 @@ pub for_loop-returns-clause-told : goal.for_loop-returns-clause-told
 for_loop-returns-clause-told t c =
     rw c.leave.ensures.work_unchanged (for_ok c.requires.ready_stmt.0 c.requires.node_value c.node_children-count.ensures.0 c.variables-one.ensures.told c.in-GoesOn.is refl c.condition-two.ensures.told c.in-GoesOn-judgement.is c.turn-three.ensures.told (record { never = c.in_default-judgement-2.not-Refused }) c.leave.ensures.left (answered c.ends.ensures.value refl refl refl) c.ends.ensures.rows_after)
 
-pub if_else-overflow_add-test : goal.if_else-overflow_add-test
-if_else-overflow_add-test t c = omega (arith, c.requires.ready_stmt.0.within, c.requires.ready_stmt.0.fine.good_tables.laid.nodes_most)
-
 pub if_else-expression-one-requires : goal.if_else-expression-one-requires
 if_else-expression-one-requires t c = if_first c.requires.ready_stmt c.requires.node_value
 
@@ -130,9 +112,6 @@ pub if_else-returns-clause-told : goal.if_else-returns-clause-told
 if_else-returns-clause-told t c =
     if_ok c.requires.ready_stmt c.requires.node_value c.expression-one.ensures.told c.in-Typed.is c.type_kind.ensures.0 c.if-type_kind-ne1.false c.arms-both.ensures.told (record { never = c.in_default-judgement.not-Refused }) c.mark_of.ensures.0 (answered c.ends.ensures.value refl refl refl) c.ends.ensures.rows_after
 
-pub if_null-overflow_add-value : goal.if_null-overflow_add-value
-if_null-overflow_add-value t c = omega (arith, c.requires.ready_stmt.0.within, c.requires.ready_stmt.0.fine.good_tables.laid.nodes_most)
-
 pub if_null-expression-one-requires : goal.if_null-expression-one-requires
 if_null-expression-one-requires t c = null_first c.requires.ready_stmt c.requires.node_value
 
@@ -144,9 +123,6 @@ if_null-type_kind-requires t c = null_type c.requires.ready_stmt c.requires.node
 
 pub if_null-returns-then-type_kind-ne7-clause-told : goal.if_null-returns-then-type_kind-ne7-clause-told
 if_null-returns-then-type_kind-ne7-clause-told t c = null_sort c.requires.ready_stmt c.requires.node_value c.expression-one.ensures.told c.in-Typed.is c.type_kind.ensures.0 c.if-type_kind-ne7.true c.refused.ensures.0
-
-pub if_null-node_t-t-requires : goal.if_null-node_t-t-requires
-if_null-node_t-t-requires t c = null_node c.requires.ready_stmt c.requires.node_value
 
 pub if_null-type_a-referred-requires : goal.if_null-type_a-referred-requires
 if_null-type_a-referred-requires t c = null_type c.requires.ready_stmt c.requires.node_value c.expression-one.ensures.told c.in-Typed.is
@@ -165,9 +141,6 @@ if_null-returns-then-not-asked-clause-told t c =
 pub if_null-bind-requires : goal.if_null-bind-requires
 if_null-bind-requires t c = null_bindable c.requires.ready_stmt c.requires.node_value c.expression-one.ensures.told c.in-Typed.is c.node_t-t.ensures.0
 
-pub if_null-overflow_add-at : goal.if_null-overflow_add-at
-if_null-overflow_add-at t c = omega (arith, c.requires.ready_stmt.0.fine.scoped.high, c.requires.ready_stmt.0.fine.good_tables.laid.nodes_most, c.requires.ready_stmt.0.fine.good_tables.laid.built_ins_most)
-
 pub if_null-arms-both-requires : goal.if_null-arms-both-requires
 if_null-arms-both-requires t c =
     let g = null_second c.requires.ready_stmt c.requires.node_value c.expression-one.ensures.told c.in-Typed.is c.type_kind.ensures.0 c.if-type_kind-ne7.false c.node_t-t.ensures.0 c.type_a-referred.ensures.0 c.below-asked.ensures.holds_value c.counting-tested.ensures c.bind.ensures.bound in (omega (arith, g.0, c.decreases, c.requires.ready_stmt.0.within), g.1)
@@ -184,33 +157,6 @@ pub if_null-returns-clause-told : goal.if_null-returns-clause-told
 if_null-returns-clause-told t c =
     null_ok c.requires.ready_stmt c.requires.node_value c.expression-one.ensures.told c.in-Typed.is c.type_kind.ensures.0 c.if-type_kind-ne7.false c.node_t-t.ensures.0 c.type_a-referred.ensures.0 c.below-asked.ensures.holds_value c.counting-tested.ensures c.bind.ensures.bound c.if-not-asked.false c.arms-both.ensures.told (record { never = c.in_default-judgement.not-Refused }) c.mark_of.ensures.0 (answered c.ends.ensures.value refl refl refl) c.ends.ensures.rows_after
 
-pub statement-node_kind-requires : goal.statement-node_kind-requires
-statement-node_kind-requires t c = stmt_node c.requires.0
-
-pub statement-assignment-requires : goal.statement-assignment-requires
-statement-assignment-requires t c = record { ready_stmt = c.requires.0; node_value = (stmt_kind_at c.requires.0 c.node_kind.ensures.0 c.in-30.is) }
-
-pub statement-variable-requires : goal.statement-variable-requires
-statement-variable-requires t c = record { ready_stmt = c.requires.0; node_value = (stmt_kind_at c.requires.0 c.node_kind.ensures.0 c.in-31.is) }
-
-pub statement-return_value-requires : goal.statement-return_value-requires
-statement-return_value-requires t c = record { ready_stmt = c.requires; node_value = (stmt_kind_at c.requires.0 c.node_kind.ensures.0 c.in-32.is) }
-
-pub statement-return_void-requires : goal.statement-return_void-requires
-statement-return_void-requires t c = record { ready_stmt = c.requires; node_value = (stmt_kind_at c.requires.0 c.node_kind.ensures.0 c.in-33.is) }
-
-pub statement-call_statement-requires : goal.statement-call_statement-requires
-statement-call_statement-requires t c = record { ready_stmt = c.requires.0; node_value = (stmt_kind_at c.requires.0 c.node_kind.ensures.0 c.in-34.is) }
-
-pub statement-if_else-requires : goal.statement-if_else-requires
-statement-if_else-requires t c = (omega (arith, c.decreases), (c.requires, (stmt_kind_at c.requires.0 c.node_kind.ensures.0 c.in-35.is)))
-
-pub statement-if_null-requires : goal.statement-if_null-requires
-statement-if_null-requires t c = (omega (arith, c.decreases), (c.requires, (stmt_kind_at c.requires.0 c.node_kind.ensures.0 c.in-36.is)))
-
-pub statement-for_loop-requires : goal.statement-for_loop-requires
-statement-for_loop-requires t c = (omega (arith, c.decreases), (c.requires, (stmt_kind_at c.requires.0 c.node_kind.ensures.0 c.in-37.is)))
-
 pub statement-while_loop-requires : goal.statement-while_loop-requires
 statement-while_loop-requires t c =
     (omega (arith, c.decreases), (c.requires, while_kind c.requires.0 c.node_kind.ensures.0 (search rules) (search rules) (search rules) (search rules) (search rules) (search rules) (search rules) (search rules)))
@@ -218,38 +164,14 @@ statement-while_loop-requires t c =
 pub statement-returns-in-30-clause-told : goal.statement-returns-in-30-clause-told
 statement-returns-in-30-clause-told t c = any_told c.assignment.ensures.told
 
-pub statement-returns-in-31-clause-told : goal.statement-returns-in-31-clause-told
-statement-returns-in-31-clause-told t c = var_told c.variable.ensures.told
-
-pub statement-returns-in-32-clause-told : goal.statement-returns-in-32-clause-told
-statement-returns-in-32-clause-told t c = told_anywhere c.return_value.ensures.told
-
-pub statement-returns-in-33-clause-told : goal.statement-returns-in-33-clause-told
-statement-returns-in-33-clause-told t c = told_anywhere c.return_void.ensures.told
-
 pub statement-returns-in-34-clause-told : goal.statement-returns-in-34-clause-told
 statement-returns-in-34-clause-told t c = any_told c.call_statement.ensures.told
-
-pub statement-returns-in-35-clause-told : goal.statement-returns-in-35-clause-told
-statement-returns-in-35-clause-told t c = told_anywhere c.if_else.ensures.told
-
-pub statement-returns-in-36-clause-told : goal.statement-returns-in-36-clause-told
-statement-returns-in-36-clause-told t c = told_anywhere c.if_null.ensures.told
-
-pub statement-returns-in-37-clause-told : goal.statement-returns-in-37-clause-told
-statement-returns-in-37-clause-told t c = told_anywhere c.for_loop.ensures.told
-
-pub statement-returns-in_default-clause-told : goal.statement-returns-in_default-clause-told
-statement-returns-in_default-clause-told t c = while_told c.while_loop.ensures.told
 
 pub statements-loop-i-init : goal.statements-loop-i-init
 statements-loop-i-init t c = (run_start c.requires, (refl, refl))
 
 pub statements-returns-then-mark-ne0-clause-told : goal.statements-returns-then-mark-ne0-clause-told
 statements-returns-then-mark-ne0-clause-told t c = run_stops c.requires c.loop-i.invariant.0 c.loop-i-test.true c.if-mark-ne0.true c.refused.ensures.0
-
-pub statements-overflow_add-last : goal.statements-overflow_add-last
-statements-overflow_add-last t c = omega (arith, c.loop-i-test.true, c.ranges.count)
 
 pub statements-statement-one-requires : goal.statements-statement-one-requires
 statements-statement-one-requires t c =
@@ -266,15 +188,6 @@ statements-loop-i-preserved t c = (
 
 pub statements-returns-clause-told : goal.statements-returns-clause-told
 statements-returns-clause-told t c = run_done c.requires c.loop-i.invariant.0 c.loop-i-test.false (answered c.with_mark.ensures refl refl refl)
-
-pub step-node_kind-requires : goal.step-node_kind-requires
-step-node_kind-requires t c = step_node c.requires
-
-pub step-overflow_add-after : goal.step-overflow_add-after
-step-overflow_add-after t c = omega (arith, c.requires.within, c.requires.fine.good_tables.laid.nodes_most)
-
-pub step-ends-requires : goal.step-ends-requires
-step-ends-requires t c = step_fits c.requires
 
 pub step-returns-then-node_kind-eq40-clause-told : goal.step-returns-then-node_kind-eq40-clause-told
 step-returns-then-node_kind-eq40-clause-told t c = step_absent c.requires c.node_kind.ensures.0 c.if-node_kind-eq40.true (answered c.ends.ensures.value refl refl refl) c.ends.ensures.rows_after
@@ -296,9 +209,6 @@ pub step-returns-clause-told : goal.step-returns-clause-told
 step-returns-clause-told t c =
     rw c.leave.ensures.work_unchanged (step_ok c.requires c.node_kind.ensures.0 c.if-node_kind-eq40.false c.statement-one.ensures.told (record { never = c.in_default.not-Refused }) c.mark_of.ensures.0 c.if-mark_of-ne0.false c.leave.ensures.left (answered c.goes_on.ensures refl refl refl))
 
-pub turn-step-one-requires : goal.turn-step-one-requires
-turn-step-one-requires t c = (omega (arith, c.decreases), turn_first c.requires)
-
 pub turn-returns-in_default-clause-told : goal.turn-returns-in_default-clause-told
 turn-returns-in_default-clause-told t c = turn_no c.requires c.step-one.ensures.told (record { never = c.in_default.not-GoesOn })
 
@@ -307,9 +217,6 @@ turn-block-requires t c = let g = turn_second c.requires c.step-one.ensures.told
 
 pub turn-returns-clause-told : goal.turn-returns-clause-told
 turn-returns-clause-told t c = turn_told c.requires c.step-one.ensures.told c.in-GoesOn.is c.block.ensures.told
-
-pub while_loop-overflow_add-test : goal.while_loop-overflow_add-test
-while_loop-overflow_add-test t c = omega (arith, c.requires.ready_stmt.0.within, c.requires.ready_stmt.0.fine.good_tables.laid.nodes_most)
 
 pub while_loop-expression-one-requires : goal.while_loop-expression-one-requires
 while_loop-expression-one-requires t c = while_first c.requires.ready_stmt.0 c.requires.node_value
