@@ -4,7 +4,7 @@ use mathlib.Core.Path.{refl}
 use Prim.Native.Nat.{◌<◌}
 use native.Mathlib.Omega.{arith}
 use borrow.Author.Rules.{rules}
-use Rattle.subtyping.proofs.LawsTypesBelow.{answers, itself_below, array_lower, nullable_lower, returns_lower, params_of, params_too, kinds_apart, below_4, from_7, string_held, other_held, base_below, struct_is, function_is, array_is, nullable_is, counts_differ, params_fail, returns_are, none_passed, all_passed, param_listed, param_lower, more_passed, param_fails}
+use Rattle.subtyping.proofs.LawsTypesBelow.{answers, itself_below, array_lower, nullable_lower, returns_lower, params_of, params_too, kinds_apart, below_4, from_7, string_held, other_held, base_below, struct_is, function_is, array_is, nullable_is, counts_differ, params_fail, returns_are, none_passed, all_passed, param_lower, more_passed, param_fails}
 use Rattle.subtyping.proofs.below.+below_by_kinds_function_below_kind_below_params_below.Goals as goal
 use Rattle.subtyping.proofs.below.+below_by_kinds_function_below_kind_below_params_below.Goals.{by_kinds-in_default-via-then-kind-lt4, by_kinds-in_default-via-else-kind-lt4+else-kind-lt7, by_kinds-in-2-1, by_kinds-in_default+else-kind-lt4+then-kind-lt7}
 
