@@ -327,9 +327,6 @@ module _ (s : List ℕ) (S : Sections) where
 
   -- a parameter
   module _ (i p count : ℕ) (params : Params s S i p count) (j : ℕ) (h : j < count) (x : ℕ) (ex : x ≡ entry_at T (p + j)) where
-    pub param_listed : p + j < S.list
-    param_listed = omega (arith, params.listed)
-
     pub param_lower : x < i
     param_lower = omega (arith, params.lower j h)
 
