@@ -11,7 +11,7 @@ use Rattle.oat.specs.ProgramFile.{Limits, widest, Program, IsFile}
 use Rattle.oat.proofs.LawsBlank.{meant_is_file}
 use Rattle.oat.proofs.LawsLimits.{widest_in_range, within_widest, wider}
 use Rattle.file_sections.specs.declared.Sections.{Sections}
-use Rattle.file_sections.specs.declared.Reading.TheVariants.{Good}
+use Rattle.std.specs.Prelude.{Ok}
 use Rattle.file_sections.specs.Layout.{tables_of}
 use Rattle.file_sections.proofs.LawsRecords.{nodes_long}
 use Rattle.program_file.specs.Reading.{reading_within, reading_of}
@@ -19,7 +19,7 @@ use Rattle.program_file.specs.Opened.{Opened, Declares, Passed}
 use Rattle.program_file.proofs.LawsReading.{reading_in_range, good_in_range}
 use Rattle.program_file.proofs.Theorem.{Bytes, program-of, tables_there, read_grows}
 
-pub opened : (l : Limits) (F : List ℕ) (S : Sections) → Bytes F → reading_of l F ≡ Good S → Opened l F S
+pub opened : (l : Limits) (F : List ℕ) (S : Sections) → Bytes F → reading_of l F ≡ Ok S → Opened l F S
 opened l F S b e =
     let (range, good) = good_in_range l F S e in
     let (p, f) = program-of l F S b good in
@@ -32,7 +32,7 @@ opened l F S b e =
     }
 
 -- its program, and its sections
-module _ {F : List ℕ} {S : Sections} (p : Program) (f : IsFile widest F p) (e : reading_within widest F ≡ Good S) where
+module _ {F : List ℕ} {S : Sections} (p : Program) (f : IsFile widest F p) (e : reading_within widest F ≡ Ok S) where
   pub tables_are : p.tables ≡ tables_of F S
   tables_are = tables_there widest F S p e f
 

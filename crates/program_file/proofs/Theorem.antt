@@ -23,8 +23,9 @@ use Rattle.oat.proofs.LawsBasics.{and_parts}
 use Rattle.oat.proofs.LawsLimits.{in-range, types_wider, wider}
 use Rattle.oat.proofs.LawsNodes.{same_trees}
 use Rattle.file_sections.specs.declared.Sections.{Sections}
-use Rattle.file_sections.specs.declared.Reading.{Reading}
-use Rattle.file_sections.specs.declared.Reading.TheVariants.{Refused, Good}
+use Rattle.std.specs.Prelude.{Result, Ok, Err}
+use Rattle.file_sections.specs.declared.Unreadable.{Unreadable}
+use Rattle.file_sections.specs.Unreadable.{unreadable_number}
 use Rattle.file_sections.specs.Layout.{Laid, GoodTables, section_of, then_reading, front_of, sections_of, tables_of}
 use Rattle.file_sections.proofs.LawsFile.{all_stood, file_is, sections_for, file_accepted}
 use Rattle.file_sections.proofs.LawsRecords.{types_long, list_long, fields_long, structs_long, built_ins_long, nodes_long}
@@ -59,43 +60,43 @@ meant_bytes (x ∷ s) b = b
 
 -- what an accepted reading says
 pub record Accepted (limits : Limits) (s : List ℕ) (S : Sections) : Type 0 where
-  pub sections : Good S ≡ sections_of s
+  pub sections : Ok S ≡ sections_of s
   pub types : types_right limits.parts (tables_of s S) ≡ true
   pub tables : tables_right (tables_of s S) ≡ true
   pub trees : trees_right limits.depth (tables_of s S) ≡ true
 
 -- a test that was passed, or a refusal
-passed : (b : Bool) (r : Reading) (n : ℕ) (S : Sections) → pick b r (Refused n) ≡ Good S → (b ≡ true) × (r ≡ Good S)
-passed true r n S e = (refl, e)
-passed false r n S e = absurd (let z : ◌≡◌ {A = ℕ} 0 1 = cc in omega arith)
+passed : (b : Bool) (r : Result Sections Unreadable) (u : Unreadable) (S : Sections) → pick b r (Err u) ≡ Ok S → (b ≡ true) × (r ≡ Ok S)
+passed true r u S e = (refl, e)
+passed false r u S e = cc
 
-then_good : (r : Reading) (k : Sections → Reading) (S : Sections) → then_reading r k ≡ Good S → (F : Sections) × (r ≡ Good F) × (k F ≡ Good S)
-then_good (Refused n) k S e = absurd (let z : ◌≡◌ {A = ℕ} 0 1 = cc in omega arith)
-then_good (Good F) k S e = (F, refl, e)
+then_good : (r : Result Sections Unreadable) (k : Sections → Result Sections Unreadable) (S : Sections) → then_reading r k ≡ Ok S → (F : Sections) × (r ≡ Ok F) × (k F ≡ Ok S)
+then_good (Err u) k S e = cc
+then_good (Ok F) k S e = (F, refl, e)
 
-accepted_at : (limits : Limits) (s : List ℕ) (S F : Sections) → sections_of s ≡ Good F → pick (types_right limits.parts (tables_of s F)) (pick (tables_right (tables_of s F)) (pick (trees_right limits.depth (tables_of s F)) (Good F) (Refused 5)) (Refused 4)) (Refused 3) ≡ Good S → Accepted limits s S
+accepted_at : (limits : Limits) (s : List ℕ) (S F : Sections) → sections_of s ≡ Ok F → pick (types_right limits.parts (tables_of s F)) (pick (tables_right (tables_of s F)) (pick (trees_right limits.depth (tables_of s F)) (Ok F) (Err Unreadable.Nodes)) (Err Unreadable.Tables)) (Err Unreadable.Types) ≡ Ok S → Accepted limits s S
 accepted_at limits s S F e k =
-    let (a, k3) = passed (types_right limits.parts (tables_of s F)) (pick (tables_right (tables_of s F)) (pick (trees_right limits.depth (tables_of s F)) (Good F) (Refused 5)) (Refused 4)) 3 S k in
-    let (b, k4) = passed (tables_right (tables_of s F)) (pick (trees_right limits.depth (tables_of s F)) (Good F) (Refused 5)) 4 S k3 in
-    let (c, k5) = passed (trees_right limits.depth (tables_of s F)) (Good F) 5 S k4 in
+    let (a, k3) = passed (types_right limits.parts (tables_of s F)) (pick (tables_right (tables_of s F)) (pick (trees_right limits.depth (tables_of s F)) (Ok F) (Err Unreadable.Nodes)) (Err Unreadable.Tables)) Unreadable.Types S k in
+    let (b, k4) = passed (tables_right (tables_of s F)) (pick (trees_right limits.depth (tables_of s F)) (Ok F) (Err Unreadable.Nodes)) Unreadable.Tables S k3 in
+    let (c, k5) = passed (trees_right limits.depth (tables_of s F)) (Ok F) Unreadable.Nodes S k4 in
     let same : F ≡ S = cc in
     subst (Accepted limits s) same (record { sections = sym e; types = a; tables = b; trees = c })
 
-pub accepted : (limits : Limits) (s : List ℕ) (S : Sections) → reading_within limits s ≡ Good S → Accepted limits s S
+pub accepted : (limits : Limits) (s : List ℕ) (S : Sections) → reading_within limits s ≡ Ok S → Accepted limits s S
 unfolding reading_within
 accepted limits s S e = let (F, f, k) = then_good (sections_of s) _ S e in accepted_at limits s S F f k
 
-accepts : (limits : Limits) (s : List ℕ) (S : Sections) → Accepted limits s S → reading_within limits s ≡ Good S
+accepts : (limits : Limits) (s : List ℕ) (S : Sections) → Accepted limits s S → reading_within limits s ≡ Ok S
 unfolding reading_within
 accepts limits s S a = rw (← a.sections, a.types, a.tables, a.trees)
 
 -- a file that was read has its sections laid and its tables right
-pub within_tables : (limits : Limits) (s : List ℕ) (S : Sections) → limits.parts ≤ 200 → reading_within limits s ≡ Good S → GoodTables s S
+pub within_tables : (limits : Limits) (s : List ℕ) (S : Sections) → limits.parts ≤ 200 → reading_within limits s ≡ Ok S → GoodTables s S
 within_tables limits s S few e =
     let a = accepted limits s S e in
     record { laid = (all_stood s S a.sections).laid; types = types_wider limits.parts 200 (tables_of s S) few a.types; tables = a.tables }
 
-pub good_tables : (limits : Limits) (s : List ℕ) (r : Reading) (S : Sections) → r ≡ reading_of limits s → r ≡ Good S → GoodTables (meant s) S
+pub good_tables : (limits : Limits) (s : List ℕ) (r : Result Sections Unreadable) (S : Sections) → r ≡ reading_of limits s → r ≡ Ok S → GoodTables (meant s) S
 good_tables limits s r S e h =
     let (range, good) = good_in_range limits s S (sym e ∙ h) in
     within_tables limits (meant s) S (in-range limits range).parts good
@@ -111,7 +112,7 @@ counts s S l = record {
 }
 
 -- an accepted file is the file of a program
-pub program-of : (limits : Limits) (s : List ℕ) (S : Sections) → Bytes s → reading_within limits (meant s) ≡ Good S → (p : Program) × IsFile limits s p
+pub program-of : (limits : Limits) (s : List ℕ) (S : Sections) → Bytes s → reading_within limits (meant s) ≡ Ok S → (p : Program) × IsFile limits s p
 program-of limits s S b e =
     let a = accepted limits (meant s) S e in
     let w = all_stood (meant s) S a.sections in
@@ -129,30 +130,30 @@ program-of limits s S b e =
     )
 
 -- the file of a program is accepted, with the program's tables
-pub reading-of : (limits : Limits) (s : List ℕ) (p : Program) → IsFile limits s p → (reading_within limits (meant s) ≡ Good (sections_for p.tables)) × (tables_of (meant s) (sections_for p.tables) ≡ p.tables)
+pub reading-of : (limits : Limits) (s : List ℕ) (p : Program) → IsFile limits s p → (reading_within limits (meant s) ≡ Ok (sections_for p.tables)) × (tables_of (meant s) (sections_for p.tables) ≡ p.tables)
 reading-of limits s p f =
     let T = p.tables in
     let (good, back) = file_accepted T f.counts in
     let trees = trees_accepted limits.depth T p.declarations f.stand f.used_up f.deep in
     let a : Accepted limits (file_of T) (sections_for T) =
     record { sections = good; types = rw back f.types; tables = rw back f.tables; trees = rw back trees } in
-    subst (λ (z : List ℕ). (reading_within limits z ≡ Good (sections_for T)) × (tables_of z (sections_for T) ≡ T)) (sym f.layout)
+    subst (λ (z : List ℕ). (reading_within limits z ≡ Ok (sections_for T)) × (tables_of z (sections_for T) ≡ T)) (sym f.layout)
     (accepts limits (file_of T) (sections_for T) a, back)
 
 -- the tables of a program are those that the readers of records give
-pub read_tables : (limits : Limits) (s : List ℕ) (S : Sections) (p : Program) → reading_within limits (meant s) ≡ Good S → IsFile limits s p → p.tables ≡ tables_of (meant s) S
+pub read_tables : (limits : Limits) (s : List ℕ) (S : Sections) (p : Program) → reading_within limits (meant s) ≡ Ok S → IsFile limits s p → p.tables ≡ tables_of (meant s) S
 read_tables limits s S p e f =
     let (good, back) = reading-of limits s p f in
     let same : sections_for p.tables ≡ S = cc in
     sym back ∙ ap (tables_of (meant s)) same
 
 -- and bytes that are read are there, so they mean themselves
-read_meant : (limits : Limits) (s : List ℕ) (S : Sections) → reading_within limits s ≡ Good S → meant s ≡ s
+read_meant : (limits : Limits) (s : List ℕ) (S : Sections) → reading_within limits s ≡ Ok S → meant s ≡ s
 unfolding or_else section_of front_of sections_of reading_within
-read_meant limits [] S e = absurd (let z : ◌≡◌ {A = ℕ} 0 1 = cc in omega arith)
+read_meant limits [] S e = cc
 read_meant limits (b ∷ s) S e = refl
 
-pub tables_there : (limits : Limits) (s : List ℕ) (S : Sections) (p : Program) → reading_within limits s ≡ Good S → IsFile limits s p → p.tables ≡ tables_of s S
+pub tables_there : (limits : Limits) (s : List ℕ) (S : Sections) (p : Program) → reading_within limits s ≡ Ok S → IsFile limits s p → p.tables ≡ tables_of s S
 tables_there limits s S p e f =
     let is = read_meant limits s S e in
     read_tables limits s S p (ap (reading_within limits) is ∙ e) f ∙ ap (λ x. tables_of x S) is
@@ -171,7 +172,7 @@ one_program limits s p q f g =
     (same_declarations p.tables q.tables p.declarations q.declarations tables f.stand g.stand f.used_up g.used_up)
 
 -- With limits in range a file is read exactly when its bytes are a program file, and then they are the file of one program alone.
-pub readable : (limits : Limits) → in_range limits ≡ true → (s : List ℕ) → Bytes s → ((S : Sections) × (reading_of limits s ≡ Good S)) ↔ ((p : Program) × IsFile limits s p × ((q : Program) → IsFile limits s q → q ≡ p))
+pub readable : (limits : Limits) → in_range limits ≡ true → (s : List ℕ) → Bytes s → ((S : Sections) × (reading_of limits s ≡ Ok S)) ↔ ((p : Program) × IsFile limits s p × ((q : Program) → IsFile limits s q → q ≡ p))
 readable limits range s b = (
   λ read.
       let (p, f) = program-of limits s read.0 b (good_in_range limits s read.0 read.1).1 in
@@ -180,22 +181,23 @@ readable limits range s b = (
 )
 
 -- A file that is not read then is refused under 1 to 5.
-pub refused_from_1_to_5 : (limits : Limits) → in_range limits ≡ true → (s : List ℕ) (n : ℕ) → reading_of limits s ≡ Refused n → (1 ≤ n) × (n ≤ 5)
-refused_from_1_to_5 limits range s n e = low_number (low_reading limits (meant s)) (sym (reading_in_range limits s range) ∙ e)
+pub refused_from_1_to_5 : (limits : Limits) → in_range limits ≡ true → (s : List ℕ) (u : Unreadable) → reading_of limits s ≡ Err u → (1 ≤ unreadable_number u) × (unreadable_number u ≤ 5)
+refused_from_1_to_5 limits range s u e = low_number (low_reading limits (meant s)) (sym (reading_in_range limits s range) ∙ e)
 
 -- and with limits in range or not, a refusal is under 25 or under 1 to 5
-pub refused_numbers : (limits : Limits) (s : List ℕ) (n : ℕ) → reading_of limits s ≡ Refused n → (n ≡ 25) ⊎ ((1 ≤ n) × (n ≤ 5))
-refused_numbers limits s n e = go (in_range limits) refl
+pub refused_numbers : (limits : Limits) (s : List ℕ) (u : Unreadable) → reading_of limits s ≡ Err u → (unreadable_number u ≡ 25) ⊎ ((1 ≤ unreadable_number u) × (unreadable_number u ≤ 5))
+refused_numbers limits s u e = go (in_range limits) refl
   where
-    go : (b : Bool) → in_range limits ≡ b → (n ≡ 25) ⊎ ((1 ≤ n) × (n ≤ 5))
-    go true range = inr (refused_from_1_to_5 limits range s n e)
-    go false out = let is = reading_out_of_range limits s out in inl cc
+    go : (b : Bool) → in_range limits ≡ b → (unreadable_number u ≡ 25) ⊎ ((1 ≤ unreadable_number u) × (unreadable_number u ≤ 5))
+    go true range = inr (refused_from_1_to_5 limits range s u e)
+    go false out =
+        let is = reading_out_of_range limits s out in
+        let limit : u ≡ Unreadable.Limits = cc in
+        inl (ap unreadable_number limit)
 
 -- the file of a program is not refused
-pub not_refused : (limits : Limits) → in_range limits ≡ true → (s : List ℕ) (n : ℕ) → reading_of limits s ≡ Refused n → (p : Program) → IsFile limits s p → ⊥
-not_refused limits range s n e p f =
-    let good = reading_in_range limits s range ∙ (reading-of limits s p f).0 in
-    let z : ◌≡◌ {A = ℕ} 0 1 = cc in omega arith
+pub not_refused : (limits : Limits) → in_range limits ≡ true → (s : List ℕ) (u : Unreadable) → reading_of limits s ≡ Err u → (p : Program) → IsFile limits s p → ⊥
+not_refused limits range s u e p f = let good = reading_in_range limits s range ∙ (reading-of limits s p f).0 in cc
 
 -- Demand 1, of the number of a reading.
 module _ (limits : Limits) (s : List ℕ) (b : Bytes s) where
@@ -207,17 +209,17 @@ module _ (limits : Limits) (s : List ℕ) (b : Bytes s) where
     one_program = one_program limits s;
   }
 
-  demand1_in : in_range limits ≡ true → (r : Reading) → reading_of limits s ≡ r → Reads limits s (number_of r)
-  demand1_in range (Refused n) e =
-      let low = refused_from_1_to_5 limits range s n e in
-      let none : IsProgramFile limits s → ⊥ = λ f. not_refused limits range s n e f.program f.file in
+  demand1_in : in_range limits ≡ true → (r : Result Sections Unreadable) → reading_of limits s ≡ r → Reads limits s (number_of r)
+  demand1_in range (Err u) e =
+      let low = refused_from_1_to_5 limits range s u e in
+      let none : IsProgramFile limits s → ⊥ = λ f. not_refused limits range s u e f.program f.file in
       record {
         out_of_range = (λ z. absurd (omega (arith, low.1)), λ out. absurd (let z : ◌≡◌ {A = ℕ} 0 1 = cc in omega arith));
         read = (λ z. absurd (omega (arith, low.0)), λ f. absurd (none f.1));
         refused = (λ l. (range, none), λ f. low);
         one_program = one_program limits s;
       }
-  demand1_in range (Good S) e =
+  demand1_in range (Ok S) e =
       let (p, f) = program-of limits s S b (good_in_range limits s S e).1 in
       let file : IsProgramFile limits s = record { program = p; file = f } in
       record {
@@ -227,7 +229,7 @@ module _ (limits : Limits) (s : List ℕ) (b : Bytes s) where
         one_program = one_program limits s;
       }
 
-  pub demand1 : (r : Reading) → reading_of limits s ≡ r → Reads limits s (number_of r)
+  pub demand1 : (r : Result Sections Unreadable) → reading_of limits s ≡ r → Reads limits s (number_of r)
   demand1 r e = go (in_range limits) refl
     where
       go : (t : Bool) → in_range limits ≡ t → Reads limits s (number_of r)
@@ -235,14 +237,14 @@ module _ (limits : Limits) (s : List ℕ) (b : Bytes s) where
       go false out = subst (λ x. Reads limits s (number_of x)) (sym (reading_out_of_range limits s out) ∙ e) (demand1_out out)
 
   -- and of an answer
-  pub with_demand1 : (r : Reading) → r ≡ reading_of limits s → (r ≡ reading_of limits s) × ReadsTables limits s r
+  pub with_demand1 : (r : Result Sections Unreadable) → r ≡ reading_of limits s → (r ≡ reading_of limits s) × ReadsTables limits s r
   with_demand1 r e =
       (e, record { reads = demand1 r (sym e); tables = λ S h p f. read_tables limits s S p (good_in_range limits s S (sym e ∙ h)).1 f })
 
 -- With larger limits in range a file that is read is read with the same sections.
-pub read_grows : (a b : Limits) → in_range b ≡ true → Within a b → (s : List ℕ) → Bytes s → (S : Sections) → reading_of a s ≡ Good S → reading_of b s ≡ Good S
+pub read_grows : (a b : Limits) → in_range b ≡ true → Within a b → (s : List ℕ) → Bytes s → (S : Sections) → reading_of a s ≡ Ok S → reading_of b s ≡ Ok S
 read_grows a b range w s y S e =
     let good = (good_in_range a s S e).1 in
     let (p, f) = program-of a s S y good in
     let same : sections_for p.tables ≡ S = let narrow = (reading-of a s p f).0 in cc in
-    reading_in_range b s range ∙ (reading-of b s p (wider w f)).0 ∙ ap Good same
+    reading_in_range b s range ∙ (reading-of b s p (wider w f)).0 ∙ ap Ok same

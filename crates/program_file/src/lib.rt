@@ -26,6 +26,7 @@ pub fn widest() -> Limits
 }
 
 // Whether a limit is from 1 to `most`, both ends in.
+#[tactic(auto, unfolding(oat::specs::ProgramFile::from_one_to))]
 fn from_one_to(most: usize, limit: usize) -> bool
     ensures { result ≡ from_one_to most limit }
 {
@@ -33,6 +34,7 @@ fn from_one_to(most: usize, limit: usize) -> bool
 }
 
 // Whether both limits are in range.
+#[tactic(auto, unfolding(oat::specs::ProgramFile::in_range))]
 fn in_range(limits: Limits) -> bool
     ensures { result ≡ in_range (setting_of limits) }
 {
@@ -75,6 +77,7 @@ pub fn read(file: &[u8], limits: Limits) -> Result<Sections, Unreadable>
 }
 
 // Reads bytes that are there, within the limits.
+#[tactic(auto, unfolding(crate::specs::Reading::reading_within))]
 fn read_within(file: &[u8], limits: Limits) -> Result<Sections, Unreadable>
     requires { limits.parts ≤ 200 }
     ensures { result ≡ reading_within (setting_of limits) file.now }
