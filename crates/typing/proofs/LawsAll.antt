@@ -4,6 +4,7 @@ use mathlib.Core.List.{List, [], ◌∷◌, ◌++◌, append_assoc}
 use Prim.Native.Nat.{ℕ, ◌+◌, ◌*◌, ◌≤◌}
 use native.Mathlib.Omega.{arith}
 use lib.ListN.{length}
+use Rattle.std.specs.Prelude.{Result, Ok, Err}
 use Rattle.oat.specs.Basics.{tabulate}
 use Rattle.oat.specs.Syntax.{Decl, global, function, size_decl}
 use Rattle.oat.proofs.LawsBasics.{tabulate_long}
@@ -15,8 +16,7 @@ use Rattle.file_sections.proofs.LawsRecords.{structs_long, built_ins_long}
 use Rattle.program_file.specs.Opened.{Declares}
 use Rattle.program_file.proofs.LawsOpened.{decls_some}
 use Rattle.steps.specs.declared.context.Context.{Context}
-use Rattle.steps.specs.declared.context.Stepped.{Stepped}
-use Rattle.steps.specs.declared.context.Stepped.TheVariants.{Next}
+use Rattle.steps.specs.declared.context.Refusal.{Refusal}
 use Rattle.steps.specs.Contract.{summing, Held}
 use Rattle.typing.specs.Runs.{start, after_steps, Touched, touched_first, touched_later, Runs, AnsweredAll, ReadyBuiltIns, ToldBuiltIns, ReadyStructs, ReadyDecls, ToldDecls, HeadingsTold, ReadyRun, first_steps, ToldFirst, program_of, ToldRun}
 use Rattle.typing.proofs.LawsRuns.{Stopped, after_append, touched_either, Apart, runs_then, runs_stop, runs_next}
@@ -73,13 +73,13 @@ module _ {F : List ℕ} {S : Sections} {X W K : List ℕ} (z : ReadyRun F S X W 
   pub first_structs : Laid F S
   first_structs = z.held.good_tables.laid
 
-  structs_run : {r : Stepped} → AnsweredAll F S start (tabulate S.structs struct_name) r → (R : List ℕ) → Runs F S X start (tabulate S.structs struct_name) R W R W K r
+  structs_run : {r : Result Context Refusal} → AnsweredAll F S start (tabulate S.structs struct_name) r → (R : List ℕ) → Runs F S X start (tabulate S.structs struct_name) R W R W K r
   structs_run told R = answers_run z.held (structs_alike S.structs) told R
 
-  pub first_structs_stop : {r : Stepped} → AnsweredAll F S start (tabulate S.structs struct_name) r → Stopped r → ToldFirst F S X W W K r
+  pub first_structs_stop : {r : Result Context Refusal} → AnsweredAll F S start (tabulate S.structs struct_name) r → Stopped r → ToldFirst F S X W W K r
   first_structs_stop told e = record { tells = λ R ds D. runs_stop (tabulate S.built_ins built_in ++ headings 0 ds) e (structs_run told R) }
 
-  module _ {r₁ : Stepped} {c : Context} (told₁ : AnsweredAll F S start (tabulate S.structs struct_name) r₁) (e₁ : r₁ ≡ Next c) where
+  module _ {r₁ : Result Context Refusal} {c : Context} (told₁ : AnsweredAll F S start (tabulate S.structs struct_name) r₁) (e₁ : r₁ ≡ Ok c) where
     structs_counted : More start c S.structs 0 S.structs
     structs_counted =
         let m = after_counted 1 0 (tabulate S.structs struct_name) start (structs_alike S.structs) in
@@ -99,7 +99,7 @@ module _ {F : List ℕ} {S : Sections} {X W K : List ℕ} (z : ReadyRun F S X W 
       few = omega (arith, structs_counted.steps_are, z.held.good_tables.laid.structs_most);
     }
 
-    module _ {r₂ : Stepped} {K₂ : List ℕ} (told₂ : ToldBuiltIns F S X W c K₂ r₂) where
+    module _ {r₂ : Result Context Refusal} {K₂ : List ℕ} (told₂ : ToldBuiltIns F S X W c K₂ r₂) where
       both : (R : List ℕ) → Runs F S X start (tabulate S.structs struct_name ++ tabulate S.built_ins built_in) R W R W K₂ r₂
       both R = runs_then (apart_bare _ (built_ins_bare S.built_ins)) e₁ (structs_run told₁ R) (told₂.tells R)
 
@@ -110,7 +110,7 @@ module _ {F : List ℕ} {S : Sections} {X W K : List ℕ} (z : ReadyRun F S X W 
             (runs_stop (headings 0 ds) e (both R));
       }
 
-      module _ {d : Context} (e₂ : r₂ ≡ Next d) where
+      module _ {d : Context} (e₂ : r₂ ≡ Ok d) where
         built_ins_counted : More c d 0 S.built_ins S.built_ins
         built_ins_counted =
             let m = after_counted 0 1 (tabulate S.built_ins built_in) c (built_ins_alike S.built_ins) in
@@ -136,7 +136,7 @@ module _ {F : List ℕ} {S : Sections} {X W K : List ℕ} (z : ReadyRun F S X W 
               sums = omega (arith, bare_sum e₁ (structs_run told₁ []) (structs_bare S.structs), bare_sum e₂ (told₂.tells []) (built_ins_bare S.built_ins), z.held.good_tables.laid.nodes_most);
             }
 
-        pub first_done : {r : Stepped} {W' K' : List ℕ} → HeadingsTold F S X d W W' K' r → ToldFirst F S X W W' K' r
+        pub first_done : {r : Result Context Refusal} {W' K' : List ℕ} → HeadingsTold F S X d W W' K' r → ToldFirst F S X W W' K' r
         first_done {r} {W'} {K'} told = record {
           tells = λ R ds D.
               subst (λ ss. Runs F S X start ss R W R W' K' r) (append_assoc (tabulate S.structs struct_name) (tabulate S.built_ins built_in) (headings 0 ds))
@@ -144,14 +144,14 @@ module _ {F : List ℕ} {S : Sections} {X W K : List ℕ} (z : ReadyRun F S X W 
         }
 
   -- all groups
-  pub all_first_stop : {R W' K' : List ℕ} {r : Stepped} → ToldFirst F S X W W' K' r → Stopped r → ToldRun F S X R W R W' K' r
+  pub all_first_stop : {R W' K' : List ℕ} {r : Result Context Refusal} → ToldFirst F S X W W' K' r → Stopped r → ToldRun F S X R W R W' K' r
   all_first_stop {R} {W'} {K'} {r} told e = record {
     tells = λ ds D.
         subst (λ ss. Runs F S X start ss R W R W' K' r) (simp append_assoc (all_are F S ds))
         (runs_stop (globals 0 ds ++ (tabulate S.structs struct_fields ++ bodies 0 ds)) e (told.tells R ds D));
   }
 
-  module _ {r₁ : Stepped} {c : Context} {W₁ K₁ : List ℕ} (told₁ : ToldFirst F S X W W₁ K₁ r₁) (e₁ : r₁ ≡ Next c) where
+  module _ {r₁ : Result Context Refusal} {c : Context} {W₁ K₁ : List ℕ} (told₁ : ToldFirst F S X W W₁ K₁ r₁) (e₁ : r₁ ≡ Ok c) where
     first_counted : (ds : List Decl) → Declares F S ds
         → More start c S.structs (S.built_ins + length (headings 0 ds)) (S.structs + S.built_ins + length (headings 0 ds))
     first_counted ds D =
@@ -193,7 +193,7 @@ module _ {F : List ℕ} {S : Sections} {X W K : List ℕ} (z : ReadyRun F S X W 
           sums = omega (arith, first_sum, z.held.good_tables.laid.nodes_most);
         }
 
-    module _ {R R₂ W₂ K₂ : List ℕ} {r₂ : Stepped} (told₂ : ToldDecls globals F S X c R W₁ R₂ W₂ K₂ r₂) where
+    module _ {R R₂ W₂ K₂ : List ℕ} {r₂ : Result Context Refusal} (told₂ : ToldDecls globals F S X c R W₁ R₂ W₂ K₂ r₂) where
       second : (ds : List Decl) → Declares F S ds → Runs F S X start (first_steps S ds ++ globals 0 ds) R W R₂ W₂ K₂ r₂
       second ds D = runs_then (apart_first (globals 0 ds) (first_bare S ds)) e₁ (told₁.tells R ds D) (told₂.tells ds D)
 
@@ -202,7 +202,7 @@ module _ {F : List ℕ} {S : Sections} {X W K : List ℕ} (z : ReadyRun F S X W 
         tells = λ ds D. subst (λ ss. Runs F S X start ss R W R₂ W₂ K₂ r₂) (simp append_assoc (all_are F S ds)) (runs_stop (tabulate S.structs struct_fields ++ bodies 0 ds) e (second ds D));
       }
 
-      module _ {d : Context} (e₂ : r₂ ≡ Next d) where
+      module _ {d : Context} (e₂ : r₂ ≡ Ok d) where
         second_counted : (ds : List Decl) → Declares F S ds → More c d 0 (length (globals 0 ds)) (length (globals 0 ds))
         second_counted ds D =
             let m = after_counted 0 1 (globals 0 ds) c (group_alike globals_group 0 ds) in
@@ -230,7 +230,7 @@ module _ {F : List ℕ} {S : Sections} {X W K : List ℕ} (z : ReadyRun F S X W 
         held_after : Held F S X W₂ K₂ d
         held_after = (runs_next e₂ (told₂.tells z.declarations z.declares)).1
 
-        module _ {r₃ : Stepped} (told₃ : AnsweredAll F S d (tabulate S.structs struct_fields) r₃) where
+        module _ {r₃ : Result Context Refusal} (told₃ : AnsweredAll F S d (tabulate S.structs struct_fields) r₃) where
           fields_run : Runs F S X d (tabulate S.structs struct_fields) R₂ W₂ R₂ W₂ K₂ r₃
           fields_run = answers_run held_after (fields_alike S.structs) told₃ R₂
 
@@ -242,7 +242,7 @@ module _ {F : List ℕ} {S : Sections} {X W K : List ℕ} (z : ReadyRun F S X W 
             tells = λ ds D. subst (λ ss. Runs F S X start ss R W R₂ W₂ K₂ r₃) (simp append_assoc (all_are F S ds)) (runs_stop (bodies 0 ds) e (third ds D));
           }
 
-          module _ {b : Context} (e₃ : r₃ ≡ Next b) where
+          module _ {b : Context} (e₃ : r₃ ≡ Ok b) where
             third_counted : More d b 0 0 S.structs
             third_counted =
                 let m = after_counted 0 0 (tabulate S.structs struct_fields) d (fields_alike S.structs) in
@@ -272,7 +272,7 @@ module _ {F : List ℕ} {S : Sections} {X W K : List ℕ} (z : ReadyRun F S X W 
                   sums = omega (arith, first_sum, second_sum, bare_sum e₃ fields_run (fields_bare S.structs), z.held.good_tables.laid.nodes_most);
                 }
 
-            pub all_done : {R' W' K' : List ℕ} {r : Stepped} → ToldDecls bodies F S X b R₂ W₂ R' W' K' r → ToldRun F S X R W R' W' K' r
+            pub all_done : {R' W' K' : List ℕ} {r : Result Context Refusal} → ToldDecls bodies F S X b R₂ W₂ R' W' K' r → ToldRun F S X R W R' W' K' r
             all_done {R'} {W'} {K'} {r} told = record {
               tells = λ ds D.
                   subst (λ ss. Runs F S X start ss R W R' W' K' r) (simp append_assoc (all_are F S ds)) (runs_then (apart ds) e₃ (third ds D) (told.tells ds D));

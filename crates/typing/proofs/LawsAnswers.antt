@@ -6,6 +6,7 @@ use Prim.Native.Nat.{ℕ, ◌+◌, ◌*◌, ◌<◌}
 use native.Mathlib.Nat.{zero-add, add-zero}
 use native.Mathlib.Omega.{arith}
 use lib.ListN.{length}
+use Rattle.std.specs.Prelude.{Result, Ok, Err}
 use Rattle.oat.specs.Basics.{tabulate}
 use Rattle.oat.specs.Tables.{Tables}
 use Rattle.typing_rules.specs.Contexts as Contexts
@@ -18,10 +19,10 @@ use Rattle.file_sections.specs.Layout.{tables_of}
 use Rattle.file_sections.specs.Frames.{ListAt}
 use Rattle.file_sections.proofs.LawsFrames.{list_none}
 use Rattle.bindings.specs.Bindings.{Scoped}
+use Rattle.answers.specs.Answers.{broken_number}
 use Rattle.steps.specs.declared.context.Context.{Context}
-use Rattle.steps.specs.declared.context.Stepped.{Stepped}
-use Rattle.steps.specs.declared.context.Stepped.TheVariants.{Next, Refused}
-use Rattle.steps.specs.Contract.{context_at, summing, after_step, Held, Answering, answers_next, answers_refused, Answered}
+use Rattle.steps.specs.declared.context.Refusal.{Refusal}
+use Rattle.steps.specs.Contract.{context_at, summing, after_step, refusal_at, Held, Answering, answers_next, answers_refused, Answered}
 use Rattle.steps.proofs.LawsStepping.{nothing_compared}
 use Rattle.typing.specs.Runs.{after_steps, with_segments, written_none, written_next, Runs, goes, stops, AnsweringAll, all_next, all_refused, AnsweredAll}
 use Rattle.typing.proofs.LawsRuns.{after_append, after_summing, written_append, Stopped, next_is, not_both, one_on, one_stop, one_counts, one_counts_to, then_on, then_breaks, breaks_still, then_counts, then_counts_to, counts_still}
@@ -38,40 +39,40 @@ bare_rows T (struct_fields i) z = refl
 bare_rows T (body n t ps b) z = absurd (omega arith)
 
 -- the context after an accepted one
-next_of : {T : Tables} {W : List ℕ} {c d : Context} {s : Step} {r : Stepped} {o : Out (Contexts.Context ℕ)} → Answering T W c s r o → r ≡ Next d → d ≡ after_step s c
+next_of : {T : Tables} {W : List ℕ} {c d : Context} {s : Step} {r : Result Context Refusal} {o : Out (Contexts.Context ℕ)} → Answering T W c s r o → r ≡ Ok d → d ≡ after_step s c
 next_of (answers_next C q m) e = next_is e q
-next_of (answers_refused p q i) e = absurd (not_both e i)
+next_of (answers_refused b p q n i) e = absurd (not_both e i)
 
 -- the sum of pairs after steps, as the context after them has it
 sum_stays : (ss : List Step) (c : Context) → (after_steps ss c).pairs ≡ c.pairs
 sum_stays ss c = ap (λ x. x.pairs) (after_summing c.pairs ss c)
 
 -- one run after another, and a refused run, whatever follows
-all_then : {T : Tables} {W : List ℕ} {c d : Context} {ss ts : List Step} {r₁ r : Stepped} → AnsweringAll T W c ss r₁ → r₁ ≡ Next d → AnsweringAll T W d ts r → AnsweringAll T W c (ss ++ ts) r
-all_then (all_refused p i q f h o) e n = absurd (not_both e f)
+all_then : {T : Tables} {W : List ℕ} {c d : Context} {ss ts : List Step} {r₁ r : Result Context Refusal} → AnsweringAll T W c ss r₁ → r₁ ≡ Ok d → AnsweringAll T W d ts r → AnsweringAll T W c (ss ++ ts) r
+all_then (all_refused y f h o u) e n = absurd (not_both e f)
 all_then {T} {W} {c} {d} {ss} {ts} {r₁} {r} (all_next gs f m o w) e n = next (subst (λ x. AnsweringAll T W x ts r) (next_is e f) n)
   where
     next : AnsweringAll T W (after_steps ss c) ts r → AnsweringAll T W c (ss ++ ts) r
     next (all_next hs g n u v) =
-        all_next (gs ++ hs) (g ∙ ap (λ x. Next x) (sym (after_append ss ts c))) (then_on T c ss ts W W W gs hs m n) (then_counts T c ss ts W W W 0 0 o u)
+        all_next (gs ++ hs) (g ∙ ap (λ x. Ok x) (sym (after_append ss ts c))) (then_on T c ss ts W W W gs hs m n) (then_counts T c ss ts W W W 0 0 o u)
         (λ R. written_append (w R) (v R))
-    next (all_refused p i q g n u) =
-        all_refused p i q (g ∙ ap (Refused p i q) (sum_stays ss c)) (then_breaks T c ss ts W W gs p i q m n) (then_counts_to T c ss ts W W 0 0 o u)
+    next (all_refused y g h n u) =
+        all_refused y g (h ∙ sum_stays ss c) (then_breaks T c ss ts W W gs (broken_number y.broken) y.step y.place m n) (then_counts_to T c ss ts W W 0 0 o u)
 
-all_stop : {T : Tables} {W : List ℕ} {c : Context} {ss : List Step} {r : Stepped} (ts : List Step) → Stopped r → AnsweringAll T W c ss r → AnsweringAll T W c (ss ++ ts) r
+all_stop : {T : Tables} {W : List ℕ} {c : Context} {ss : List Step} {r : Result Context Refusal} (ts : List Step) → Stopped r → AnsweringAll T W c ss r → AnsweringAll T W c (ss ++ ts) r
 all_stop ts e (all_next gs f m o w) = absurd (e.never _ f)
-all_stop {T} {W} {c} {ss} ts e (all_refused p i q f n o) = all_refused p i q f (breaks_still T c ss ts W p i q n) (counts_still T c ss ts W 0 o)
+all_stop {T} {W} {c} {ss} ts e (all_refused y f h n o) = all_refused y f h (breaks_still T c ss ts W (broken_number y.broken) y.step y.place n) (counts_still T c ss ts W 0 o)
 
 module _ {F : List ℕ} {S : Sections} where
-  pub answered_next : {c d : Context} {s : Step} {r : Stepped} → Answered F S c s r → r ≡ Next d → d ≡ after_step s c
+  pub answered_next : {c d : Context} {s : Step} {r : Result Context Refusal} → Answered F S c s r → r ≡ Ok d → d ≡ after_step s c
   answered_next a e = next_of (a.tells []) e
 
   -- no step, and one
-  pub all_none : {c : Context} → AnsweredAll F S c [] (Next c)
+  pub all_none : {c : Context} → AnsweredAll F S c [] (Ok c)
   unfolding after_steps with_segments
   all_none = record { tells = λ W. all_next [] refl (λ rest. refl) (λ rest. sym (zero-add _)) (λ R. written_none) }
 
-  all_one : {c : Context} {s : Step} {r : Stepped} → node_count s ≡ 0 → Answered F S c s r → (W : List ℕ) → AnsweringAll (tables_of F S) W c (s ∷ []) r
+  all_one : {c : Context} {s : Step} {r : Result Context Refusal} → node_count s ≡ 0 → Answered F S c s r → (W : List ℕ) → AnsweringAll (tables_of F S) W c (s ∷ []) r
   unfolding after_steps with_segments
   all_one {c} {s} {r} z a W = go (run_step (tables_of F S) (context_at (tables_of F S) W c) s) refl (a.tells W)
     where
@@ -86,10 +87,10 @@ module _ {F : List ℕ} {S : Sections} where
           all_next (record { node = rows_begin s; rows = step_rows (tables_of F S) s [] } ∷ []) q (one_on F S W c s W C [] e m)
           (λ rest. one_counts F S W c s W C [] e m rest ∙ ap (λ k. k + run_pairs (tables_of F S) (context_at (tables_of F S) W (after_step s c)) rest) nothing)
           (λ R. written_next refl (ap length none ∙ sym (ap (λ k. k * 2) z)) (subst (ListAt R (rows_begin s * 2)) (sym none) (list_none R (rows_begin s * 2))) written_none)
-      go o e (answers_refused p q i) = all_refused p c.steps q i (one_stop F S W c s p q e) (λ rest. one_counts_to F S W c s p q e rest ∙ nothing)
+      go o e (answers_refused b p q n i) = all_refused (refusal_at c b q) i refl (one_stop F S W c s (broken_number b) q (e ∙ ap (λ x. no x q) (sym n))) (λ rest. one_counts_to F S W c s p q e rest ∙ nothing)
 
   -- the first i records have had their steps
-  module _ (f : ℕ → Step) (b : (i : ℕ) → node_count (f i) ≡ 0) {c₀ c : Context} {t : Stepped} {i : ℕ} (a : AnsweredAll F S c₀ (tabulate i f) (Next c)) (h : Answered F S c (f i) t) where
+  module _ (f : ℕ → Step) (b : (i : ℕ) → node_count (f i) ≡ 0) {c₀ c : Context} {t : Result Context Refusal} {i : ℕ} (a : AnsweredAll F S c₀ (tabulate i f) (Ok c)) (h : Answered F S c (f i) t) where
     one_after : (W : List ℕ) → AnsweringAll (tables_of F S) W c₀ (tabulate (i + 1) f) t
     one_after W = subst (λ ss. AnsweringAll (tables_of F S) W c₀ ss t) (tabulate_more i f) (all_then (a.tells W) refl (all_one (b i) h W))
 
@@ -98,7 +99,7 @@ module _ {F : List ℕ} {S : Sections} where
         let (rest, q) = tabulate_rest (i + 1) n f (omega arith) in
         record { tells = λ W. subst (λ ss. AnsweringAll (tables_of F S) W c₀ ss t) q (all_stop rest e (one_after W)) }
 
-    pub answers_more : {d : Context} → t ≡ Next d → AnsweredAll F S c₀ (tabulate (i + 1) f) (Next d)
+    pub answers_more : {d : Context} → t ≡ Ok d → AnsweredAll F S c₀ (tabulate (i + 1) f) (Ok d)
     answers_more e = record { tells = λ W. subst (AnsweringAll (tables_of F S) W c₀ (tabulate (i + 1) f)) e (one_after W) }
 
   -- in buffers that hold the context: they hold the one after the steps, since no name is bound
@@ -109,10 +110,10 @@ module _ {F : List ℕ} {S : Sections} where
         let e : c.names ≡ (after_steps ss c).names = omega (arith, m.names_are) in
         record { good_tables = h.good_tables; indexed = h.indexed; scoped = subst (Scoped F S W K) e h.scoped }
 
-    pub answers_run : {j : ℕ} {ss : List Step} {r : Stepped} → Alike j 0 ss → AnsweredAll F S c ss r → (R : List ℕ) → Runs F S X c ss R W R W K r
+    pub answers_run : {j : ℕ} {ss : List Step} {r : Result Context Refusal} → Alike j 0 ss → AnsweredAll F S c ss r → (R : List ℕ) → Runs F S X c ss R W R W K r
     answers_run {j} {ss} {r} a told R = go (told.tells W)
       where
         go : AnsweringAll (tables_of F S) W c ss r → Runs F S X c ss R W R W K r
         go (all_next gs e on o w) =
-            goes gs 0 (e ∙ ap (λ x. Next x) (after_summing c.pairs ss c) ∙ ap (λ k. Next (summing k (after_steps ss c))) (sym (add-zero c.pairs))) (record { on = on; counts = o; held = held_after a; written = w R; kept = λ i t. refl })
-        go (all_refused p i q e n o) = stops p i q 0 (e ∙ ap (Refused p i q) (sym (add-zero c.pairs))) n o
+            goes gs 0 (e ∙ ap (λ x. Ok x) (after_summing c.pairs ss c) ∙ ap (λ k. Ok (summing k (after_steps ss c))) (sym (add-zero c.pairs))) (record { on = on; counts = o; held = held_after a; written = w R; kept = λ i t. refl })
+        go (all_refused y e h n o) = stops y 0 e (h ∙ sym (add-zero c.pairs)) n o

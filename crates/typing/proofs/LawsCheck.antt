@@ -7,6 +7,7 @@ use native.Mathlib.Nat.{zero-add, add-zero}
 use native.Mathlib.Omega.{arith}
 use lib.ListN.{length, get_or, take, drop, replicate}
 use lib.Seq.{drop_at, length-take-le}
+use Rattle.std.specs.Prelude.{Result, Ok, Err}
 use Rattle.oat.specs.Basics.{tabulate}
 use Rattle.oat.specs.Tables.{Tables}
 use Rattle.oat.specs.Types.{structs_of}
@@ -20,10 +21,10 @@ use Rattle.typing_rules.proofs.Theorem.{run_of}
 use Rattle.typing_rules.proofs.LawsPairs.{check_pairs, sum_most}
 use Rattle.typing_rules.proofs.RowsTheorem.{segments_long}
 use Rattle.file_sections.specs.declared.Sections.{Sections}
-use Rattle.file_sections.specs.declared.Reading.{Reading}
-use Rattle.file_sections.specs.declared.Reading.TheVariants.{Refused as Unread, Good}
+use Rattle.file_sections.specs.declared.Unreadable.{Unreadable}
+use Rattle.file_sections.specs.Unreadable.{unreadable_number}
 use Rattle.file_sections.specs.Layout.{tables_of, GoodTables}
-use Rattle.program_file.specs.Reading.{reading_within, reading_of, number_of}
+use Rattle.program_file.specs.Reading.{reading_within, reading_of}
 use Rattle.program_file.proofs.Theorem.{Bytes, within_tables, good_tables}
 use Rattle.program_file.proofs.LawsOpened.{opened, tables_are, nodes_are, declares}
 use Rattle.type_index.specs.Index.{Indexed}
@@ -32,9 +33,9 @@ use Rattle.bindings.proofs.LawsBindings.{scoped_none}
 use Rattle.demand3.specs.CheckFile.{needed, outcome, Checks, unreadable, rows_short, work_short, checked}
 use Rattle.demand3.proofs.Theorem.{fits, sum_of, demand3, check_numbers}
 use Rattle.demand3.proofs.LawsPlaces.{refused_fits, accepted_fits}
+use Rattle.answers.specs.Answers.{broken_number}
 use Rattle.steps.specs.declared.context.Context.{Context}
-use Rattle.steps.specs.declared.context.Stepped.{Stepped}
-use Rattle.steps.specs.declared.context.Stepped.TheVariants.{Next, Refused}
+use Rattle.steps.specs.declared.context.Refusal.{Refusal}
 use Rattle.steps.specs.Contract.{context_at, summing}
 use Rattle.typing.specs.declared.check.Answer.{Answer}
 use Rattle.typing.specs.Runs.{start, after_steps, with_segments, Written, Runs, goes, stops, ReadyRun, program_of, ToldRun}
@@ -52,7 +53,7 @@ unfolding names_of structs_of tabulate
 empty_start T W = refl
 
 -- a file's program, and its sections
-module _ {F : List ℕ} {S : Sections} (p : Program) (f : IsFile widest F p) (e : reading_within widest F ≡ Good S) where
+module _ {F : List ℕ} {S : Sections} (p : Program) (f : IsFile widest F p) (e : reading_within widest F ≡ Ok S) where
   program_is : p ≡ program_of F S p.declarations
   program_is = ap (λ T. record { tables = T; declarations = p.declarations }) (tables_are p f e)
 
@@ -67,11 +68,11 @@ module _ {F : List ℕ} {S : Sections} (p : Program) (f : IsFile widest F p) (e 
       ∙ ap₂ (run_pairs (tables_of F S)) (sym (empty_start (tables_of F S) W)) (sym (append-nil (steps_of (program_of F S p.declarations))))
 
 -- what a run of all steps of the program p says
-pub data Ends (p : Program) (R' : List ℕ) (r : Stepped) : Type 0 where
-  ends_next : (c : Context) (ss : List Step) (gs : List Segment) → r ≡ Next c → run_of p ≡ accepted gs c.steps → sum_of p ≡ c.pairs → Written R' ss gs → Ends p R' r
-  ends_refused : (n s q k : ℕ) → r ≡ Refused n s q k → run_of p ≡ refused n s q → sum_of p ≡ k → Ends p R' r
+pub data Ends (p : Program) (R' : List ℕ) (r : Result Context Refusal) : Type 0 where
+  ends_next : (c : Context) (ss : List Step) (gs : List Segment) → r ≡ Ok c → run_of p ≡ accepted gs c.steps → sum_of p ≡ c.pairs → Written R' ss gs → Ends p R' r
+  ends_refused : (y : Refusal) → r ≡ Err y → run_of p ≡ refused (broken_number y.broken) y.step y.place → sum_of p ≡ y.pairs → Ends p R' r
 
-run_ends : {F : List ℕ} {S : Sections} {X R W R' W' K' : List ℕ} {r : Stepped} (p : Program) → IsFile widest F p → reading_within widest F ≡ Good S
+run_ends : {F : List ℕ} {S : Sections} {X R W R' W' K' : List ℕ} {r : Result Context Refusal} (p : Program) → IsFile widest F p → reading_within widest F ≡ Ok S
     → Runs F S X start (steps_of (program_of F S p.declarations)) R W R' W' K' r → Ends p R' r
 unfolding run run_pairs
 run_ends {F} {S} {W = W} p f e (goes gs k q m) =
@@ -79,10 +80,10 @@ run_ends {F} {S} {W = W} p f e (goes gs k q m) =
     (run_is p f e W ∙ m.on [] ∙ segments_all gs _)
     (sum_is p f e W ∙ m.counts [] ∙ add-zero k ∙ sym (zero-add k))
     m.written
-run_ends {F} {S} {W = W} p f e (stops n s u k q m o) = ends_refused n s u (0 + k) q (run_is p f e W ∙ m []) (sum_is p f e W ∙ o [] ∙ sym (zero-add k))
+run_ends {F} {S} {W = W} p f e (stops y k q h m o) = ends_refused y q (run_is p f e W ∙ m []) (sum_is p f e W ∙ o [] ∙ sym (h ∙ zero-add k))
 
 -- a file has few nodes, so the sum has 32 bits
-sum_fits : {F : List ℕ} {S : Sections} (p : Program) → IsFile widest F p → reading_within widest F ≡ Good S → sum_of p ≤ 4294967295
+sum_fits : {F : List ℕ} {S : Sections} (p : Program) → IsFile widest F p → reading_within widest F ≡ Ok S → sum_of p ≤ 4294967295
 sum_fits {F} {S} p f e =
     omega (
       arith,
@@ -93,23 +94,19 @@ sum_fits {F} {S} p f e =
     )
 
 -- the numbers of the answer
-ends_small : {F : List ℕ} {S : Sections} {R' : List ℕ} {r : Stepped} (p : Program) → IsFile widest F p → reading_within widest F ≡ Good S → Ends p R' r → Small r
+ends_small : {F : List ℕ} {S : Sections} {R' : List ℕ} {r : Result Context Refusal} (p : Program) → IsFile widest F p → reading_within widest F ≡ Ok S → Ends p R' r → Small r
 ends_small {F} p f h (ends_next c ss gs q e o w) = record {
   next = λ d i.
       let same : c ≡ d = cc in
       subst (λ x. (x.steps < 65535) × (x.pairs ≤ 4294967295)) same (accepted_fits F p f gs c.steps e, omega (arith, o, sum_fits p f h));
-  refused = λ n s u k i. absurd (let z : ◌≡◌ {A = ℕ} 0 1 = cc in omega arith);
+  refused = λ y i. absurd (let z : ◌≡◌ {A = ℕ} 0 1 = cc in omega arith);
 }
-ends_small {F} {r = r} p f h (ends_refused n s u k q e o) = record {
+ends_small {F} {r = r} p f h (ends_refused y q e o) = record {
   next = λ d i. absurd (let z : ◌≡◌ {A = ℕ} 0 1 = cc in omega arith);
-  refused = λ n' s' u' k' i.
-      let same : Refused n s u k ≡ Refused n' s' u' k' = sym q ∙ i in
-      let (a, b, c) = refused_fits F p f n s u e in
-      let first : n ≡ n' = cc in
-      let second : s ≡ s' = cc in
-      let third : u ≡ u' = cc in
-      let fourth : k ≡ k' = cc in
-      (omega arith, omega arith, omega arith, omega (arith, fourth, o, sum_fits p f h));
+  refused = λ x i.
+      let same : y ≡ x = cc in
+      let (a, b, c) = refused_fits F p f (broken_number y.broken) y.step y.place e in
+      subst (λ x. (x.step < 65535) × (x.place < 65535) × (x.pairs ≤ 4294967295)) same (omega arith, omega arith, omega (arith, o, sum_fits p f h));
 }
 
 -- the answer and the rows
@@ -117,7 +114,7 @@ check_is : (p : Program) (a : Ran) (k : ℕ) → run_of p ≡ a → sum_of p ≡
 unfolding check_of
 check_is p a k e f = ap₂ (program_answer p) f e
 
-ends_answer : {F : List ℕ} {S : Sections} {R' : List ℕ} {r : Stepped} (p : Program) → IsFile widest F p → reading_within widest F ≡ Good S → length R' ≡ S.nodes * 2
+ends_answer : {F : List ℕ} {S : Sections} {R' : List ℕ} {r : Result Context Refusal} (p : Program) → IsFile widest F p → reading_within widest F ≡ Ok S → length R' ≡ S.nodes * 2
     → Ends p R' r → AnswersAs p (rows_after r R') (answer_of r)
 ends_answer {F} {S} {R'} p f e l (ends_next c ss gs q h o w) =
     let long : length R' ≡ 2 * size_decls p.declarations = omega (arith, nodes_are p f e, f.used_up) in
@@ -125,9 +122,9 @@ ends_answer {F} {S} {R'} p f e l (ends_next c ss gs q h o w) =
     let is = sym (check_is p (accepted gs c.steps) c.pairs h o) in
     subst (λ x. AnswersAs p (rows_after x R') (answer_of x)) (sym q)
     (record { number = ap (λ a. a.number) is; step = ap (λ a. a.step) is; place = ap (λ a. a.place) is; pairs = ap (λ a. a.pairs) is; rows = rows ∙ ap (λ a. a.rows) is })
-ends_answer {F} {S} {R'} p f e l (ends_refused n s u k q h o) =
+ends_answer {F} {S} {R'} p f e l (ends_refused y q h o) =
     let long : length R' ≡ 2 * length p.tables.nodes = omega (arith, nodes_are p f e) in
-    let is = sym (check_is p (refused n s u) k h o) in
+    let is = sym (check_is p (refused (broken_number y.broken) y.step y.place) y.pairs h o) in
     subst (λ x. AnswersAs p (rows_after x R') (answer_of x)) (sym q)
     (record {
       number = ap (λ a. a.number) is;
@@ -149,7 +146,7 @@ module _ {F : List ℕ} {S : Sections} {R W : List ℕ} (z : ReadyCheck F S R W)
     declares = declares z.program z.file z.reads;
   }
 
-  module _ {X R₁ W₁ K₁ : List ℕ} {r : Stepped} (m : ToldRun F S X R W R₁ W₁ K₁ r) where
+  module _ {X R₁ W₁ K₁ : List ℕ} {r : Result Context Refusal} (m : ToldRun F S X R W R₁ W₁ K₁ r) where
     pub check_small : Small r
     check_small =
         let p = z.program in
@@ -168,22 +165,21 @@ module _ {F : List ℕ} {S : Sections} {R W : List ℕ} (z : ReadyCheck F S R W)
 pub nodes_few : {F : List ℕ} {S : Sections} → WasRead F S → S.nodes ≤ 4096
 nodes_few {F} {S} w = (good_tables w.limits F (reading_of w.limits F) S refl w.reads).laid.nodes_most
 
-needed_is : {F : List ℕ} {S : Sections} (p : Program) → IsFile widest F p → reading_within widest F ≡ Good S → needed p ≡ S.nodes * 2
+needed_is : {F : List ℕ} {S : Sections} (p : Program) → IsFile widest F p → reading_within widest F ≡ Ok S → needed p ≡ S.nodes * 2
 needed_is p f e = omega (arith, nodes_are p f e)
 
 -- the check on bytes and buffers: 25 and 1 to 5
 module _ {l : Limits} {F R W : List ℕ} where
-  pub check_unread : {a : Answer} {r : Reading} {n m : ℕ} → r ≡ reading_of l F → r ≡ Unread n → m ≡ number_of r → a ≡ record { number = m; step = 0; place = 0; pairs = 0 } → Checked l F R W R W a
-  check_unread {a} {r} {n} {m} e h k q =
-      let same : m ≡ n = k ∙ ap number_of h in
+  pub check_unread : {a : Answer} {r : Result Sections Unreadable} {u : Unreadable} {m : ℕ} → r ≡ reading_of l F → r ≡ Err u → m ≡ unreadable_number u → a ≡ record { number = m; step = 0; place = 0; pairs = 0 } → Checked l F R W R W a
+  check_unread {a} {r} {u} {m} e h k q =
       record {
-        checks = subst (λ x. Checks l F R W (outcome_of x R)) (sym q) (subst (λ k. Checks l F R W (outcome k 0 0 0 R)) (sym same) (unreadable n (sym e ∙ h)));
+        checks = subst (λ x. Checks l F R W (outcome_of x R)) (sym q) (subst (λ k. Checks l F R W (outcome k 0 0 0 R)) (sym k) (unreadable u (sym e ∙ h)));
         unchanged = λ a. refl;
         rest = λ p f. refl;
       }
 
   -- 6
-  pub check_rows_short : {S : Sections} {r : Answer} → Bytes F → reading_of l F ≡ Good S → length R < S.nodes * 2 → r ≡ record { number = 6; step = 0; place = 0; pairs = 0 } → Checked l F R W R W r
+  pub check_rows_short : {S : Sections} {r : Answer} → Bytes F → reading_of l F ≡ Ok S → length R < S.nodes * 2 → r ≡ record { number = 6; step = 0; place = 0; pairs = 0 } → Checked l F R W R W r
   check_rows_short {S} {r} b e h q =
       let d = opened l F S b e in
       record {
@@ -192,7 +188,7 @@ module _ {l : Limits} {F R W : List ℕ} where
         rest = λ p f. refl;
       }
 
-  pub check_work_short : {S : Sections} {r : Answer} → Bytes F → reading_of l F ≡ Good S → S.nodes * 2 ≤ length R → length W < S.nodes * 2 → r ≡ record { number = 6; step = 0; place = 0; pairs = 0 } → Checked l F R W R W r
+  pub check_work_short : {S : Sections} {r : Answer} → Bytes F → reading_of l F ≡ Ok S → S.nodes * 2 ≤ length R → length W < S.nodes * 2 → r ≡ record { number = 6; step = 0; place = 0; pairs = 0 } → Checked l F R W R W r
   check_work_short {S} {r} b e k h q =
       let d = opened l F S b e in
       let n = needed_is d.program d.wide d.reads in
@@ -204,7 +200,7 @@ module _ {l : Limits} {F R W : List ℕ} where
 
 -- the check itself, of the bytes G that are meant, on the parts that are lent
 module _ (l : Limits) (F R W : List ℕ) where
-  module _ {S : Sections} {G : List ℕ} (b : Bytes F) (e : reading_of l F ≡ Good S) (is : G ≡ meant F) (m : S.nodes * 2 ≤ length R) (k : S.nodes * 2 ≤ length W) where
+  module _ {S : Sections} {G : List ℕ} (b : Bytes F) (e : reading_of l F ≡ Ok S) (is : G ≡ meant F) (m : S.nodes * 2 ≤ length R) (k : S.nodes * 2 ≤ length W) where
     pub check_ready : ReadyCheck G S (take (S.nodes * 2) R) (take (S.nodes * 2) W)
     check_ready =
         let d = opened l F S b e in
@@ -244,11 +240,11 @@ pub with_demands : {l : Limits} {F R W R' W' : List ℕ} {r : Answer} → Checke
 with_demands c = (c, demands c)
 
 -- of a file that was read, under each of its limits
-pub told_sections : {F R W R' W' : List ℕ} {S : Sections} {r : Answer} → ((l : Limits) → reading_of l F ≡ Good S → Checked l F R W R' W' r) → ToldSections F S R W R' W' r
+pub told_sections : {F R W R' W' : List ℕ} {S : Sections} {r : Answer} → ((l : Limits) → reading_of l F ≡ Ok S → Checked l F R W R' W' r) → ToldSections F S R W R' W' r
 told_sections f = record { checked = f; demands = λ l e. demands (f l e) }
 
 -- a file that was read under the limits l, and what the check of its sections says under these
-module _ (l : Limits) {F : List ℕ} {S : Sections} {g : Reading} (i : g ≡ reading_of l F) (j : g ≡ Good S) where
+module _ (l : Limits) {F : List ℕ} {S : Sections} {g : Result Sections Unreadable} (i : g ≡ reading_of l F) (j : g ≡ Ok S) where
   pub was_read : WasRead F S
   was_read = record { limits = l; reads = sym i ∙ j }
 

@@ -4,6 +4,7 @@ use mathlib.Core.List.{List, [], ◌∷◌}
 use Prim.Native.Nat.{ℕ, ◌+◌, ◌*◌, ◌≤◌, ◌<◌}
 use native.Mathlib.Omega.{arith}
 use lib.ListN.{length}
+use Rattle.std.specs.Prelude.{Result, Ok, Err}
 use Rattle.oat.specs.Tables.{Tables, node_at}
 use Rattle.oat.specs.Syntax.{Expr, Block, block, Decl, global, function, size_block, size_decl}
 use Rattle.oat.specs.Nodes.{DeclStands}
@@ -13,8 +14,7 @@ use Rattle.file_sections.specs.Layout.{Has, tables_of}
 use Rattle.file_sections.proofs.LawsRecords.{nodes_long}
 use Rattle.expressions.specs.Contract.{Few}
 use Rattle.steps.specs.declared.context.Context.{Context}
-use Rattle.steps.specs.declared.context.Stepped.{Stepped}
-use Rattle.steps.specs.declared.context.Stepped.TheVariants.{Next}
+use Rattle.steps.specs.declared.context.Refusal.{Refusal}
 use Rattle.steps.specs.Contract.{ReadyHeading, ToldHeading, ReadyGlobal, ToldGlobal, ReadyBody, ToldBody}
 use Rattle.typing.specs.Runs.{Runs, ReadyDecl, ToldDecl, HeadingTold}
 use Rattle.typing.proofs.LawsRuns.{runs_none, runs_one}
@@ -52,7 +52,7 @@ module _ {F : List ℕ} {S : Sections} {X W K : List ℕ} {c : Context} {n : ℕ
 
   module _ {k : ℕ} (e : k ≡ (node_at (tables_of F S) n).kind) where
     -- headings
-    pub heading_none : {r : Stepped} → (k ≡ 2 → ⊥) → r ≡ Next c → HeadingTold F S X c n W W K r
+    pub heading_none : {r : Result Context Refusal} → (k ≡ 2 → ⊥) → r ≡ Ok c → HeadingTold F S X c n W W K r
     unfolding headings
     heading_none {r} o q = record {
       tells = λ R. record { tells = off_function (tables_of F S) n k (λ d. Runs F S X c (headings n (d ∷ [])) R W R W K r) e o (λ x a. runs_none q z.held) };
@@ -73,7 +73,7 @@ module _ {F : List ℕ} {S : Sections} {X W K : List ℕ} {c : Context} {n : ℕ
           stands = h;
         }) z.declaration z.stands z.room
 
-    pub heading_told : {W' K' : List ℕ} {r : Stepped} → k ≡ 2 → ToldHeading F S X W c n W' K' r → HeadingTold F S X c n W W' K' r
+    pub heading_told : {W' K' : List ℕ} {r : Result Context Refusal} → k ≡ 2 → ToldHeading F S X W c n W' K' r → HeadingTold F S X c n W W' K' r
     unfolding headings
     heading_told {W'} {K'} {r} two t = record {
       tells = λ R. record {
@@ -82,7 +82,7 @@ module _ {F : List ℕ} {S : Sections} {X W K : List ℕ} {c : Context} {n : ℕ
     }
 
     -- globals
-    pub global_none : {R : List ℕ} {r : Stepped} → (k ≡ 1 → ⊥) → r ≡ Next c → ToldDecl globals F S X c n R W R W K r
+    pub global_none : {R : List ℕ} {r : Result Context Refusal} → (k ≡ 1 → ⊥) → r ≡ Ok c → ToldDecl globals F S X c n R W R W K r
     unfolding globals
     global_none {R} {r} o q = record { tells = off_global (tables_of F S) n k (λ d. Runs F S X c (globals n (d ∷ [])) R W R W K r) e o (λ x t ps b. runs_none q z.held) }
 
@@ -101,14 +101,14 @@ module _ {F : List ℕ} {S : Sections} {X W K : List ℕ} {c : Context} {n : ℕ
           sums = omega arith;
         }) z.declaration z.stands z.room z.sums
 
-    pub global_told : {R R' W' K' : List ℕ} {r : Stepped} → k ≡ 1 → ToldGlobal F S X R W c n R' W' K' r → ToldDecl globals F S X c n R W R' W' K' r
+    pub global_told : {R R' W' K' : List ℕ} {r : Result Context Refusal} → k ≡ 1 → ToldGlobal F S X R W c n R' W' K' r → ToldDecl globals F S X c n R W R' W' K' r
     unfolding globals
     global_told {R} {R'} {W'} {K'} {r} one t = record {
       tells = on_global (tables_of F S) n k (λ d. Runs F S X c (globals n (d ∷ [])) R W R' W' K' r) e one (λ x a h. runs_one (t.tells x a h));
     }
 
     -- bodies
-    pub body_none : {R : List ℕ} {r : Stepped} → (k ≡ 2 → ⊥) → r ≡ Next c → ToldDecl bodies F S X c n R W R W K r
+    pub body_none : {R : List ℕ} {r : Result Context Refusal} → (k ≡ 2 → ⊥) → r ≡ Ok c → ToldDecl bodies F S X c n R W R W K r
     unfolding bodies
     body_none {R} {r} o q = record { tells = off_function (tables_of F S) n k (λ d. Runs F S X c (bodies n (d ∷ [])) R W R W K r) e o (λ x a. runs_none q z.held) }
 
@@ -129,7 +129,7 @@ module _ {F : List ℕ} {S : Sections} {X W K : List ℕ} {c : Context} {n : ℕ
           sums = omega arith;
         }) z.declaration z.stands z.room z.sums
 
-    pub body_told : {R R' W' K' : List ℕ} {r : Stepped} → k ≡ 2 → ToldBody F S X R W c n R' W' K' r → ToldDecl bodies F S X c n R W R' W' K' r
+    pub body_told : {R R' W' K' : List ℕ} {r : Result Context Refusal} → k ≡ 2 → ToldBody F S X R W c n R' W' K' r → ToldDecl bodies F S X c n R W R' W' K' r
     unfolding bodies
     body_told {R} {R'} {W'} {K'} {r} two t = record {
       tells = on-function (tables_of F S) n k (λ d. Runs F S X c (bodies n (d ∷ [])) R W R' W' K' r) e two (λ x u ps b h. runs_one (t.tells x u ps b h));

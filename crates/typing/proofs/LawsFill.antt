@@ -6,9 +6,9 @@ use native.Mathlib.Omega.{arith}
 use lib.ListN.{length, set, drop, replicate}
 use lib.Seq.{drop-length}
 use borrow.Author.Fill.{fill_more}
+use Rattle.std.specs.Prelude.{Result, Ok, Err}
 use Rattle.steps.specs.declared.context.Context.{Context}
-use Rattle.steps.specs.declared.context.Stepped.{Stepped}
-use Rattle.steps.specs.declared.context.Stepped.TheVariants.{Next, Refused}
+use Rattle.steps.specs.declared.context.Refusal.{Refusal}
 use Rattle.typing.specs.declared.check.Answer.{Answer}
 use Rattle.typing.specs.Check.{answer_of, rows_after, Small}
 
@@ -26,11 +26,11 @@ fill_done R R₀ i e l h g =
     all = omega arith
 
 -- the answer
-module _ {r : Stepped} (h : Small r) where
-  pub steps_small : {c : Context} → r ≡ Next c → c.steps < 65535
+module _ {r : Result Context Refusal} (h : Small r) where
+  pub steps_small : {c : Context} → r ≡ Ok c → c.steps < 65535
   steps_small {c} e = (h.next c e).0
 
-  pub sum_small : {c : Context} → r ≡ Next c → c.pairs ≤ 4294967295
+  pub sum_small : {c : Context} → r ≡ Ok c → c.pairs ≤ 4294967295
   sum_small {c} e = (h.next c e).1
 
   pub number_small : {n s q k : ℕ} → r ≡ Refused n s q k → n ≤ 16
@@ -45,11 +45,11 @@ module _ {r : Stepped} (h : Small r) where
   pub pairs_small : {n s q k : ℕ} → r ≡ Refused n s q k → k ≤ 4294967295
   pairs_small {n} {s} {q} {k} e = (h.refused n s q k e).3
 
-module _ {r : Stepped} where
-  pub next_answer : {c : Context} {a : Answer} → r ≡ Next c → a ≡ record { number = 0; step = c.steps; place = 0; pairs = c.pairs } → a ≡ answer_of r
+module _ {r : Result Context Refusal} where
+  pub next_answer : {c : Context} {a : Answer} → r ≡ Ok c → a ≡ record { number = 0; step = c.steps; place = 0; pairs = c.pairs } → a ≡ answer_of r
   next_answer e f = f ∙ sym (ap answer_of e)
 
-  pub next_rows : {c : Context} (R : List ℕ) → r ≡ Next c → R ≡ rows_after r R
+  pub next_rows : {c : Context} (R : List ℕ) → r ≡ Ok c → R ≡ rows_after r R
   next_rows R e = sym (ap (λ x. rows_after x R) e)
 
   pub refused_answer : {n s q k : ℕ} {a : Answer} → r ≡ Refused n s q k → a ≡ record { number = n; step = s; place = q; pairs = k } → a ≡ answer_of r

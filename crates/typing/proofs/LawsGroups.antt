@@ -5,6 +5,7 @@ use Prim.Native.Nat.{ℕ, ◌+◌, ◌*◌, ◌≤◌, ◌<◌}
 use native.Mathlib.Nat.{add-mul}
 use native.Mathlib.Omega.{arith}
 use lib.ListN.{length, length-append}
+use Rattle.std.specs.Prelude.{Result, Ok, Err}
 use Rattle.oat.specs.Syntax.{Decl, size_decl, size_decls}
 use Rattle.typing_rules.specs.Steps.{Step}
 use Rattle.typing_rules.proofs.LawsPairs.{step_nodes}
@@ -15,8 +16,7 @@ use Rattle.file_sections.proofs.LawsTrees.{decl_tree}
 use Rattle.program_file.specs.Opened.{Declares, Passed}
 use Rattle.program_file.proofs.LawsOpened.{sizes_append, decl_some, decls_some, passed_none, left_size, next_decl, all_done, passed_more}
 use Rattle.steps.specs.declared.context.Context.{Context}
-use Rattle.steps.specs.declared.context.Stepped.{Stepped}
-use Rattle.steps.specs.declared.context.Stepped.TheVariants.{Next}
+use Rattle.steps.specs.declared.context.Refusal.{Refusal}
 use Rattle.steps.specs.Contract.{Held}
 use Rattle.typing.specs.Runs.{Touched, Runs, ReadyDecl, ToldDecl, ReadyDecls, ToldDecls}
 use Rattle.typing.proofs.LawsRuns.{Stopped, touched_either, Apart, runs_none, runs_then, runs_stop, runs_next}
@@ -52,7 +52,7 @@ module _ {steps : ℕ → List Decl → List Step} {k : ℕ} (g : Group steps k)
       omega (arith, ap step_nodes (g.more n d ds), nodes_append (steps n (d ∷ [])) (steps (n + size_decl d) ds), g.nodes n d, group_nodes (n + size_decl d) ds)
 
   -- the sum of pairs after them
-  pub group_sum : {F : List ℕ} {S : Sections} {X : List ℕ} {c e : Context} {R W R₁ W₁ K₁ : List ℕ} {r : Stepped} (n : ℕ) (ds : List Decl) → GoodTables F S → r ≡ Next e
+  pub group_sum : {F : List ℕ} {S : Sections} {X : List ℕ} {c e : Context} {R W R₁ W₁ K₁ : List ℕ} {r : Result Context Refusal} (n : ℕ) (ds : List Decl) → GoodTables F S → r ≡ Ok e
       → Runs F S X c (steps n ds) R W R₁ W₁ K₁ r → e.pairs ≤ c.pairs + 1200 * size_decls ds
   group_sum n ds tables i h = omega (arith, alike_sum i h tables (group_alike n ds), group_nodes n ds)
 
@@ -72,7 +72,7 @@ module _ {steps : ℕ → List Decl → List Step} {k : ℕ} (g : Group steps k)
 -- the loop over the declarations: those before `node` have had their steps
 pub record Reached (steps : ℕ → List Decl → List Step) (F : List ℕ) (S : Sections) (X : List ℕ) (c₀ : Context) (R₀ W₀ : List ℕ) (ds : List Decl) (node : ℕ) (c : Context) (R W K : List ℕ) : Type 0 where
   pub passed : Passed ds node
-  pub runs : Runs F S X c₀ (steps 0 passed.done) R₀ W₀ R W K (Next c)
+  pub runs : Runs F S X c₀ (steps 0 passed.done) R₀ W₀ R W K (Ok c)
 
 pub record Along (steps : ℕ → List Decl → List Step) (F : List ℕ) (S : Sections) (X : List ℕ) (c₀ : Context) (R₀ W₀ : List ℕ) (node : ℕ) (c : Context) (R W K : List ℕ) : Type 0 where
   pub at : (ds : List Decl) → Declares F S ds → Reached steps F S X c₀ R₀ W₀ ds node c R W K
@@ -83,7 +83,7 @@ module _ {steps : ℕ → List Decl → List Step} {k : ℕ} (g : Group steps k)
   along_start {K₀} h = record {
     at = λ ds D. record {
       passed = passed_none ds;
-      runs = subst (λ ss. Runs F S X c₀ ss R₀ W₀ R₀ W₀ K₀ (Next c₀)) (sym (g.none 0)) (runs_none refl h);
+      runs = subst (λ ss. Runs F S X c₀ ss R₀ W₀ R₀ W₀ K₀ (Ok c₀)) (sym (g.none 0)) (runs_none refl h);
     };
   }
 
@@ -151,7 +151,7 @@ module _ {steps : ℕ → List Decl → List Step} {k : ℕ} (g : Group steps k)
               let r = a.at z.declarations z.declares in
               next_decl z.declares r.passed h λ d ys e s. omega (arith, p.ends (node + size_decl d) (decl_tree (tables_of F S) node d s), decl_some d)
 
-          pub along_next : {d : Context} {R' W' K' : List ℕ} {t : Stepped} → ToldDecl steps F S X c node R W R' W' K' t → t ≡ Next d → Along steps F S X c₀ R₀ W₀ n' d R' W' K'
+          pub along_next : {d : Context} {R' W' K' : List ℕ} {t : Result Context Refusal} → ToldDecl steps F S X c node R W R' W' K' t → t ≡ Ok d → Along steps F S X c₀ R₀ W₀ n' d R' W' K'
           along_next {d} {R'} {W'} {K'} {t} told e = record { at = go }
             where
               go : (ds : List Decl) → Declares F S ds → Reached steps F S X c₀ R₀ W₀ ds n' d R' W' K'
@@ -160,13 +160,13 @@ module _ {steps : ℕ → List Decl → List Step} {k : ℕ} (g : Group steps k)
                   next_decl D r.passed h λ x ys q s.
                   record {
                     passed = passed_more r.passed x ys q (p.ends (node + size_decl x) (decl_tree (tables_of F S) node x s));
-                    runs = subst (λ ss. Runs F S X c₀ ss R₀ W₀ R' W' K' (Next d))
+                    runs = subst (λ ss. Runs F S X c₀ ss R₀ W₀ R' W' K' (Ok d))
                         (ap (λ m. steps 0 r.passed.done ++ steps m (x ∷ [])) (r.passed.here ∙ omega arith) ∙ sym (group_append g 0 r.passed.done (x ∷ [])))
                         (runs_then (group_apart g r.passed.done x node r.passed.here) refl r.runs (subst (λ y. Runs F S X c (steps node (x ∷ [])) R W R' W' K' y) e (told.tells x s)));
                   }
 
       -- a refusal
-      pub along_stop : {R' W' K' : List ℕ} {t : Stepped} → node < S.nodes → ToldDecl steps F S X c node R W R' W' K' t → Stopped t → ToldDecls steps F S X c₀ R₀ W₀ R' W' K' t
+      pub along_stop : {R' W' K' : List ℕ} {t : Result Context Refusal} → node < S.nodes → ToldDecl steps F S X c node R W R' W' K' t → Stopped t → ToldDecls steps F S X c₀ R₀ W₀ R' W' K' t
       along_stop {R'} {W'} {K'} {t} h told e = record { tells = go }
         where
           go : (ds : List Decl) → Declares F S ds → Runs F S X c₀ (steps 0 ds) R₀ W₀ R' W' K' t
@@ -186,10 +186,10 @@ module _ {steps : ℕ → List Decl → List Step} {k : ℕ} (g : Group steps k)
                   ∙ ap (steps 0) (sym e)
 
     -- the end
-    pub along_done : S.nodes ≤ node → ToldDecls steps F S X c₀ R₀ W₀ R W K (Next c)
+    pub along_done : S.nodes ≤ node → ToldDecls steps F S X c₀ R₀ W₀ R W K (Ok c)
     along_done h = record { tells = go }
       where
-        go : (ds : List Decl) → Declares F S ds → Runs F S X c₀ (steps 0 ds) R₀ W₀ R W K (Next c)
+        go : (ds : List Decl) → Declares F S ds → Runs F S X c₀ (steps 0 ds) R₀ W₀ R W K (Ok c)
         go ds D =
             let r = a.at ds D in
-            subst (λ xs. Runs F S X c₀ (steps 0 xs) R₀ W₀ R W K (Next c)) (all_done D r.passed h) r.runs
+            subst (λ xs. Runs F S X c₀ (steps 0 xs) R₀ W₀ R W K (Ok c)) (all_done D r.passed h) r.runs

@@ -3,12 +3,12 @@ use mathlib.Core.Path.{◌≡◌}
 use mathlib.Core.List.{List, []}
 use Prim.Native.Nat.{ℕ, ◌-◌, ◌≤◌, ◌<◌}
 use native.Mathlib.Omega.{arith}
+use Rattle.std.specs.Prelude.{Result, Ok, Err}
 use Rattle.typing_rules.specs.Steps.{headings}
 use Rattle.file_sections.specs.declared.Sections.{Sections}
 use Rattle.file_sections.specs.Trees.{Tree, Past}
 use Rattle.steps.specs.declared.context.Context.{Context}
-use Rattle.steps.specs.declared.context.Stepped.{Stepped}
-use Rattle.steps.specs.declared.context.Stepped.TheVariants.{Next}
+use Rattle.steps.specs.declared.context.Refusal.{Refusal}
 use Rattle.typing.specs.Runs.{ReadyDecl, HeadingTold, ReadyDecls, HeadingsTold}
 use Rattle.typing.proofs.LawsRuns.{Stopped}
 use Rattle.typing.proofs.LawsCounts.{headings_group}
@@ -29,15 +29,15 @@ module _ {F : List ℕ} {S : Sections} {X : List ℕ} {c₀ : Context} {W₀ K�
     headings_tree h = along_tree headings_group (a.with_rows []) z h
 
     module _ (h : node < S.nodes) where
-      pub headings_stop : {W' K' : List ℕ} {t : Stepped} → HeadingTold F S X c node W W' K' t → Stopped t → HeadingsTold F S X c₀ W₀ W' K' t
+      pub headings_stop : {W' K' : List ℕ} {t : Result Context Refusal} → HeadingTold F S X c node W W' K' t → Stopped t → HeadingsTold F S X c₀ W₀ W' K' t
       headings_stop told e = record { tells = λ R. along_stop headings_group (a.with_rows R) z h (told.tells R) e }
 
       module _ {n : ℕ} (p : Past F S node n) where
         pub headings_falls : S.nodes - n < S.nodes - node
         headings_falls = omega (arith, along_falls headings_group (a.with_rows []) z h p)
 
-        pub headings_next : {d : Context} {W' K' : List ℕ} {t : Stepped} → HeadingTold F S X c node W W' K' t → t ≡ Next d → HeadingsAlong F S X c₀ W₀ n d W' K'
+        pub headings_next : {d : Context} {W' K' : List ℕ} {t : Result Context Refusal} → HeadingTold F S X c node W W' K' t → t ≡ Ok d → HeadingsAlong F S X c₀ W₀ n d W' K'
         headings_next told e = record { with_rows = λ R. along_next headings_group (a.with_rows R) z h p (told.tells R) e }
 
-  pub headings_done : {node : ℕ} {c : Context} {W K : List ℕ} → HeadingsAlong F S X c₀ W₀ node c W K → S.nodes ≤ node → HeadingsTold F S X c₀ W₀ W K (Next c)
+  pub headings_done : {node : ℕ} {c : Context} {W K : List ℕ} → HeadingsAlong F S X c₀ W₀ node c W K → S.nodes ≤ node → HeadingsTold F S X c₀ W₀ W K (Ok c)
   headings_done a h = record { tells = λ R. along_done headings_group (a.with_rows R) h }

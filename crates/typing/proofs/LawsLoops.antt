@@ -4,6 +4,7 @@ use mathlib.Core.List.{List, []}
 use Prim.Native.Nat.{ℕ, ◌+◌, ◌≤◌, ◌<◌}
 use native.Mathlib.Omega.{arith}
 use lib.ListN.{length}
+use Rattle.std.specs.Prelude.{Result, Ok, Err}
 use Rattle.oat.specs.Basics.{tabulate}
 use Rattle.oat.proofs.LawsBasics.{tabulate_long}
 use Rattle.typing_rules.specs.Steps.{Step, struct_name, built_in, struct_fields}
@@ -12,8 +13,7 @@ use Rattle.typing_rules.specs.Check.{node_count}
 use Rattle.file_sections.specs.declared.Sections.{Sections}
 use Rattle.file_sections.specs.Layout.{Laid}
 use Rattle.steps.specs.declared.context.Context.{Context}
-use Rattle.steps.specs.declared.context.Stepped.{Stepped}
-use Rattle.steps.specs.declared.context.Stepped.TheVariants.{Next}
+use Rattle.steps.specs.declared.context.Refusal.{Refusal}
 use Rattle.steps.specs.Contract.{with_struct, with_step, Answered, Steps, Rowless, Copied, ReadyStruct, ToldStruct, ReadyBuiltIn, ReadyFields}
 use Rattle.typing.specs.Runs.{start, Runs, AnsweredAll, ReadyBuiltIns, ToldBuiltIns, ReadyStructs}
 use Rattle.typing.proofs.LawsRuns.{Stopped, Apart, runs_none, runs_one, runs_then, runs_stop, runs_next}
@@ -24,20 +24,20 @@ pub apart_bare : (ss : List Step) {ts : List Step} → Bare ts → Apart ss ts
 apart_bare ss b = record { never = λ i t u. bare_untouched b u }
 
 -- the first i records have had their steps
-module _ (f : ℕ → Step) (b : (i : ℕ) → node_count (f i) ≡ 0) {F : List ℕ} {S : Sections} {X : List ℕ} {c₀ c : Context} {R₀ W₀ R W K R' W' K' : List ℕ} {t : Stepped} {i : ℕ} where
-  one_after : Runs F S X c₀ (tabulate i f) R₀ W₀ R W K (Next c) → Steps F S X c (f i) R W R' W' K' t → Runs F S X c₀ (tabulate (i + 1) f) R₀ W₀ R' W' K' t
+module _ (f : ℕ → Step) (b : (i : ℕ) → node_count (f i) ≡ 0) {F : List ℕ} {S : Sections} {X : List ℕ} {c₀ c : Context} {R₀ W₀ R W K R' W' K' : List ℕ} {t : Result Context Refusal} {i : ℕ} where
+  one_after : Runs F S X c₀ (tabulate i f) R₀ W₀ R W K (Ok c) → Steps F S X c (f i) R W R' W' K' t → Runs F S X c₀ (tabulate (i + 1) f) R₀ W₀ R' W' K' t
   one_after a h =
       subst (λ ss. Runs F S X c₀ ss R₀ W₀ R' W' K' t) (tabulate_more i f)
       (runs_then (apart_bare (tabulate i f) (bare_next (b i) bare_none)) refl a (runs_one h))
 
-  records_stop : (n : ℕ) → i < n → Stopped t → Runs F S X c₀ (tabulate i f) R₀ W₀ R W K (Next c) → Steps F S X c (f i) R W R' W' K' t
+  records_stop : (n : ℕ) → i < n → Stopped t → Runs F S X c₀ (tabulate i f) R₀ W₀ R W K (Ok c) → Steps F S X c (f i) R W R' W' K' t
       → Runs F S X c₀ (tabulate n f) R₀ W₀ R' W' K' t
   records_stop n l e a h =
       let (rest, q) = tabulate_rest (i + 1) n f (omega arith) in
       subst (λ ss. Runs F S X c₀ ss R₀ W₀ R' W' K' t) q (runs_stop rest e (one_after a h))
 
-  records_next : {d : Context} → t ≡ Next d → Runs F S X c₀ (tabulate i f) R₀ W₀ R W K (Next c) → Steps F S X c (f i) R W R' W' K' t
-      → Runs F S X c₀ (tabulate (i + 1) f) R₀ W₀ R' W' K' (Next d)
+  records_next : {d : Context} → t ≡ Ok d → Runs F S X c₀ (tabulate i f) R₀ W₀ R W K (Ok c) → Steps F S X c (f i) R W R' W' K' t
+      → Runs F S X c₀ (tabulate (i + 1) f) R₀ W₀ R' W' K' (Ok d)
   records_next e a h = subst (Runs F S X c₀ (tabulate (i + 1) f) R₀ W₀ R' W' K') e (one_after a h)
 
 same_record : (i n : ℕ) → i ≤ n → n ≤ i → i ≡ n
@@ -47,14 +47,14 @@ no_records : {A : Type 0} (f : ℕ → A) → tabulate 0 f ≡ []
 unfolding tabulate
 no_records f = refl
 
-none_answered : {F : List ℕ} {S : Sections} {c : Context} (f : ℕ → Step) → AnsweredAll F S c (tabulate 0 f) (Next c)
-none_answered {F} {S} {c} f = subst (λ ss. AnsweredAll F S c ss (Next c)) (sym (no_records f)) all_none
+none_answered : {F : List ℕ} {S : Sections} {c : Context} (f : ℕ → Step) → AnsweredAll F S c (tabulate 0 f) (Ok c)
+none_answered {F} {S} {c} f = subst (λ ss. AnsweredAll F S c ss (Ok c)) (sym (no_records f)) all_none
 
 -- struct names
 pub record StructsDone (F : List ℕ) (S : Sections) (N : List ℕ) (i : ℕ) (c : Context) : Type 0 where
   pub copied : Copied F S N i
   pub counted : c ≡ record { structs = i; names = 0; steps = i; pairs = 0 }
-  pub answered : AnsweredAll F S start (tabulate i struct_name) (Next c)
+  pub answered : AnsweredAll F S start (tabulate i struct_name) (Ok c)
 
 module _ {F : List ℕ} {S : Sections} where
   pub structs_first : {N : List ℕ} {c : Context} → Laid F S → 256 ≤ length N → c ≡ start → StructsDone F S N 0 c
@@ -73,30 +73,30 @@ module _ {F : List ℕ} {S : Sections} where
       few = omega (arith, ap (λ x. x.steps) a.counted, a.copied.laid.structs_most);
     }
 
-    module _ {N' : List ℕ} {t : Stepped} (told : ToldStruct F S c i N' t) where
+    module _ {N' : List ℕ} {t : Result Context Refusal} (told : ToldStruct F S c i N' t) where
       pub structs_stop : i < S.structs → Stopped t → AnsweredAll F S start (tabulate S.structs struct_name) t
       structs_stop l e = answers_stop struct_name (λ j. refl) a.answered told.answered S.structs l e
 
-      pub structs_next : {d : Context} → t ≡ Next d → StructsDone F S N' (i + 1) d
+      pub structs_next : {d : Context} → t ≡ Ok d → StructsDone F S N' (i + 1) d
       structs_next {d} e =
           let n = answered_next told.answered e in
           record {
-            copied = told.copied (e ∙ ap (λ x. Next x) n);
+            copied = told.copied (e ∙ ap (λ x. Ok x) n);
             counted = n ∙ ap with_struct a.counted;
             answered = answers_more struct_name (λ j. refl) a.answered told.answered e;
           }
 
-    pub structs_done : i ≤ S.structs → S.structs ≤ i → AnsweredAll F S start (tabulate S.structs struct_name) (Next c)
-    structs_done l h = subst (λ n. AnsweredAll F S start (tabulate n struct_name) (Next c)) (same_record i S.structs l h) a.answered
+    pub structs_done : i ≤ S.structs → S.structs ≤ i → AnsweredAll F S start (tabulate S.structs struct_name) (Ok c)
+    structs_done l h = subst (λ n. AnsweredAll F S start (tabulate n struct_name) (Ok c)) (same_record i S.structs l h) a.answered
 
 -- built-ins
 pub record BuiltInsDone (F : List ℕ) (S : Sections) (X W : List ℕ) (c₀ : Context) (K : List ℕ) (i : ℕ) (c : Context) : Type 0 where
-  pub runs : (R : List ℕ) → Runs F S X c₀ (tabulate i built_in) R W R W K (Next c)
+  pub runs : (R : List ℕ) → Runs F S X c₀ (tabulate i built_in) R W R W K (Ok c)
 
 module _ {F : List ℕ} {S : Sections} {X W : List ℕ} {c₀ : Context} where
   pub built_ins_start : {K : List ℕ} → ReadyBuiltIns F S X W K c₀ → BuiltInsDone F S X W c₀ K 0 c₀
   built_ins_start {K} z = record {
-    runs = λ R. subst (λ ss. Runs F S X c₀ ss R W R W K (Next c₀)) (sym (no_records built_in)) (runs_none refl z.held);
+    runs = λ R. subst (λ ss. Runs F S X c₀ ss R W R W K (Ok c₀)) (sym (no_records built_in)) (runs_none refl z.held);
   }
 
   module _ {K : List ℕ} {i : ℕ} {c : Context} (a : BuiltInsDone F S X W c₀ K i c) where
@@ -115,22 +115,22 @@ module _ {F : List ℕ} {S : Sections} {X W : List ℕ} {c₀ : Context} where
           next = omega (arith, ap (λ x. x.names) e, m.names_are, n, z.none);
         }
 
-    module _ {K' : List ℕ} {t : Stepped} (told : Rowless F S X c (built_in i) W W K' t) where
+    module _ {K' : List ℕ} {t : Result Context Refusal} (told : Rowless F S X c (built_in i) W W K' t) where
       pub built_ins_stop : i < S.built_ins → Stopped t → ToldBuiltIns F S X W c₀ K' t
       built_ins_stop l e = record { tells = λ R. records_stop built_in (λ j. refl) S.built_ins l e (a.runs R) (told.tells R) }
 
-      pub built_ins_next : {d : Context} → t ≡ Next d → BuiltInsDone F S X W c₀ K' (i + 1) d
+      pub built_ins_next : {d : Context} → t ≡ Ok d → BuiltInsDone F S X W c₀ K' (i + 1) d
       built_ins_next e = record { runs = λ R. records_next built_in (λ j. refl) e (a.runs R) (told.tells R) }
 
-    pub built_ins_done : i ≤ S.built_ins → S.built_ins ≤ i → ToldBuiltIns F S X W c₀ K (Next c)
+    pub built_ins_done : i ≤ S.built_ins → S.built_ins ≤ i → ToldBuiltIns F S X W c₀ K (Ok c)
     built_ins_done l h = record {
-      tells = λ R. subst (λ n. Runs F S X c₀ (tabulate n built_in) R W R W K (Next c)) (same_record i S.built_ins l h) (a.runs R);
+      tells = λ R. subst (λ n. Runs F S X c₀ (tabulate n built_in) R W R W K (Ok c)) (same_record i S.built_ins l h) (a.runs R);
     }
 
 -- struct fields
 pub record FieldsDone (F : List ℕ) (S : Sections) (c₀ : Context) (i : ℕ) (c : Context) : Type 0 where
   pub counted : c ≡ record { structs = c₀.structs; names = c₀.names; steps = c₀.steps + i; pairs = c₀.pairs }
-  pub answered : AnsweredAll F S c₀ (tabulate i struct_fields) (Next c)
+  pub answered : AnsweredAll F S c₀ (tabulate i struct_fields) (Ok c)
 
 module _ {F : List ℕ} {S : Sections} {c₀ : Context} where
   pub fields_start : FieldsDone F S c₀ 0 c₀
@@ -154,11 +154,11 @@ module _ {F : List ℕ} {S : Sections} {c₀ : Context} where
       there = h;
     }
 
-    module _ {t : Stepped} (told : Answered F S c (struct_fields i) t) where
+    module _ {t : Result Context Refusal} (told : Answered F S c (struct_fields i) t) where
       pub fields_stop : i < S.structs → Stopped t → AnsweredAll F S c₀ (tabulate S.structs struct_fields) t
       fields_stop l e = answers_stop struct_fields (λ j. refl) a.answered told S.structs l e
 
-      pub fields_next : {d : Context} → t ≡ Next d → FieldsDone F S c₀ (i + 1) d
+      pub fields_next : {d : Context} → t ≡ Ok d → FieldsDone F S c₀ (i + 1) d
       fields_next {d} e = record {
         counted = answered_next told e ∙ ap with_step a.counted ∙ ap (λ k. record { structs = c₀.structs; names = c₀.names; steps = k; pairs = c₀.pairs }) (one_more c₀.steps i);
         answered = answers_more struct_fields (λ j. refl) a.answered told e;
@@ -167,5 +167,5 @@ module _ {F : List ℕ} {S : Sections} {c₀ : Context} where
           one_more : (k i : ℕ) → k + i + 1 ≡ k + (i + 1)
           one_more k i = omega arith
 
-    pub fields_done : i ≤ S.structs → S.structs ≤ i → AnsweredAll F S c₀ (tabulate S.structs struct_fields) (Next c)
-    fields_done l h = subst (λ n. AnsweredAll F S c₀ (tabulate n struct_fields) (Next c)) (same_record i S.structs l h) a.answered
+    pub fields_done : i ≤ S.structs → S.structs ≤ i → AnsweredAll F S c₀ (tabulate S.structs struct_fields) (Ok c)
+    fields_done l h = subst (λ n. AnsweredAll F S c₀ (tabulate n struct_fields) (Ok c)) (same_record i S.structs l h) a.answered

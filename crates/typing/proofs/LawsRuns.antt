@@ -8,6 +8,7 @@ use native.Mathlib.Omega.{arith}
 use lib.ListN.{get_or}
 use lib.Dec.{ltb}
 use borrow.Author.Tests.{ltb-true, ltb-false}
+use Rattle.std.specs.Prelude.{Result, Ok, Err}
 use Rattle.oat.specs.Tables.{Tables}
 use Rattle.typing_rules.specs.Contexts as Contexts
 use Rattle.typing_rules.specs.Labels.{Label}
@@ -18,10 +19,10 @@ use Rattle.file_sections.specs.declared.Sections.{Sections}
 use Rattle.file_sections.specs.Layout.{tables_of}
 use Rattle.file_sections.specs.Frames.{Kept}
 use Rattle.file_sections.proofs.LawsFrames.{list_kept}
+use Rattle.answers.specs.Answers.{broken_number}
 use Rattle.steps.specs.declared.context.Context.{Context}
-use Rattle.steps.specs.declared.context.Stepped.{Stepped}
-use Rattle.steps.specs.declared.context.Stepped.TheVariants.{Next, Refused}
-use Rattle.steps.specs.Contract.{context_at, summing, after_step, Held, Stepping, accepts, refuses, Steps}
+use Rattle.steps.specs.declared.context.Refusal.{Refusal}
+use Rattle.steps.specs.Contract.{context_at, summing, after_step, refusal_at, Held, Stepping, accepts, refuses, Steps}
 use Rattle.typing.specs.Runs.{after_steps, with_segments, Touched, touched_first, touched_later, Written, written_none, written_next, GoOn, CountsOn, Break, CountsTo, Run, Runs, goes, stops}
 
 -- every step is counted
@@ -93,16 +94,16 @@ pub record Apart (ss ts : List Step) : Type 0 where
   pub never : (i : ℕ) → Touched i ss → Touched i ts → ⊥
 
 -- an answer is one of two
-pub record Stopped (r : Stepped) : Type 0 where
-  pub never : (c : Context) → r ≡ Next c → ⊥
+pub record Stopped (r : Result Context Refusal) : Type 0 where
+  pub never : (c : Context) → r ≡ Ok c → ⊥
 
-pub stopped : (r : Stepped) → ((c : Context) → r ≡ Next c → ⊥) → Stopped r
+pub stopped : (r : Result Context Refusal) → ((c : Context) → r ≡ Ok c → ⊥) → Stopped r
 stopped r h = record { never = h }
 
-pub next_is : {r : Stepped} {c d : Context} → r ≡ Next c → r ≡ Next d → c ≡ d
+pub next_is : {r : Result Context Refusal} {c d : Context} → r ≡ Ok c → r ≡ Ok d → c ≡ d
 next_is e f = cc
 
-pub not_both : {r : Stepped} {c : Context} {p i q k : ℕ} → r ≡ Next c → r ≡ Refused p i q k → ⊥
+pub not_both : {r : Result Context Refusal} {c : Context} {y : Refusal} → r ≡ Ok c → r ≡ Err y → ⊥
 not_both e f = let z : ◌≡◌ {A = ℕ} 0 1 = cc in omega arith
 
 -- one step
@@ -192,11 +193,11 @@ module _ {F : List ℕ} {S : Sections} {X : List ℕ} where
   }
 
   -- no step
-  pub runs_none : {R W K : List ℕ} {c : Context} {r : Stepped} → r ≡ Next c → Held F S X W K c → Runs F S X c [] R W R W K r
+  pub runs_none : {R W K : List ℕ} {c : Context} {r : Result Context Refusal} → r ≡ Ok c → Held F S X W K c → Runs F S X c [] R W R W K r
   unfolding after_steps with_segments
-  runs_none {c = c} e h = goes [] 0 (e ∙ ap (λ k. Next (summing k c)) (sym (add-zero c.pairs))) (record { on = λ rest. refl; counts = λ rest. sym (zero-add _); held = h; written = written_none; kept = λ i t. refl })
+  runs_none {c = c} e h = goes [] 0 (e ∙ ap (λ k. Ok (summing k c)) (sym (add-zero c.pairs))) (record { on = λ rest. refl; counts = λ rest. sym (zero-add _); held = h; written = written_none; kept = λ i t. refl })
 
-  pub runs_one : {c : Context} {s : Step} {R W R' W' K' : List ℕ} {r : Stepped} → Steps F S X c s R W R' W' K' r → Runs F S X c (s ∷ []) R W R' W' K' r
+  pub runs_one : {c : Context} {s : Step} {R W R' W' K' : List ℕ} {r : Result Context Refusal} → Steps F S X c s R W R' W' K' r → Runs F S X c (s ∷ []) R W R' W' K' r
   unfolding after_steps with_segments
   runs_one {c} {s} {R} {W} {R'} {W'} {K'} {r} h =
       go (run_step (tables_of F S) (context_at (tables_of F S) W c) s) (stepping (tables_of F S) (context_at (tables_of F S) W c) s).pairs refl refl h
@@ -211,7 +212,7 @@ module _ {F : List ℕ} {S : Sections} {X : List ℕ} where
             written = written_next refl a.long a.rows written_none;
             kept = one_kept s a.kept;
           })
-      go o j e f (refuses p q k i) = stops p c.steps q k i (one_stop F S W c s p q e) (λ rest. one_counts_to F S W c s p q e rest ∙ f)
+      go o j e f (refuses b p q k n i) = stops (refusal_at (summing (c.pairs + k) c) b q) k i refl (one_stop F S W c s (broken_number b) q (e ∙ ap (λ x. no x q) (sym n))) (λ rest. one_counts_to F S W c s p q e rest ∙ f)
 
   -- one run after another
   module _ {c : Context} {ss ts : List Step} {R W R₁ W₁ K₁ R₂ W₂ K₂ : List ℕ} where
@@ -225,8 +226,8 @@ module _ {F : List ℕ} {S : Sections} {X : List ℕ} where
       kept = λ i t. n.kept i (λ u. t (touched_right ss u)) ∙ m.kept i (λ u. t (touched_left ts u));
     }
 
-    pub runs_then : {d : Context} {r₁ r : Stepped} → Apart ss ts → r₁ ≡ Next d → Runs F S X c ss R W R₁ W₁ K₁ r₁ → Runs F S X d ts R₁ W₁ R₂ W₂ K₂ r → Runs F S X c (ss ++ ts) R W R₂ W₂ K₂ r
-    runs_then a e (stops p i q k f h o) n = absurd (not_both e f)
+    pub runs_then : {d : Context} {r₁ r : Result Context Refusal} → Apart ss ts → r₁ ≡ Ok d → Runs F S X c ss R W R₁ W₁ K₁ r₁ → Runs F S X d ts R₁ W₁ R₂ W₂ K₂ r → Runs F S X c (ss ++ ts) R W R₂ W₂ K₂ r
+    runs_then a e (stops y k f h o u) n = absurd (not_both e f)
     runs_then {d} {r₁} {r} a e (goes gs k f m) n = next (subst (λ x. Runs F S X x ts R₁ W₁ R₂ W₂ K₂ r) (next_is e f) n)
       where
         after : (j : ℕ) → summing (c.pairs + k + j) (after_steps ts (summing (c.pairs + k) (after_steps ss c))) ≡ summing (c.pairs + (k + j)) (after_steps (ss ++ ts) c)
@@ -235,30 +236,30 @@ module _ {F : List ℕ} {S : Sections} {X : List ℕ} where
             ∙ ap₂ (λ i x. summing i x) (add_assoc c.pairs k j) (sym (after_append ss ts c))
 
         next : Runs F S X (summing (c.pairs + k) (after_steps ss c)) ts R₁ W₁ R₂ W₂ K₂ r → Runs F S X c (ss ++ ts) R W R₂ W₂ K₂ r
-        next (goes hs j g n) = goes (gs ++ hs) (k + j) (g ∙ ap (λ x. Next x) (after j)) (then_goes gs hs k j a m (run_summing (c.pairs + k) n))
-        next (stops p i q j g n o) =
-            stops p i q (k + j) (g ∙ ap (Refused p i q) (add_assoc c.pairs k j)) (then_breaks (tables_of F S) c ss ts W W₁ gs p i q m.on n)
+        next (goes hs j g n) = goes (gs ++ hs) (k + j) (g ∙ ap (λ x. Ok x) (after j)) (then_goes gs hs k j a m (run_summing (c.pairs + k) n))
+        next (stops y j g h n o) =
+            stops y (k + j) g (h ∙ add_assoc c.pairs k j) (then_breaks (tables_of F S) c ss ts W W₁ gs (broken_number y.broken) y.step y.place m.on n)
             (then_counts_to (tables_of F S) c ss ts W W₁ k j m.counts o)
 
   -- a refused run stays refused, whatever follows
-  pub runs_stop : {c : Context} {ss : List Step} {R W R₁ W₁ K₁ R₂ W₂ K₂ : List ℕ} {r : Stepped} (ts : List Step) → Stopped r
+  pub runs_stop : {c : Context} {ss : List Step} {R W R₁ W₁ K₁ R₂ W₂ K₂ : List ℕ} {r : Result Context Refusal} (ts : List Step) → Stopped r
       → Runs F S X c ss R W R₁ W₁ K₁ r → Runs F S X c (ss ++ ts) R W R₂ W₂ K₂ r
   runs_stop ts e (goes gs k f m) = absurd (e.never _ f)
-  runs_stop {c} {ss} {W = W} ts e (stops p i q k f n o) =
-      stops p i q k f (breaks_still (tables_of F S) c ss ts W p i q n) (counts_still (tables_of F S) c ss ts W k o)
+  runs_stop {c} {ss} {W = W} ts e (stops y k f h n o) =
+      stops y k f h (breaks_still (tables_of F S) c ss ts W (broken_number y.broken) y.step y.place n) (counts_still (tables_of F S) c ss ts W k o)
 
   -- what an accepted run says
-  pub runs_next : {c d : Context} {ss : List Step} {R W R₁ W₁ K₁ : List ℕ} {r : Stepped} → r ≡ Next d → Runs F S X c ss R W R₁ W₁ K₁ r
+  pub runs_next : {c d : Context} {ss : List Step} {R W R₁ W₁ K₁ : List ℕ} {r : Result Context Refusal} → r ≡ Ok d → Runs F S X c ss R W R₁ W₁ K₁ r
       → (d ≡ summing d.pairs (after_steps ss c)) × Held F S X W₁ K₁ d
   runs_next {c} {d} {ss} {W₁ = W₁} {K₁ = K₁} e (goes gs k f m) =
       let is = next_is e f in
       (is ∙ ap (λ x. summing x.pairs (after_steps ss c)) (sym is), subst (Held F S X W₁ K₁) (sym is) (held_summing (c.pairs + k) m.held))
-  runs_next e (stops p i q k f n o) = absurd (not_both e f)
+  runs_next e (stops y k f h n o) = absurd (not_both e f)
 
-  pub runs_sum : {c d : Context} {ss : List Step} {R W R₁ W₁ K₁ : List ℕ} {r : Stepped} → r ≡ Next d → Runs F S X c ss R W R₁ W₁ K₁ r
+  pub runs_sum : {c d : Context} {ss : List Step} {R W R₁ W₁ K₁ : List ℕ} {r : Result Context Refusal} → r ≡ Ok d → Runs F S X c ss R W R₁ W₁ K₁ r
       → d.pairs ≡ c.pairs + run_pairs (tables_of F S) (context_at (tables_of F S) W c) ss
   unfolding run_pairs
   runs_sum {c} {d} {ss} {W = W} e (goes gs k f m) =
       ap (λ x. x.pairs) (next_is e f)
       ∙ ap (λ i. c.pairs + i) (sym (m.counts [] ∙ add-zero k) ∙ ap (run_pairs (tables_of F S) (context_at (tables_of F S) W c)) (append-nil ss))
-  runs_sum e (stops p i q k f n o) = absurd (not_both e f)
+  runs_sum e (stops y k f h n o) = absurd (not_both e f)

@@ -5,6 +5,7 @@ use Prim.Native.Nat.{ℕ, ◌+◌, ◌*◌, ◌≤◌}
 use native.Mathlib.Omega.{arith}
 use lib.ListN.{length}
 use lib.Dec.{eqb}
+use Rattle.std.specs.Prelude.{Result, Ok, Err}
 use Rattle.oat.specs.Tables.{Tables, built_in_at}
 use Rattle.oat.specs.Types.{struct_of, structs_of}
 use Rattle.oat.proofs.LawsTypes.{TypesFormed, types-formed}
@@ -20,8 +21,7 @@ use Rattle.typing_rules.proofs.LawsPairs.{few_parts, stepping_pairs, step_nodes}
 use Rattle.file_sections.specs.declared.Sections.{Sections}
 use Rattle.file_sections.specs.Layout.{tables_of, GoodTables}
 use Rattle.steps.specs.declared.context.Context.{Context}
-use Rattle.steps.specs.declared.context.Stepped.{Stepped}
-use Rattle.steps.specs.declared.context.Stepped.TheVariants.{Next}
+use Rattle.steps.specs.declared.context.Refusal.{Refusal}
 use Rattle.steps.specs.Contract.{context_at}
 use Rattle.steps.proofs.LawsStepping.{nothing_compared}
 use Rattle.typing.specs.Runs.{Runs}
@@ -78,7 +78,7 @@ pairs_most T F (alike_next {s = s} {ss = ss} z k a) C m e = go (run_step T C s) 
     go (no p q) i f = omega (arith, stepping_pairs (few_parts T F C m e) s)
 
 -- the sum after steps that have run
-module _ {F : List ℕ} {S : Sections} {X : List ℕ} {c d : Context} {ss : List Step} {R W R₁ W₁ K₁ : List ℕ} {r : Stepped} (e : r ≡ Next d) (h : Runs F S X c ss R W R₁ W₁ K₁ r) where
+module _ {F : List ℕ} {S : Sections} {X : List ℕ} {c d : Context} {ss : List Step} {R W R₁ W₁ K₁ : List ℕ} {r : Result Context Refusal} (e : r ≡ Ok d) (h : Runs F S X c ss R W R₁ W₁ K₁ r) where
   pub bare_sum : Bare ss → d.pairs ≡ c.pairs
   bare_sum b = runs_sum e h ∙ omega (arith, bare_pairs (tables_of F S) b (context_at (tables_of F S) W c))
 

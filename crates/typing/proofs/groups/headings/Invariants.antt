@@ -1,13 +1,12 @@
 -- `headings` meets its contract. The loop keeps: the declarations before `node` have had their headings' steps. Assumes nothing.
 use mathlib.Core.Path.{◌≡◌}
 use Prim.Native.Nat.{◌-◌}
-use lib.ListN.{length}
 use Rattle.typing.proofs.LawsHeadings.{HeadingsAlong}
 use Rattle.typing.proofs.groups.headings.Given as goal
 
 abbrev pub invariant-loop-node : goal.invariant-loop-node
 invariant-loop-node l =
-    HeadingsAlong l.file l.sections l.index l.initial.c l.initial.work l.node l.c l.work l.chains × (length l.work ≡ length l.initial.work)
+    HeadingsAlong l.file.bytes.now l.file.sections l.file.index.now l.fn.context l.fn.bindings.work.now l.node l.c l.bindings.work.now l.bindings.chains × (l.bindings.work.ghost_name ≡ l.fn.bindings.work.ghost_name)
 
 abbrev pub decreases-loop-node : goal.decreases-loop-node
-decreases-loop-node l = l.sections.nodes - l.node
+decreases-loop-node l = l.file.sections.nodes - l.node
