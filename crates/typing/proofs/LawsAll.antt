@@ -19,7 +19,7 @@ use Rattle.steps.specs.declared.context.Context.{Context}
 use Rattle.steps.specs.declared.context.Refusal.{Refusal}
 use Rattle.steps.specs.Contract.{summing, Held}
 use Rattle.typing.specs.Runs.{start, after_steps, Touched, touched_first, touched_later, Runs, AnsweredAll, ReadyBuiltIns, ToldBuiltIns, ReadyStructs, ReadyDecls, ToldDecls, HeadingsTold, ReadyRun, first_steps, ToldFirst, program_of, ToldRun}
-use Rattle.typing.proofs.LawsRuns.{Stopped, after_append, touched_either, Apart, runs_then, runs_stop, runs_next}
+use Rattle.typing.proofs.LawsRuns.{HandedUp, after_append, touched_either, Apart, runs_then, runs_stop, runs_next}
 use Rattle.typing.proofs.LawsCounts.{More, after_counted, structs_alike, built_ins_alike, fields_alike, Bare, bare_none, bare_next, structs_bare, built_ins_bare, fields_bare, bare_untouched, headings_group, globals_group, bodies_group}
 use Rattle.typing.proofs.LawsGroups.{group_alike, group_few, group_within, group_sum}
 use Rattle.typing.proofs.LawsSums.{bare_sum}
@@ -76,8 +76,8 @@ module _ {F : List ℕ} {S : Sections} {X W K : List ℕ} (z : ReadyRun F S X W 
   structs_run : {r : Result Context Refusal} → AnsweredAll F S start (tabulate S.structs struct_name) r → (R : List ℕ) → Runs F S X start (tabulate S.structs struct_name) R W R W K r
   structs_run told R = answers_run z.held (structs_alike S.structs) told R
 
-  pub first_structs_stop : {r : Result Context Refusal} → AnsweredAll F S start (tabulate S.structs struct_name) r → Stopped r → ToldFirst F S X W W K r
-  first_structs_stop told e = record { tells = λ R ds D. runs_stop (tabulate S.built_ins built_in ++ headings 0 ds) e (structs_run told R) }
+  pub first_structs_stop : {t r : Result Context Refusal} → AnsweredAll F S start (tabulate S.structs struct_name) t → HandedUp t r → ToldFirst F S X W W K r
+  first_structs_stop told e = subst (ToldFirst F S X W W K) (sym e.same) (record { tells = λ R ds D. runs_stop (tabulate S.built_ins built_in ++ headings 0 ds) e.stopped (structs_run told R) })
 
   module _ {r₁ : Result Context Refusal} {c : Context} (told₁ : AnsweredAll F S start (tabulate S.structs struct_name) r₁) (e₁ : r₁ ≡ Ok c) where
     structs_counted : More start c S.structs 0 S.structs
@@ -103,11 +103,11 @@ module _ {F : List ℕ} {S : Sections} {X W K : List ℕ} (z : ReadyRun F S X W 
       both : (R : List ℕ) → Runs F S X start (tabulate S.structs struct_name ++ tabulate S.built_ins built_in) R W R W K₂ r₂
       both R = runs_then (apart_bare _ (built_ins_bare S.built_ins)) e₁ (structs_run told₁ R) (told₂.tells R)
 
-      pub first_built_ins_stop : Stopped r₂ → ToldFirst F S X W W K₂ r₂
-      first_built_ins_stop e = record {
+      pub first_built_ins_stop : {r : Result Context Refusal} → HandedUp r₂ r → ToldFirst F S X W W K₂ r
+      first_built_ins_stop e = subst (ToldFirst F S X W W K₂) (sym e.same) record {
         tells = λ R ds D.
             subst (λ ss. Runs F S X start ss R W R W K₂ r₂) (append_assoc (tabulate S.structs struct_name) (tabulate S.built_ins built_in) (headings 0 ds))
-            (runs_stop (headings 0 ds) e (both R));
+            (runs_stop (headings 0 ds) e.stopped (both R));
       }
 
       module _ {d : Context} (e₂ : r₂ ≡ Ok d) where
@@ -144,11 +144,11 @@ module _ {F : List ℕ} {S : Sections} {X W K : List ℕ} (z : ReadyRun F S X W 
         }
 
   -- all groups
-  pub all_first_stop : {R W' K' : List ℕ} {r : Result Context Refusal} → ToldFirst F S X W W' K' r → Stopped r → ToldRun F S X R W R W' K' r
-  all_first_stop {R} {W'} {K'} {r} told e = record {
+  pub all_first_stop : {R W' K' : List ℕ} {t r : Result Context Refusal} → ToldFirst F S X W W' K' t → HandedUp t r → ToldRun F S X R W R W' K' r
+  all_first_stop {R} {W'} {K'} {t} told e = subst (ToldRun F S X R W R W' K') (sym e.same) record {
     tells = λ ds D.
-        subst (λ ss. Runs F S X start ss R W R W' K' r) (simp append_assoc (all_are F S ds))
-        (runs_stop (globals 0 ds ++ (tabulate S.structs struct_fields ++ bodies 0 ds)) e (told.tells R ds D));
+        subst (λ ss. Runs F S X start ss R W R W' K' t) (simp append_assoc (all_are F S ds))
+        (runs_stop (globals 0 ds ++ (tabulate S.structs struct_fields ++ bodies 0 ds)) e.stopped (told.tells R ds D));
   }
 
   module _ {r₁ : Result Context Refusal} {c : Context} {W₁ K₁ : List ℕ} (told₁ : ToldFirst F S X W W₁ K₁ r₁) (e₁ : r₁ ≡ Ok c) where
@@ -197,9 +197,9 @@ module _ {F : List ℕ} {S : Sections} {X W K : List ℕ} (z : ReadyRun F S X W 
       second : (ds : List Decl) → Declares F S ds → Runs F S X start (first_steps S ds ++ globals 0 ds) R W R₂ W₂ K₂ r₂
       second ds D = runs_then (apart_first (globals 0 ds) (first_bare S ds)) e₁ (told₁.tells R ds D) (told₂.tells ds D)
 
-      pub all_globals_stop : Stopped r₂ → ToldRun F S X R W R₂ W₂ K₂ r₂
-      all_globals_stop e = record {
-        tells = λ ds D. subst (λ ss. Runs F S X start ss R W R₂ W₂ K₂ r₂) (simp append_assoc (all_are F S ds)) (runs_stop (tabulate S.structs struct_fields ++ bodies 0 ds) e (second ds D));
+      pub all_globals_stop : {r : Result Context Refusal} → HandedUp r₂ r → ToldRun F S X R W R₂ W₂ K₂ r
+      all_globals_stop e = subst (ToldRun F S X R W R₂ W₂ K₂) (sym e.same) record {
+        tells = λ ds D. subst (λ ss. Runs F S X start ss R W R₂ W₂ K₂ r₂) (simp append_assoc (all_are F S ds)) (runs_stop (tabulate S.structs struct_fields ++ bodies 0 ds) e.stopped (second ds D));
       }
 
       module _ {d : Context} (e₂ : r₂ ≡ Ok d) where
@@ -237,9 +237,9 @@ module _ {F : List ℕ} {S : Sections} {X W K : List ℕ} (z : ReadyRun F S X W 
           third : (ds : List Decl) → Declares F S ds → Runs F S X start (first_steps S ds ++ globals 0 ds ++ tabulate S.structs struct_fields) R W R₂ W₂ K₂ r₃
           third ds D = runs_then (apart_bare _ (fields_bare S.structs)) e₂ (second ds D) fields_run
 
-          pub all_fields_stop : Stopped r₃ → ToldRun F S X R W R₂ W₂ K₂ r₃
-          all_fields_stop e = record {
-            tells = λ ds D. subst (λ ss. Runs F S X start ss R W R₂ W₂ K₂ r₃) (simp append_assoc (all_are F S ds)) (runs_stop (bodies 0 ds) e (third ds D));
+          pub all_fields_stop : {r : Result Context Refusal} → HandedUp r₃ r → ToldRun F S X R W R₂ W₂ K₂ r
+          all_fields_stop e = subst (ToldRun F S X R W R₂ W₂ K₂) (sym e.same) record {
+            tells = λ ds D. subst (λ ss. Runs F S X start ss R W R₂ W₂ K₂ r₃) (simp append_assoc (all_are F S ds)) (runs_stop (bodies 0 ds) e.stopped (third ds D));
           }
 
           module _ {b : Context} (e₃ : r₃ ≡ Ok b) where

@@ -10,7 +10,7 @@ use Rattle.std.specs.Prelude.{Result, Ok, Err}
 use Rattle.oat.specs.Basics.{tabulate}
 use Rattle.oat.specs.Tables.{Tables}
 use Rattle.typing_rules.specs.Contexts as Contexts
-use Rattle.typing_rules.specs.Judge.{Out}
+use Rattle.typing_rules.specs.Judge.{Out, no}
 use Rattle.typing_rules.specs.Steps.{Step, struct_name, built_in, heading, global_value, struct_fields, body}
 use Rattle.typing_rules.specs.Check.{rows_begin, step_rows, stepping, run_step, run_pairs, node_count}
 use Rattle.typing_rules.proofs.LawsSteps.{tabulate_more}

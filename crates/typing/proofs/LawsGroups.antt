@@ -19,7 +19,7 @@ use Rattle.steps.specs.declared.context.Context.{Context}
 use Rattle.steps.specs.declared.context.Refusal.{Refusal}
 use Rattle.steps.specs.Contract.{Held}
 use Rattle.typing.specs.Runs.{Touched, Runs, ReadyDecl, ToldDecl, ReadyDecls, ToldDecls}
-use Rattle.typing.proofs.LawsRuns.{Stopped, touched_either, Apart, runs_none, runs_then, runs_stop, runs_next}
+use Rattle.typing.proofs.LawsRuns.{HandedUp, touched_either, Apart, runs_none, runs_then, runs_stop, runs_next}
 use Rattle.typing.proofs.LawsCounts.{Alike, alike_none, alike_append, More, after_counted, bare_none, bare_untouched, Group}
 use Rattle.typing.proofs.LawsSums.{alike_sum}
 
@@ -166,8 +166,9 @@ module _ {steps : ℕ → List Decl → List Step} {k : ℕ} (g : Group steps k)
                   }
 
       -- a refusal
-      pub along_stop : {R' W' K' : List ℕ} {t : Result Context Refusal} → node < S.nodes → ToldDecl steps F S X c node R W R' W' K' t → Stopped t → ToldDecls steps F S X c₀ R₀ W₀ R' W' K' t
-      along_stop {R'} {W'} {K'} {t} h told e = record { tells = go }
+      pub along_stop : {R' W' K' : List ℕ} {t : Result Context Refusal} → node < S.nodes → ToldDecl steps F S X c node R W R' W' K' t → {r : Result Context Refusal} → HandedUp t r
+          → ToldDecls steps F S X c₀ R₀ W₀ R' W' K' r
+      along_stop {R'} {W'} {K'} {t} h told e = subst (ToldDecls steps F S X c₀ R₀ W₀ R' W' K') (sym e.same) (record { tells = go })
         where
           go : (ds : List Decl) → Declares F S ds → Runs F S X c₀ (steps 0 ds) R₀ W₀ R' W' K' t
           go ds D =
@@ -175,7 +176,7 @@ module _ {steps : ℕ → List Decl → List Step} {k : ℕ} (g : Group steps k)
               next_decl D r.passed h λ x ys q s.
               subst (λ ss. Runs F S X c₀ ss R₀ W₀ R' W' K' t)
               (ap (λ m. steps 0 r.passed.done ++ steps m (x ∷ []) ++ steps (m + size_decl x) ys) (r.passed.here ∙ omega arith) ∙ whole ds r.passed.done x ys (r.passed.split ∙ ap (λ l. r.passed.done ++ l) q))
-              (runs_stop (steps (node + size_decl x) ys) e (runs_then (group_apart g r.passed.done x node r.passed.here) refl r.runs (told.tells x s)))
+              (runs_stop (steps (node + size_decl x) ys) e.stopped (runs_then (group_apart g r.passed.done x node r.passed.here) refl r.runs (told.tells x s)))
             where
               whole : (ds done : List Decl) (x : Decl) (ys : List Decl) → ds ≡ done ++ (x ∷ ys)
                   → steps 0 done ++ steps (0 + size_decls done) (x ∷ []) ++ steps (0 + size_decls done + size_decl x) ys ≡ steps 0 ds

@@ -10,7 +10,7 @@ use Rattle.file_sections.specs.Trees.{Tree, Past}
 use Rattle.steps.specs.declared.context.Context.{Context}
 use Rattle.steps.specs.declared.context.Refusal.{Refusal}
 use Rattle.typing.specs.Runs.{ReadyDecl, HeadingTold, ReadyDecls, HeadingsTold}
-use Rattle.typing.proofs.LawsRuns.{Stopped}
+use Rattle.typing.proofs.LawsRuns.{HandedUp}
 use Rattle.typing.proofs.LawsCounts.{headings_group}
 use Rattle.typing.proofs.LawsGroups.{Along, along_start, along_ready, along_tree, along_falls, along_next, along_stop, along_done}
 
@@ -29,7 +29,7 @@ module _ {F : List ℕ} {S : Sections} {X : List ℕ} {c₀ : Context} {W₀ K�
     headings_tree h = along_tree headings_group (a.with_rows []) z h
 
     module _ (h : node < S.nodes) where
-      pub headings_stop : {W' K' : List ℕ} {t : Result Context Refusal} → HeadingTold F S X c node W W' K' t → Stopped t → HeadingsTold F S X c₀ W₀ W' K' t
+      pub headings_stop : {W' K' : List ℕ} {t : Result Context Refusal} → HeadingTold F S X c node W W' K' t → {r : Result Context Refusal} → HandedUp t r → HeadingsTold F S X c₀ W₀ W' K' r
       headings_stop told e = record { tells = λ R. along_stop headings_group (a.with_rows R) z h (told.tells R) e }
 
       module _ {n : ℕ} (p : Past F S node n) where

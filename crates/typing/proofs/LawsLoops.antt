@@ -16,7 +16,7 @@ use Rattle.steps.specs.declared.context.Context.{Context}
 use Rattle.steps.specs.declared.context.Refusal.{Refusal}
 use Rattle.steps.specs.Contract.{with_struct, with_step, Answered, Steps, Rowless, Copied, ReadyStruct, ToldStruct, ReadyBuiltIn, ReadyFields}
 use Rattle.typing.specs.Runs.{start, Runs, AnsweredAll, ReadyBuiltIns, ToldBuiltIns, ReadyStructs}
-use Rattle.typing.proofs.LawsRuns.{Stopped, Apart, runs_none, runs_one, runs_then, runs_stop, runs_next}
+use Rattle.typing.proofs.LawsRuns.{HandedUp, Apart, runs_none, runs_one, runs_then, runs_stop, runs_next}
 use Rattle.typing.proofs.LawsCounts.{after_counted, built_ins_alike, Bare, bare_none, bare_next, bare_untouched, tabulate_rest}
 use Rattle.typing.proofs.LawsAnswers.{answered_next, all_none, answers_stop, answers_more}
 
@@ -30,11 +30,11 @@ module _ (f : ℕ → Step) (b : (i : ℕ) → node_count (f i) ≡ 0) {F : List
       subst (λ ss. Runs F S X c₀ ss R₀ W₀ R' W' K' t) (tabulate_more i f)
       (runs_then (apart_bare (tabulate i f) (bare_next (b i) bare_none)) refl a (runs_one h))
 
-  records_stop : (n : ℕ) → i < n → Stopped t → Runs F S X c₀ (tabulate i f) R₀ W₀ R W K (Ok c) → Steps F S X c (f i) R W R' W' K' t
-      → Runs F S X c₀ (tabulate n f) R₀ W₀ R' W' K' t
+  records_stop : (n : ℕ) {r : Result Context Refusal} → i < n → HandedUp t r → Runs F S X c₀ (tabulate i f) R₀ W₀ R W K (Ok c) → Steps F S X c (f i) R W R' W' K' t
+      → Runs F S X c₀ (tabulate n f) R₀ W₀ R' W' K' r
   records_stop n l e a h =
       let (rest, q) = tabulate_rest (i + 1) n f (omega arith) in
-      subst (λ ss. Runs F S X c₀ ss R₀ W₀ R' W' K' t) q (runs_stop rest e (one_after a h))
+      subst (Runs F S X c₀ (tabulate n f) R₀ W₀ R' W' K') (sym e.same) (subst (λ ss. Runs F S X c₀ ss R₀ W₀ R' W' K' t) q (runs_stop rest e.stopped (one_after a h)))
 
   records_next : {d : Context} → t ≡ Ok d → Runs F S X c₀ (tabulate i f) R₀ W₀ R W K (Ok c) → Steps F S X c (f i) R W R' W' K' t
       → Runs F S X c₀ (tabulate (i + 1) f) R₀ W₀ R' W' K' (Ok d)
@@ -74,8 +74,8 @@ module _ {F : List ℕ} {S : Sections} where
     }
 
     module _ {N' : List ℕ} {t : Result Context Refusal} (told : ToldStruct F S c i N' t) where
-      pub structs_stop : i < S.structs → Stopped t → AnsweredAll F S start (tabulate S.structs struct_name) t
-      structs_stop l e = answers_stop struct_name (λ j. refl) a.answered told.answered S.structs l e
+      pub structs_stop : {r : Result Context Refusal} → i < S.structs → HandedUp t r → AnsweredAll F S start (tabulate S.structs struct_name) r
+      structs_stop l e = subst (AnsweredAll F S start (tabulate S.structs struct_name)) (sym e.same) (answers_stop struct_name (λ j. refl) a.answered told.answered S.structs l e.stopped)
 
       pub structs_next : {d : Context} → t ≡ Ok d → StructsDone F S N' (i + 1) d
       structs_next {d} e =
@@ -88,6 +88,10 @@ module _ {F : List ℕ} {S : Sections} where
 
     pub structs_done : i ≤ S.structs → S.structs ≤ i → AnsweredAll F S start (tabulate S.structs struct_name) (Ok c)
     structs_done l h = subst (λ n. AnsweredAll F S start (tabulate n struct_name) (Ok c)) (same_record i S.structs l h) a.answered
+
+-- the stack is the same before and after a built-in
+pub same_stack : {F : List ℕ} {S : Sections} {X W W₁ W₂ K : List ℕ} {c : Context} {s : Step} {r : Result Context Refusal} → W₁ ≡ W → W₂ ≡ W₁ → Rowless F S X c s W₁ W₂ K r → Rowless F S X c s W W K r
+same_stack {F} {S} {X} {W} {W₁} {W₂} {K} {c} {s} {r} e f m = subst (λ V. Rowless F S X c s V V K r) e (subst (λ V. Rowless F S X c s W₁ V K r) f m)
 
 -- built-ins
 pub record BuiltInsDone (F : List ℕ) (S : Sections) (X W : List ℕ) (c₀ : Context) (K : List ℕ) (i : ℕ) (c : Context) : Type 0 where
@@ -116,7 +120,7 @@ module _ {F : List ℕ} {S : Sections} {X W : List ℕ} {c₀ : Context} where
         }
 
     module _ {K' : List ℕ} {t : Result Context Refusal} (told : Rowless F S X c (built_in i) W W K' t) where
-      pub built_ins_stop : i < S.built_ins → Stopped t → ToldBuiltIns F S X W c₀ K' t
+      pub built_ins_stop : {r : Result Context Refusal} → i < S.built_ins → HandedUp t r → ToldBuiltIns F S X W c₀ K' r
       built_ins_stop l e = record { tells = λ R. records_stop built_in (λ j. refl) S.built_ins l e (a.runs R) (told.tells R) }
 
       pub built_ins_next : {d : Context} → t ≡ Ok d → BuiltInsDone F S X W c₀ K' (i + 1) d
@@ -155,8 +159,8 @@ module _ {F : List ℕ} {S : Sections} {c₀ : Context} where
     }
 
     module _ {t : Result Context Refusal} (told : Answered F S c (struct_fields i) t) where
-      pub fields_stop : i < S.structs → Stopped t → AnsweredAll F S c₀ (tabulate S.structs struct_fields) t
-      fields_stop l e = answers_stop struct_fields (λ j. refl) a.answered told S.structs l e
+      pub fields_stop : {r : Result Context Refusal} → i < S.structs → HandedUp t r → AnsweredAll F S c₀ (tabulate S.structs struct_fields) r
+      fields_stop l e = subst (AnsweredAll F S c₀ (tabulate S.structs struct_fields)) (sym e.same) (answers_stop struct_fields (λ j. refl) a.answered told S.structs l e.stopped)
 
       pub fields_next : {d : Context} → t ≡ Ok d → FieldsDone F S c₀ (i + 1) d
       fields_next {d} e = record {

@@ -8,7 +8,8 @@ use native.Mathlib.Omega.{arith}
 use lib.ListN.{get_or}
 use lib.Dec.{ltb}
 use borrow.Author.Tests.{ltb-true, ltb-false}
-use Rattle.std.specs.Prelude.{Result, Ok, Err}
+use Rattle.std.specs.Prelude.{Result, Ok, Err, IsErrAnd}
+use Rattle.std.proofs.lemmas.Result.{err_from_is_err_and}
 use Rattle.oat.specs.Tables.{Tables}
 use Rattle.typing_rules.specs.Contexts as Contexts
 use Rattle.typing_rules.specs.Labels.{Label}
@@ -97,14 +98,21 @@ pub record Apart (ss ts : List Step) : Type 0 where
 pub record Stopped (r : Result Context Refusal) : Type 0 where
   pub never : (c : Context) → r ≡ Ok c → ⊥
 
-pub stopped : (r : Result Context Refusal) → ((c : Context) → r ≡ Ok c → ⊥) → Stopped r
-stopped r h = record { never = h }
-
 pub next_is : {r : Result Context Refusal} {c d : Context} → r ≡ Ok c → r ≡ Ok d → c ≡ d
 next_is e f = cc
 
 pub not_both : {r : Result Context Refusal} {c : Context} {y : Refusal} → r ≡ Ok c → r ≡ Err y → ⊥
 not_both e f = let z : ◌≡◌ {A = ℕ} 0 1 = cc in omega arith
+
+-- the refusal t is handed up as r
+pub record HandedUp (t r : Result Context Refusal) : Type 0 where
+  pub stopped : Stopped t
+  pub same : r ≡ t
+
+pub handed_up : {t r : Result Context Refusal} {y : Refusal} → t ≡ Err y → IsErrAnd r (λ x. x ≡ y) → HandedUp t r
+handed_up {t} {r} {y} e h =
+    let (x, f, g) = err_from_is_err_and r h in
+    record { stopped = record { never = λ c f. not_both f e }; same = f ∙ ap Err g ∙ sym e }
 
 -- one step
 module _ (F : List ℕ) (S : Sections) (W : List ℕ) (c : Context) (s : Step) where
