@@ -12,6 +12,7 @@ use Rattle.oat.specs.Basics.{tabulate}
 use Rattle.oat.specs.Types.{Ty}
 use Rattle.oat.specs.ProgramFile.{Limits, in_range, Program, blank_program, blank_file, meant, IsFile}
 use Rattle.oat.proofs.LawsBlank.{meant_twice, same_meaning, blank-file, blank_is_file}
+use Rattle.file_sections.specs.declared.Unreadable.TheVariants.{Length}
 use Rattle.program_file.specs.Reading.{reading_of}
 use Rattle.program_file.proofs.Blank.{reading_meant, blank-program, one_byte}
 use Rattle.typing_rules.specs.Contexts.{Context}
@@ -43,7 +44,7 @@ module _ (limits : Limits) (range : in_range limits ≡ true) where
   blank_only rows work o c = one_outcome limits [] rows work o _ c (blank_outcome rows work)
 
   pub one_byte_only : (b : ℕ) (rows work : List ℕ) (o : Outcome) → Checks limits (b ∷ []) rows work o → o ≡ outcome 1 0 0 0 rows
-  one_byte_only b rows work o c = unread limits (b ∷ []) rows work 1 o (one_byte limits range b) c
+  one_byte_only b rows work o c = unread limits (b ∷ []) rows work Length o (one_byte limits range b) c
 
 -- no step gives nothing, and leaves the context as it is
 one_derivation : OneFirst blank_program (length (steps_of blank_program)) (λ n. unlabelled) empty_context

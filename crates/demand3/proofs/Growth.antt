@@ -16,7 +16,9 @@ use Rattle.oat.specs.Syntax.{depth_decls}
 use Rattle.oat.specs.ProgramFile.{Limits, in_range, Within, Program, meant, IsFile}
 use Rattle.oat.proofs.LawsLimits.{within_widest, more_parts, wider}
 use Rattle.file_sections.specs.declared.Sections.{Sections}
-use Rattle.file_sections.specs.declared.Reading.TheVariants.{Refused, Good}
+use Rattle.std.specs.Prelude.{Ok, Err}
+use Rattle.file_sections.specs.declared.Unreadable.{Unreadable}
+use Rattle.file_sections.specs.Unreadable.{unreadable_number}
 use Rattle.file_sections.specs.Layout.{tables_of}
 use Rattle.program_file.specs.Reading.{reading_within, reading_of}
 use Rattle.program_file.proofs.LawsReading.{reading_in_range}
@@ -27,8 +29,17 @@ use Rattle.demand3.specs.CheckFile.{needed, Outcome, outcome, Checks, unreadable
 use Rattle.demand3.specs.Growth.{Lasting, SameAnswer, Deeper, Moves, stays, by_parts, by_depth}
 use Rattle.demand3.proofs.Theorem.{fits, check_numbers, check_long, unread, one_outcome}
 
+-- 3 is the number of broken rules on types alone
+three_is : (n : Unreadable) → unreadable_number n ≡ 3 → n ≡ Unreadable.Types
+three_is Unreadable.Types e = refl
+three_is Unreadable.Length e = absurd (omega (arith, e))
+three_is Unreadable.Count e = absurd (omega (arith, e))
+three_is Unreadable.Tables e = absurd (omega (arith, e))
+three_is Unreadable.Nodes e = absurd (omega (arith, e))
+three_is Unreadable.Limits e = absurd (omega (arith, e))
+
 -- 25 and 1 to 5 do not last
-not_lasting : (limits : Limits) (s : List ℕ) (n : ℕ) → reading_of limits s ≡ Refused n → Lasting n → ⊥
+not_lasting : (limits : Limits) (s : List ℕ) (n : Unreadable) → reading_of limits s ≡ Err n → Lasting (unreadable_number n) → ⊥
 not_lasting limits s n e k =
     ⊎_elim
     (λ out. ⊎_elim (λ z. omega (arith, z)) (λ h. omega (arith, h.1)) k)
@@ -62,7 +73,7 @@ module _ (a b : Limits) (range : in_range b ≡ true) (w : Within a b) (bytes ro
 
 module _ (a b : Limits) (narrow : in_range a ≡ true) (range : in_range b ≡ true) (w : Within a b) (bytes : List ℕ) (y : Bytes bytes) (rows work : List ℕ) where
   -- a file that a alone refuses under 5 is a program file under b, and deeper than a lets it be
-  deeper : (n : ℕ) → reading_within a (meant bytes) ≡ Refused n → (S : Sections) → types_right a.parts (tables_of (meant bytes) S) ≡ true → reading_within b (meant bytes) ≡ Good S → Deeper a b bytes
+  deeper : (n : Unreadable) → reading_within a (meant bytes) ≡ Err n → (S : Sections) → types_right a.parts (tables_of (meant bytes) S) ≡ true → reading_within b (meant bytes) ≡ Ok S → Deeper a b bytes
   deeper n e S ea good =
       let (p, f) = program-of b bytes S y good in
       record { program = p; file = f; more = go p f (leb (depth_decls p.declarations) a.depth) refl }
@@ -84,26 +95,27 @@ module _ (a b : Limits) (narrow : in_range a ≡ true) (range : in_range b ≡ t
           absurd (let z : ◌≡◌ {A = ℕ} 0 1 = cc in omega arith)
 
   -- the number under b of a file that is read under b
-  lasting_under : (S : Sections) → reading_of b bytes ≡ Good S → (u : Outcome) → Checks b bytes rows work u → Lasting u.number
+  lasting_under : (S : Sections) → reading_of b bytes ≡ Ok S → (u : Outcome) → Checks b bytes rows work u → Lasting u.number
   lasting_under S good u (unreadable n e) = absurd (let z : ◌≡◌ {A = ℕ} 0 1 = cc in omega arith)
   lasting_under S good u (rows_short i p f l) = inr (omega arith, omega arith)
   lasting_under S good u (work_short i p f l k) = inr (omega arith, omega arith)
   lasting_under S good u (checked i p f l k) = ⊎_elim inl (λ h. inr (omega (arith, h.0), h.1)) (check_numbers p)
 
   -- 3 is the number of no outcome but that of a reading
-  not_three : (reading_within b (meant bytes) ≡ Refused 3 → ⊥) → (u : Outcome) → Checks b bytes rows work u → u.number ≡ 3 → ⊥
-  not_three none u (unreadable n e) h = none (sym (reading_in_range b bytes range) ∙ e ∙ ap Refused h)
+  not_three : (reading_within b (meant bytes) ≡ Err Unreadable.Types → ⊥) → (u : Outcome) → Checks b bytes rows work u → u.number ≡ 3 → ⊥
+  not_three none u (unreadable n e) h = none (sym (reading_in_range b bytes range) ∙ e ∙ ap Err (three_is n h))
   not_three none u (rows_short i p f l) h = omega (arith, h)
   not_three none u (work_short i p f l k) h = omega (arith, h)
   not_three none u (checked i p f l k) h = ⊎_elim (λ z. omega (arith, z, h)) (λ m. omega (arith, m.0, h)) (check_numbers p)
 
-  unread_moves : (n : ℕ) → reading_within a (meant bytes) ≡ Refused n → Goes a b (meant bytes) n → (u : Outcome) → Checks b bytes rows work u → Moves a b bytes (outcome n 0 0 0 rows) u
+  unread_moves : (n : Unreadable) → reading_within a (meant bytes) ≡ Err n → Goes a b (meant bytes) n → (u : Outcome) → Checks b bytes rows work u
+      → Moves a b bytes (outcome (unreadable_number n) 0 0 0 rows) u
   unread_moves n e (same second) u d = stays (sym (unread b bytes rows work n u (reading_in_range b bytes range ∙ second) d))
   unread_moves n e (types three S h ea eb none) u d =
       let (i, there, more) = more_parts a.parts b.parts (tables_of (meant bytes) S) eb ea in
-      by_parts three (not_three none u d) (record { sections = S; cut = h; type = i; there = there; more = more; right = eb })
+      by_parts (ap unreadable_number three) (not_three none u d) (record { sections = S; cut = h; type = i; there = there; more = more; right = eb })
   unread_moves n e (trees five S ea good) u d =
-      by_depth five (lasting_under S (reading_in_range b bytes range ∙ good) u d) (deeper n e S ea good)
+      by_depth (ap unreadable_number five) (lasting_under S (reading_in_range b bytes range ∙ good) u d) (deeper n e S ea good)
 
   pub moves : (o u : Outcome) → Checks a bytes rows work o → Checks b bytes rows work u → Moves a b bytes o u
   moves o u (unreadable n e) d =

@@ -17,8 +17,10 @@ use Rattle.oat.specs.Types.{Ty}
 use Rattle.oat.specs.Syntax.{Decl, size, size_block, size_decls}
 use Rattle.oat.specs.ProgramFile.{Limits, in_range, widest, Program, IsFile}
 use Rattle.oat.proofs.LawsLimits.{within_widest, wider}
-use Rattle.file_sections.specs.declared.Reading.{Reading}
-use Rattle.file_sections.specs.declared.Reading.TheVariants.{Refused, Good}
+use Rattle.std.specs.Prelude.{Result, Ok, Err}
+use Rattle.file_sections.specs.declared.Sections.{Sections}
+use Rattle.file_sections.specs.declared.Unreadable.{Unreadable}
+use Rattle.file_sections.specs.Unreadable.{unreadable_number}
 use Rattle.program_file.specs.Reading.{reading_of}
 use Rattle.program_file.proofs.LawsReading.{reading_out_of_range, good_in_range}
 use Rattle.program_file.proofs.Theorem.{Bytes, program-of, one_program, refused_from_1_to_5, refused_numbers, not_refused}
@@ -154,9 +156,9 @@ module _ (limits : Limits) (bytes rows work : List ℕ) where
   lengths i p f false true h k = (_, work_short i p f (ltb-false (length rows) (needed p) h) (ltb-true (length work) (needed p) k))
   lengths i p f false false h k = (_, checked i p f (ltb-false (length rows) (needed p) h) (ltb-false (length work) (needed p) k))
 
-  reads : Bytes bytes → (r : Reading) → reading_of limits bytes ≡ r → (o : Outcome) × Checks limits bytes rows work o
-  reads b (Refused n) e = (_, unreadable n e)
-  reads b (Good S) e =
+  reads : Bytes bytes → (r : Result Sections Unreadable) → reading_of limits bytes ≡ r → (o : Outcome) × Checks limits bytes rows work o
+  reads b (Err n) e = (_, unreadable n e)
+  reads b (Ok S) e =
       let (i, good) = good_in_range limits bytes S e in
       let (p, f) = program-of limits bytes S b good in
       lengths i p f _ _ refl refl
@@ -212,15 +214,15 @@ outcome_for p rows work =
     (pick (ltb (length work) (needed p)) (outcome 6 0 0 0 rows) (outcome_of p rows (check_of p)))
 
 module _ (limits : Limits) (bytes rows work : List ℕ) where
-  pub unread : (n : ℕ) (o : Outcome) → reading_of limits bytes ≡ Refused n → Checks limits bytes rows work o → o ≡ outcome n 0 0 0 rows
-  unread n o e (unreadable m h) = let same : m ≡ n = cc in ap (λ k. outcome k 0 0 0 rows) same
+  pub unread : (n : Unreadable) (o : Outcome) → reading_of limits bytes ≡ Err n → Checks limits bytes rows work o → o ≡ outcome (unreadable_number n) 0 0 0 rows
+  unread n o e (unreadable m h) = let same : m ≡ n = cc in ap (λ k. outcome (unreadable_number k) 0 0 0 rows) same
   unread n o e (rows_short i p f l) = absurd (not_refused limits i bytes n e p f)
   unread n o e (work_short i p f l k) = absurd (not_refused limits i bytes n e p f)
   unread n o e (checked i p f l k) = absurd (not_refused limits i bytes n e p f)
 
   -- 25 exactly when a limit is out of its range, whatever the bytes and the buffers are
   pub limits_first : in_range limits ≡ false → (o : Outcome) → Checks limits bytes rows work o → o ≡ outcome 25 0 0 0 rows
-  limits_first out o c = unread 25 o (reading_out_of_range limits bytes out) c
+  limits_first out o c = unread Unreadable.Limits o (reading_out_of_range limits bytes out) c
 
   pub limits_alone : (o : Outcome) → Checks limits bytes rows work o → o.number ≡ 25 → in_range limits ≡ false
   limits_alone o c h = go (in_range limits) refl

@@ -1,9 +1,10 @@
 -- The check on limits, bytes and buffers (document 01, 'Rows and answers'; document 02, (xi)): 25, then 1 to 5, then 6, then the check of the
 -- program whose file the bytes are. A file has one program at most (`program_file`, proofs/Theorem.antt), so this gives one outcome for
 -- every input. Assumes nothing.
-use Rattle.std.specs.Prelude.{◌≡◌, true, List, ◌++◌, ℕ, ◌*◌, ◌≤◌, ◌<◌, length, drop}
+use Rattle.std.specs.Prelude.{◌≡◌, true, List, ◌++◌, ℕ, ◌*◌, ◌≤◌, ◌<◌, length, drop, Err}
 use Rattle.oat.specs.ProgramFile.{Limits, in_range, Program, IsFile}
-use Rattle.file_sections.specs.declared.Reading.TheVariants.{Refused}
+use Rattle.file_sections.specs.declared.Unreadable.{Unreadable}
+use Rattle.file_sections.specs.Unreadable.{unreadable_number}
 use Rattle.program_file.specs.Reading.{reading_of}
 use Rattle.typing_rules.specs.Check.{check_of}
 
@@ -25,7 +26,7 @@ outcome n s q k rows = record { number = n; step = s; place = q; pairs = k; rows
 -- the outcome of the check under these limits, on these bytes, with these rows and work
 pub data Checks (limits : Limits) (bytes rows work : List ℕ) : Outcome → Type 0 where
   -- 25 and 1 to 5 come with step, place and pairs 0, and change no buffer
-  unreadable : (n : ℕ) → reading_of limits bytes ≡ Refused n → Checks limits bytes rows work (outcome n 0 0 0 rows)
+  unreadable : (e : Unreadable) → reading_of limits bytes ≡ Err e → Checks limits bytes rows work (outcome (unreadable_number e) 0 0 0 rows)
   -- 6: rows or work short; the same
   rows_short : in_range limits ≡ true → (p : Program) → IsFile limits bytes p → length rows < needed p → Checks limits bytes rows work (outcome 6 0 0 0 rows)
   work_short : in_range limits ≡ true → (p : Program) → IsFile limits bytes p → needed p ≤ length rows → length work < needed p → Checks limits bytes rows work (outcome 6 0 0 0 rows)

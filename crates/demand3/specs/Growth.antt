@@ -1,11 +1,10 @@
 -- Limits that grow (document 02, (xi)): what stays, and which files move, between two settings of which the second is at least the first in
 -- both. Assumes nothing.
-use Rattle.std.specs.Prelude.{◌≡◌, true, List, ◌⊎◌, ℕ, ◌≤◌, ◌<◌, length, take}
+use Rattle.std.specs.Prelude.{◌≡◌, true, List, ◌⊎◌, ℕ, ◌≤◌, ◌<◌, length, take, Ok}
 use Rattle.oat.specs.TypeRules.{parts_at, types_right}
 use Rattle.oat.specs.Syntax.{depth_decls}
 use Rattle.oat.specs.ProgramFile.{Limits, Program, meant, IsFile}
 use Rattle.file_sections.specs.declared.Sections.{Sections}
-use Rattle.file_sections.specs.declared.Reading.TheVariants.{Good}
 use Rattle.file_sections.specs.Layout.{sections_of, tables_of}
 use Rattle.demand3.specs.CheckFile.{needed, Outcome}
 
@@ -24,7 +23,7 @@ pub record SameAnswer (p : Program) (o u : Outcome) : Type 0 where
 -- the sections of the bytes that are meant can be cut, some type has more parts than the limits a let it have, and under b no rule of types is broken
 pub record MoreParts (a b : Limits) (bytes : List ℕ) : Type 0 where
   pub sections : Sections
-  pub cut : sections_of (meant bytes) ≡ Good sections
+  pub cut : sections_of (meant bytes) ≡ Ok sections
   pub type : ℕ
   pub there : type < length (tables_of (meant bytes) sections).types
   pub more : a.parts < parts_at (tables_of (meant bytes) sections) type
