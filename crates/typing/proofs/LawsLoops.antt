@@ -104,12 +104,12 @@ module _ {F : List ℕ} {S : Sections} {X W : List ℕ} {c₀ : Context} where
   }
 
   module _ {K : List ℕ} {i : ℕ} {c : Context} (a : BuiltInsDone F S X W c₀ K i c) where
-    pub built_ins_ready : {K₀ : List ℕ} → ReadyBuiltIns F S X W K₀ c₀ → i < S.built_ins → ReadyBuiltIn F S X W K c i
-    built_ins_ready z h =
+    pub built_ins_ready : {W₁ K₀ : List ℕ} → W₁ ≡ W → ReadyBuiltIns F S X W K₀ c₀ → i < S.built_ins → ReadyBuiltIn F S X W₁ K c i
+    built_ins_ready f z h =
         let (e, held) = runs_next refl (a.runs []) in
         let m = after_counted 0 1 (tabulate i built_in) c₀ (built_ins_alike i) in
         let n = tabulate_long i built_in in
-        record {
+        subst (λ V. ReadyBuiltIn F S X V K c i) (sym f) record {
           held = held;
           whole = record {
             structs = omega (arith, ap (λ x. x.structs) e, m.structs_are, z.structs);

@@ -9,7 +9,7 @@ pub loop-i-init : goal.loop-i-init
 loop-i-init c = (search (built_ins_start, rules), search rules)
 
 pub built_in_step-requires : goal.built_in_step-requires
-built_in_step-requires c = ?
+built_in_step-requires c = built_ins_ready c.loop-i.invariant.0 (ap (λ w. w.now) c.loop-i.invariant.1) c.requires c.loop-i-test.true
 
 pub returns-in_err-c-clause-told : goal.returns-in_err-c-clause-told
 returns-in_err-c-clause-told c =
