@@ -1,4 +1,4 @@
-// Return marks.
+// Return marks: numbers, as they stand in the rows (document 01's form).
 ghost use Rattle.std.specs.Prelude.{◌≡◌, ◌+◌, ◌*◌, ◌≤◌, ◌<◌, length};
 ghost use Rattle.file_sections.specs.Layout.{Has};
 ghost use Rattle.answers.specs.Answers.{with_row};
@@ -49,6 +49,7 @@ pub fn ends(rows: &mut [u16], node: usize, mark: usize, after: At) -> Judged
     ensures value { result ≡ record { judgement = marked mark; at = after } }
     ensures rows_after { rows.new ≡ with_row rows.old node mark 65535 }
 {
+    // 65535 for no binder, as rows are for C.
     row(rows, node, mark, 65535);
     with_mark(mark, after)
 }

@@ -1,4 +1,5 @@
-// Statements without statements in them, and a for's vars and condition.
+// Statements without statements in them, and a for's vars and condition. Kinds of nodes and of types are numbers, and `let .. else`
+// hands a child's refusal up unchanged: document 01's form.
 ghost use Rattle.std.specs.Prelude.{◌≡◌, ◌<◌};
 ghost use Rattle.oat.specs.Tables.{node_at};
 ghost use Rattle.bindings.specs.Bindings.{SomeFrom};

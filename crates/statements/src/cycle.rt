@@ -1,5 +1,6 @@
 // The cycle of statements: a dispatcher by node kind, a function for each rule with blocks in it, and those for blocks. The
-// remaining nodes fall. `result` is the return type.
+// remaining nodes fall. Kinds of nodes and of types are numbers, and `let .. else` hands a child's refusal up unchanged: document 01's
+// form.
 ghost use Rattle.std.specs.Prelude.{◌≡◌, ◌<◌};
 ghost use Rattle.oat.specs.Tables.{node_at};
 ghost use Rattle.answers.specs.Answers.{tables};
