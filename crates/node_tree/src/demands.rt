@@ -40,12 +40,12 @@ const BLOCK: usize = 128;
 // as a for's condition (256 + 65,536) or step (512).
 const ABSENT: usize = 66304;
 
-// `free` and `typed` in place of an Option, and 65,536 in place of None: tried, slower (reading takes up to 1.2 of the time, and the compiler makes no tables).
 // A demand. Its node's x is at most `limit`; its t is less than `free`, or a type of the kind `typed`; it has `least` to `most` children. It stands in
 // one of `roles`.
 #[derive(Clone, Copy)]
 pub struct Demand {
     pub limit: usize,
+    // An Option of a kind in place of `free` and `typed`: tried, slower (the compiler makes no tables, and reading takes 1.27 of the time).
     pub free: usize,
     pub typed: usize,
     pub least: usize,
