@@ -7,6 +7,7 @@
 ghost use Rattle.std.specs.Prelude.{◌≡◌, ◌+◌, ◌*◌, ◌%◌, ◌≤◌, ◌<◌, get_or, set};
 ghost use Rattle.file_sections.specs.Layout.{tables_of};
 ghost use Rattle.bindings.specs.Bindings.{binder_of, type_bound, name_bound, Position, Scoped, Some as Holding, SomeFrom, Finds, Freshness, Assignability, Bindable, Bound};
+ghost use Rattle.bindings.specs.Buffers.{SameWork};
 
 use file_sections::Sections;
 use file_sections::records::{built_in_name, built_in_type, node_kind, node_x};
@@ -14,6 +15,105 @@ use file_sections::records::{built_in_name, built_in_type, node_kind, node_x};
 // The chains: 512 heads, and a link for each of 128 built-ins and 4,096 nodes.
 // 0 for none, since memory is fixed and an Option<u16> takes twice the room.
 pub type Chains = [u16; 4736];
+
+// What is read of bindings takes the two slices, so that who only reads lends no more.
+
+// The binder of a position: 40,000 plus the built-in's number, or a node.
+// One number and no enum, since a row holds it: the C interface.
+#[tactic(auto, using(file_sections::proofs::LawsRecords::built_ins_long), unfolding(crate::specs::Bindings::binder_of))]
+pub fn binder_at(file: &[u8], sections: Sections, work: &[u16], position: usize) -> usize
+    requires { Position file.now sections work.now position }
+    ensures { (result ≡ binder_of (tables_of file.now sections) work.now position) × (result < 65536) }
+{
+    if position < sections.built_ins {
+        return 40000 + position;
+    }
+    usize::from(work[(position - sections.built_ins) * 2])
+}
+
+// The type of a position.
+#[tactic(auto, using(file_sections::proofs::LawsRecords::built_ins_long), unfolding(crate::specs::Bindings::type_bound))]
+pub fn type_at(file: &[u8], sections: Sections, work: &[u16], position: usize) -> usize
+    requires { Position file.now sections work.now position }
+    ensures { (result ≡ type_bound (tables_of file.now sections) work.now position) × (result < 65536) }
+{
+    if position < sections.built_ins {
+        return built_in_type(file, sections, position);
+    }
+    usize::from(work[(position - sections.built_ins) * 2 + 1])
+}
+
+// The name of a position.
+#[tactic(auto, using(file_sections::proofs::LawsRecords::built_ins_long), unfolding(crate::specs::Bindings::name_bound))]
+pub fn name_at(file: &[u8], sections: Sections, work: &[u16], position: usize) -> usize
+    requires { Position file.now sections work.now position }
+    ensures { (result ≡ name_bound (tables_of file.now sections) work.now position) × (result < 65536) }
+{
+    if position < sections.built_ins {
+        return built_in_name(file, sections, position);
+    }
+    let binder = usize::from(work[(position - sections.built_ins) * 2]);
+    node_x(file, sections, binder)
+}
+
+// The latest position of the name.
+pub fn find(
+    file: &[u8],
+    sections: Sections,
+    work: &[u16],
+    chains: &[u16],
+    name: usize,
+) -> Option<usize>
+    requires { Holding file.now sections work.now chains.now }
+    ensures { Finds file.now sections work.now chains.now name result }
+{
+    // The loop follows links and counts nothing. It isn't type_index's walk: that one takes the number of positions, here the
+    // scope's height, which `find` isn't given.
+    let mut after = usize::from(chains[name % 512]);
+    while 0 < after {
+        let position = after - 1;
+        if name_at(file, sections, work, position) == name {
+            return Some(position);
+        }
+        after = usize::from(chains[512 + position]);
+    }
+    None
+}
+
+// The block whose bindings stand from the position `start` on has not bound the name.
+pub fn is_fresh(
+    file: &[u8],
+    sections: Sections,
+    work: &[u16],
+    chains: &[u16],
+    start: usize,
+    name: usize,
+) -> bool
+    requires { Holding file.now sections work.now chains.now }
+    ensures { Freshness file.now sections work.now chains.now start name result }
+{
+    find(file, sections, work, chains, name).is_none_or(|position| position < start)
+}
+
+// The name is not that of a function or of a built-in, or a local hides it.
+pub fn is_assignable(
+    file: &[u8],
+    sections: Sections,
+    work: &[u16],
+    chains: &[u16],
+    base: usize,
+    name: usize,
+) -> bool
+    requires { SomeFrom file.now sections work.now chains.now base }
+    ensures { Assignability file.now sections work.now chains.now base name result }
+{
+    let Some(position) = find(file, sections, work, chains, name) else {
+        return true;
+    };
+    base <= position
+        || sections.built_ins <= position
+            && node_kind(file, sections, binder_at(file, sections, work, position)) == 1
+}
 
 // The stack and the chains of its positions.
 #[derive(Drop)]
@@ -23,42 +123,12 @@ pub struct Bindings<'a> {
 }
 
 impl Bindings<'_> {
-    // The binder of a position: 40,000 plus the built-in's number, or a node.
-    // One number and no enum, since a row holds it: the C interface.
-    #[tactic(auto, using(file_sections::proofs::LawsRecords::built_ins_long), unfolding(crate::specs::Bindings::binder_of))]
-    pub fn binder_at(&self, file: &[u8], sections: Sections, position: usize) -> usize
-        requires { Position file.now sections self.now.work.now position }
-        ensures { (result ≡ binder_of (tables_of file.now sections) self.now.work.now position) × (result < 65536) }
-    {
-        if position < sections.built_ins {
-            return 40000 + position;
-        }
-        usize::from(self.work[(position - sections.built_ins) * 2])
-    }
-
-    // The type of a position.
-    #[tactic(auto, using(file_sections::proofs::LawsRecords::built_ins_long), unfolding(crate::specs::Bindings::type_bound))]
-    pub fn type_at(&self, file: &[u8], sections: Sections, position: usize) -> usize
-        requires { Position file.now sections self.now.work.now position }
-        ensures { (result ≡ type_bound (tables_of file.now sections) self.now.work.now position) × (result < 65536) }
-    {
-        if position < sections.built_ins {
-            return built_in_type(file, sections, position);
-        }
-        usize::from(self.work[(position - sections.built_ins) * 2 + 1])
-    }
-
     // The name of a position.
-    #[tactic(auto, using(file_sections::proofs::LawsRecords::built_ins_long), unfolding(crate::specs::Bindings::name_bound))]
-    pub fn name_at(&self, file: &[u8], sections: Sections, position: usize) -> usize
+    fn name_at(&self, file: &[u8], sections: Sections, position: usize) -> usize
         requires { Position file.now sections self.now.work.now position }
         ensures { (result ≡ name_bound (tables_of file.now sections) self.now.work.now position) × (result < 65536) }
     {
-        if position < sections.built_ins {
-            return built_in_name(file, sections, position);
-        }
-        let binder = usize::from(self.work[(position - sections.built_ins) * 2]);
-        node_x(file, sections, binder)
+        name_at(file, sections, self.work, position)
     }
 
     // Puts the position, which has the name, first in its chain.
@@ -79,51 +149,11 @@ impl Bindings<'_> {
         self.chains[name % 512] = self.chains[512 + position];
     }
 
-    // The latest position of the name.
-    pub fn find(&self, file: &[u8], sections: Sections, name: usize) -> Option<usize>
-        requires { Holding file.now sections self.now.work.now self.now.chains }
-        ensures { Finds file.now sections self.now.work.now self.now.chains name result }
-    {
-        // The loop follows links and counts nothing. It isn't type_index's walk: that one takes the number of positions, here the
-        // scope's height, which `find` isn't given.
-        let mut after = usize::from(self.chains[name % 512]);
-        while 0 < after {
-            let position = after - 1;
-            if self.name_at(file, sections, position) == name {
-                return Some(position);
-            }
-            after = usize::from(self.chains[512 + position]);
-        }
-        None
-    }
-
-    // The block whose bindings stand from the position `start` on has not bound the name.
-    pub fn is_fresh(&self, file: &[u8], sections: Sections, start: usize, name: usize) -> bool
-        requires { Holding file.now sections self.now.work.now self.now.chains }
-        ensures { Freshness file.now sections self.now.work.now self.now.chains start name result }
-    {
-        self.find(file, sections, name)
-            .is_none_or(|position| position < start)
-    }
-
-    // The name is not that of a function or of a built-in, or a local hides it.
-    pub fn is_assignable(&self, file: &[u8], sections: Sections, base: usize, name: usize) -> bool
-        requires { SomeFrom file.now sections self.now.work.now self.now.chains base }
-        ensures { Assignability file.now sections self.now.work.now self.now.chains base name result }
-    {
-        let Some(position) = self.find(file, sections, name) else {
-            return true;
-        };
-        base <= position
-            || sections.built_ins <= position
-                && node_kind(file, sections, self.binder_at(file, sections, position)) == 1
-    }
-
     // Binds the name of the node, with the type t, at the position `scope`.
     pub fn bind(&mut self, file: &[u8], sections: Sections, scope: usize, node: usize, t: usize)
         requires { Bindable file.now sections self.old.work.now self.old.chains scope node t }
         ensures bound { Bound file.now sections self.old.work.now self.old.chains scope node t self.new.work.now self.new.chains }
-        ensures same_work { self.new.work.ghost_name ≡ self.old.work.ghost_name }
+        ensures same_work { SameWork self.old self.new }
     {
         let entry = (scope - sections.built_ins) * 2;
         self.work[entry] = node as u16;

@@ -1,7 +1,7 @@
 -- `Bindings::is_assignable` meets its contract. Assumes nothing.
 use borrow.Author.Rules.{rules}
 use Rattle.bindings.proofs.LawsBindings.{found_there, assign_none, assign_local, assign_built_in, assign_stack}
-use Rattle.bindings.proofs.Bindings.is_assignable.Goals as goal
+use Rattle.bindings.proofs.is_assignable.Goals as goal
 
 pub returns-in_default : goal.returns-in_default
 returns-in_default c = search (assign_none, rules)

@@ -1,7 +1,7 @@
 -- `Bindings::is_fresh` meets its contract. Assumes nothing.
 use borrow.Author.Rules.{rules}
 use Rattle.bindings.proofs.LawsBindings.{fresh_told}
-use Rattle.bindings.proofs.Bindings.is_fresh.Goals as goal
+use Rattle.bindings.proofs.is_fresh.Goals as goal
 
 pub returns : goal.returns
 returns c = search (fresh_told, rules)

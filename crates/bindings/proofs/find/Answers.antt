@@ -1,7 +1,7 @@
 -- `Bindings::find` meets its contract. The loop keeps: `after` stands on the name's chain, and no position above it has the name. Assumes nothing.
 use borrow.Author.Rules.{rules}
 use Rattle.bindings.proofs.LawsBindings.{find_starts, find_position, find_found, find_falls, find_on, find_ends}
-use Rattle.bindings.proofs.Bindings.find.Goals as goal
+use Rattle.bindings.proofs.find.Goals as goal
 
 pub loop-after-init : goal.loop-after-init
 loop-after-init c = search (find_starts, rules)
