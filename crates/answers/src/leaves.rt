@@ -11,7 +11,7 @@ ghost use Rattle.answers.specs.Answers.{tables, structs_alone, with_row, LeafAns
 
 use crate::answer::{At, Broken, Judged, Judgement, row, typed};
 use crate::file::IndexedFile;
-use bindings::Bindings;
+use bindings::{Bindings, binder_at, find, type_at};
 use fields::lookup::field_of;
 use file_sections::records::{list_entry, node_kind, node_t, node_x, type_kind};
 use subtyping::below::{Compared, below};
@@ -162,11 +162,17 @@ pub fn name(file: &IndexedFile<'_>, rows: &mut [u16], bindings: &Bindings<'_>, a
     ensures { NameAnswer file.now.bytes.now file.now.sections rows.old bindings.now.work.now bindings.now.chains at.node at.scope at.pairs rows.new result }
 {
     let x = node_x(file.bytes, file.sections, at.node);
-    let Some(position) = bindings.find(file.bytes, file.sections, x) else {
+    let Some(position) = find(
+        file.bytes,
+        file.sections,
+        bindings.work,
+        &bindings.chains,
+        x,
+    ) else {
         return Judged::refused(Broken::Unknown, at.node, at);
     };
-    let t = bindings.type_at(file.bytes, file.sections, position);
-    let binder = bindings.binder_at(file.bytes, file.sections, position);
+    let t = type_at(file.bytes, file.sections, bindings.work, position);
+    let binder = binder_at(file.bytes, file.sections, bindings.work, position);
     row(rows, at.node, t, binder);
     Judged {
         judgement: Judgement::Typed(t),

@@ -131,6 +131,14 @@ impl Bindings<'_> {
         name_at(file, sections, self.work, position)
     }
 
+    // The block whose bindings stand from the position `start` on has not bound the name.
+    pub fn is_fresh(&self, file: &[u8], sections: Sections, start: usize, name: usize) -> bool
+        requires { Holding file.now sections self.now.work.now self.now.chains }
+        ensures { Freshness file.now sections self.now.work.now self.now.chains start name result }
+    {
+        is_fresh(file, sections, self.work, &self.chains, start, name)
+    }
+
     // Puts the position, which has the name, first in its chain.
     pub fn link(&mut self, position: usize, name: usize)
         requires { position < 4224 }

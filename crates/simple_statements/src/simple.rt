@@ -11,7 +11,7 @@ use crate::marks::ends;
 use answers::answer::{At, Broken, Frame, Judged, Judgement, Walk};
 use answers::file::IndexedFile;
 use answers::leaves::Expected;
-use bindings::Bindings;
+use bindings::{Bindings, is_assignable};
 use expressions::cycle::{expression, list};
 use file_sections::records::{node_children, node_kind, node_x, type_a, type_b, type_c, type_kind};
 use subtyping::below::below;
@@ -25,7 +25,14 @@ fn assigns(file: &IndexedFile<'_>, bindings: &Bindings<'_>, base: usize, node: u
         return true;
     }
     let name = node_x(file.bytes, file.sections, node);
-    bindings.is_assignable(file.bytes, file.sections, base, name)
+    is_assignable(
+        file.bytes,
+        file.sections,
+        bindings.work,
+        &bindings.chains,
+        base,
+        name,
+    )
 }
 
 // Assignment: not to a function, left, right, subtype.

@@ -128,15 +128,9 @@ pub record ReadyStruct (F : List ℕ) (S : Sections) (N : List ℕ) (c : Context
   pub next : c.structs ≡ i
   pub few : c.steps < 65536
 
-abbrev pub ReadyStructAt : IndexedFile → List ℕ → Context → ℕ → Type 0
-ReadyStructAt f N c i = ReadyStruct f.bytes.now f.sections N c i
-
 pub record ToldStruct (F : List ℕ) (S : Sections) (c : Context) (i : ℕ) (N' : List ℕ) (r : Result Context Refusal) : Type 0 where
   pub answered : Answered F S c (struct_name i) r
   pub copied : r ≡ Ok (with_struct c) → Copied F S N' (i + 1)
-
-abbrev pub ToldStructAt : IndexedFile → Context → ℕ → List ℕ → Result Context Refusal → Type 0
-ToldStructAt f c i N' r = ToldStruct f.bytes.now f.sections c i N' r
 
 -- built-ins
 pub record ReadyBuiltIn (F : List ℕ) (S : Sections) (X W K : List ℕ) (c : Context) (i : ℕ) : Type 0 where

@@ -2,7 +2,8 @@
 ghost use Rattle.std.specs.Prelude.{◌≡◌, ◌+◌, ◌<◌};
 ghost use Rattle.typing_rules.specs.Steps.{built_in, struct_fields};
 ghost use Rattle.answers.specs.Walks.{SameBuffers};
-ghost use Rattle.steps.specs.Contract.{with_struct, with_name, with_step, summing, refusal_at, AnsweredAt, RowlessAt, ReadyStructAt, ToldStructAt, ReadyBuiltInAt, ReadyHeadingAt, ToldHeadingAt, ReadyGlobalAt, ToldGlobalAt, ReadyFieldsAt, ReadyBodyAt, ToldBodyAt};
+ghost use Rattle.steps.specs.Contract.{with_struct, with_name, with_step, summing, refusal_at, AnsweredAt, RowlessAt, ReadyStruct, ToldStruct, ReadyBuiltInAt, ReadyHeadingAt, ToldHeadingAt, ReadyGlobalAt, ToldGlobalAt, ReadyFieldsAt, ReadyBodyAt, ToldBodyAt};
+ghost use Rattle.bindings.specs.Buffers.{SameWork};
 
 use crate::names::{is_new, times, types_formed};
 use crate::parameters::parameters;
@@ -11,6 +12,7 @@ use answers::file::IndexedFile;
 use bindings::Bindings;
 use expressions::cycle::expression;
 use fields::distinct::are_distinct;
+use file_sections::Sections;
 use file_sections::records::{
     built_in_name, built_in_type, node_t, node_x, struct_count, struct_first, struct_name, type_a,
     type_b, type_c,
@@ -104,14 +106,15 @@ impl Context {
     // The name of the struct i; `names` has those of the structs before it.
     pub fn struct_step(
         self,
-        file: &IndexedFile<'_>,
+        file: &[u8],
+        sections: Sections,
         names: &mut [u16],
         i: usize,
     ) -> Result<Context, Refusal>
-        requires { ReadyStructAt file.now names.old self i }
-        ensures { ToldStructAt file.now self i names.new result }
+        requires { ReadyStruct file.now sections names.old self i }
+        ensures { ToldStruct file.now sections self i names.new result }
     {
-        let name = struct_name(file.bytes, file.sections, i) as u16;
+        let name = struct_name(file, sections, i) as u16;
         if times(&*names, i, name) != 0 {
             return Err(self.refusal(Broken::BoundTwice, i));
         }
@@ -150,7 +153,7 @@ impl Context {
     ) -> Result<Context, Refusal>
         requires { ReadyHeadingAt file.now bindings.old self node }
         ensures told { ToldHeadingAt file.now bindings.old self node bindings.new result }
-        ensures same_work { bindings.new.work.ghost_name ≡ bindings.old.work.ghost_name }
+        ensures same_work { SameWork bindings.old bindings.new }
     {
         let t = node_t(file.bytes, file.sections, node);
         if !is_formed(file.index, t) {

@@ -5,7 +5,7 @@ ghost use Rattle.answers.specs.Answers.{tables};
 ghost use Rattle.steps.specs.Contract.{Newness, types_formed, times_in};
 
 use answers::file::IndexedFile;
-use bindings::Bindings;
+use bindings::{Bindings, find};
 use file_sections::records::field_type;
 use type_index::formed::is_formed;
 
@@ -14,7 +14,14 @@ pub fn is_new(file: &IndexedFile<'_>, bindings: &Bindings<'_>, name: usize) -> b
     requires { Holding file.now.bytes.now file.now.sections bindings.now.work.now bindings.now.chains }
     ensures { Newness file.now.bytes.now file.now.sections bindings.now.work.now bindings.now.chains name result }
 {
-    bindings.find(file.bytes, file.sections, name).is_none()
+    find(
+        file.bytes,
+        file.sections,
+        bindings.work,
+        &bindings.chains,
+        name,
+    )
+    .is_none()
 }
 
 // The types of `count` fields from `first` on are well-formed.

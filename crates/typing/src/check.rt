@@ -5,6 +5,7 @@ ghost use Rattle.answers.specs.Walks.{SameBuffers};
 ghost use Rattle.program_file.specs.Reading.{setting_of};
 ghost use Rattle.typing.specs.Runs.{ReadyRunAt, ToldFirstAt, ToldRunAt};
 ghost use Rattle.typing.specs.Check.{Checked, Demands, WasRead, ToldSections, answer_of, rows_after, Small, ReadyCheck, ToldCheck};
+ghost use Rattle.bindings.specs.Buffers.{SameWork};
 
 use crate::groups::{bodies, built_ins, globals, headings, struct_fields, struct_names};
 use answers::answer::Walk;
@@ -84,7 +85,7 @@ fn finish(stepped: Result<Context, Refusal>, rows: &mut [u16]) -> Answer
 fn run_first(file: &IndexedFile<'_>, bindings: &mut Bindings<'_>) -> Result<Context, Refusal>
     requires { ReadyRunAt file.now bindings.old }
     ensures told { ToldFirstAt file.now bindings.old bindings.new result }
-    ensures same_work { bindings.new.work.ghost_name ≡ bindings.old.work.ghost_name }
+    ensures same_work { SameWork bindings.old bindings.new }
 {
     let structs = struct_names(file)?;
     let built = built_ins(structs, file, bindings)?;

@@ -4,6 +4,7 @@ ghost use Rattle.oat.specs.Basics.{tabulate};
 ghost use Rattle.typing_rules.specs.Steps.{struct_name, struct_fields, headings, globals, bodies};
 ghost use Rattle.answers.specs.Walks.{SameBuffers};
 ghost use Rattle.typing.specs.Runs.{start, AnsweredAllAt, ReadyBuiltInsAt, ToldBuiltInsAt, ReadyStructsAt, ReadyDeclAt, ToldDeclAt, HeadingToldAt, ReadyDeclsAt, ToldDeclsAt, HeadingsToldAt};
+ghost use Rattle.bindings.specs.Buffers.{SameWork};
 
 use answers::answer::Walk;
 use answers::file::IndexedFile;
@@ -19,7 +20,7 @@ pub fn struct_names(file: &IndexedFile<'_>) -> Result<Context, Refusal>
     let mut names = [0u16; 256];
     let mut c = Context::empty();
     for i in 0..file.sections.structs {
-        c = c.struct_step(file, &mut names, i)?;
+        c = c.struct_step(file.bytes, file.sections, &mut names, i)?;
     }
     Ok(c)
 }
@@ -50,7 +51,7 @@ fn heading(
 ) -> Result<Context, Refusal>
     requires { ReadyDeclAt file.now bindings.old context node }
     ensures told { HeadingToldAt file.now bindings.old context node bindings.new result }
-    ensures same_work { bindings.new.work.ghost_name ≡ bindings.old.work.ghost_name }
+    ensures same_work { SameWork bindings.old bindings.new }
 {
     match node_kind(file.bytes, file.sections, node) {
         2 => context.heading_step(file, bindings, node),
@@ -66,7 +67,7 @@ pub fn headings(
 ) -> Result<Context, Refusal>
     requires { ReadyDeclsAt headings file.now bindings.old context }
     ensures told { HeadingsToldAt file.now bindings.old context bindings.new result }
-    ensures same_work { bindings.new.work.ghost_name ≡ bindings.old.work.ghost_name }
+    ensures same_work { SameWork bindings.old bindings.new }
 {
     let mut c = context;
     let mut node = 0;

@@ -20,7 +20,7 @@ returns-in_err-c-clause-told c =
 pub loop-i-preserved : goal.loop-i-preserved
 loop-i-preserved c = (
   built_ins_next c.loop-i.invariant.0
-  (same_stack (ap (λ w. w.now) c.loop-i.invariant.1) (ap (λ w. w.now) c.built_in_step.ensures.work_unchanged) c.built_in_step.ensures.told) c.in_ok-c.was,
+      (same_stack (ap (λ w. w.now) c.loop-i.invariant.1) (ap (λ w. w.now) c.built_in_step.ensures.work_unchanged) c.built_in_step.ensures.told) c.in_ok-c.was,
   c.built_in_step.ensures.work_unchanged ∙ c.loop-i.invariant.1,
 )
 

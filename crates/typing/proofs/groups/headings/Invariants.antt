@@ -6,7 +6,7 @@ use Rattle.typing.proofs.groups.headings.Given as goal
 
 abbrev pub invariant-loop-node : goal.invariant-loop-node
 invariant-loop-node l =
-    HeadingsAlong l.file.bytes.now l.file.sections l.file.index.now l.fn.context l.fn.bindings.work.now l.node l.c l.bindings.work.now l.bindings.chains × (l.bindings.work.ghost_name ≡ l.fn.bindings.work.ghost_name)
+    HeadingsAlong l.file.bytes.now l.file.sections l.file.index.now l.fn.context l.fn.bindings.work.now l.node l.c l.bindings.work.now l.bindings.chains × SameWork l.fn.bindings l.bindings
 
 abbrev pub decreases-loop-node : goal.decreases-loop-node
 decreases-loop-node l = l.file.sections.nodes - l.node
