@@ -20,9 +20,9 @@ use Rattle.subtyping.specs.declared.question.Answer.{Answer}
 use Rattle.subtyping.specs.declared.question.Refusal.{Refusal}
 
 -- document 01's number for a refusal: that of the reading, or 17
-abbrev pub refused_number : Refusal → ℕ
-refused_number (Refusal.Unreadable e) = unreadable_number e
-refused_number Refusal.NoType = 17
+abbrev pub number_of_refusal : Refusal → ℕ
+number_of_refusal (Refusal.Unreadable e) = unreadable_number e
+number_of_refusal Refusal.NoType = 17
 
 -- yes or no, after k pairs
 abbrev pub answered : Bool → ℕ → Result Answer Refusal
@@ -46,7 +46,7 @@ subtype_of limits s a b = on_reading (reading_of limits s) λ S. ask_of (tables_
 
 -- document 01's number for an answer; yes and no are no refusals
 abbrev pub refusal_number : Result Answer Refusal → ℕ
-refusal_number (Err e) = refused_number e
+refusal_number (Err e) = number_of_refusal e
 refusal_number (Ok r) = 0
 
 -- 1 for yes, 0 for no; a refusal leaves what was there

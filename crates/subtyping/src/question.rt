@@ -4,7 +4,7 @@ ghost use Rattle.file_sections.specs.Layout.{tables_of, GoodTables};
 ghost use Rattle.program_file.specs.Reading.{setting_of};
 ghost use Rattle.subtyping.specs.Numbered.{below_at, pairs_at};
 ghost use Rattle.subtyping.specs.declared.question.Refusal.{Refusal};
-ghost use Rattle.subtyping.specs.Question.{refused_number, subtype_of, refusal_number, yes_after, pairs_of, Answers};
+ghost use Rattle.subtyping.specs.Question.{number_of_refusal, subtype_of, refusal_number, yes_after, pairs_of, Answers};
 
 use crate::below::below;
 use file_sections::{Sections, Unreadable};
@@ -36,7 +36,7 @@ impl From<Unreadable> for Refusal {
 impl Refusal {
     // The number that the documents give it.
     pub fn number(self) -> u16
-        ensures { result ≡ refused_number self }
+        ensures { result ≡ number_of_refusal self }
     {
         match self {
             Refusal::Unreadable(unreadable) => unreadable.number(),
