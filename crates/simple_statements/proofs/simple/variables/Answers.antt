@@ -7,7 +7,7 @@ use Rattle.simple_statements.proofs.LawsForVars.{vars_start, vars_kind, vars_rea
 use Rattle.simple_statements.proofs.simple.variables.Goals as goal
 
 pub loop-passed-init : goal.loop-passed-init
-loop-passed-init c = (vars_start c.requires, (refl, refl))
+loop-passed-init c = (vars_start c.requires, search rules)
 
 pub variable-one-requires : goal.variable-one-requires
 variable-one-requires c =

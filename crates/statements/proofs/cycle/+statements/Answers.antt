@@ -168,7 +168,7 @@ pub statement-returns-in-34-clause-told : goal.statement-returns-in-34-clause-to
 statement-returns-in-34-clause-told t c = any_told c.call_statement.ensures.told
 
 pub statements-loop-i-init : goal.statements-loop-i-init
-statements-loop-i-init t c = (run_start c.requires, (refl, refl))
+statements-loop-i-init t c = (run_start c.requires, search rules)
 
 pub statements-returns-then-mark-ne0-clause-told : goal.statements-returns-then-mark-ne0-clause-told
 statements-returns-then-mark-ne0-clause-told t c = run_stops c.requires c.loop-i.invariant.0 c.loop-i-test.true c.if-mark-ne0.true c.refused.ensures.0
