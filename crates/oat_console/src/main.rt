@@ -114,19 +114,13 @@ enum Verb {
 }
 
 fn verb_named(word: &[u8]) -> Option<Verb> {
-    if word == b"check" {
-        return Some(Verb::Check);
+    match word {
+        b"check" => Some(Verb::Check),
+        b"page" => Some(Verb::Page),
+        b"subtype" => Some(Verb::Subtype),
+        b"tally" => Some(Verb::Tally),
+        _ => None,
     }
-    if word == b"page" {
-        return Some(Verb::Page);
-    }
-    if word == b"subtype" {
-        return Some(Verb::Subtype);
-    }
-    if word == b"tally" {
-        return Some(Verb::Tally);
-    }
-    None
 }
 
 // Does what the verb says, where there are this many words, the program's own name among them.

@@ -73,14 +73,11 @@ enum Limit {
 fn limit_at(rt: &HostRuntime, place: usize) -> Option<Limit> {
     let mut word = [0u8; 4096];
     let length = word_at(rt, place, &mut word);
-    let name = &word[..length];
-    if name == b"--parts" {
-        return Some(Limit::Parts);
+    match &word[..length] {
+        b"--parts" => Some(Limit::Parts),
+        b"--depth" => Some(Limit::Depth),
+        _ => None,
     }
-    if name == b"--depth" {
-        return Some(Limit::Depth);
-    }
-    None
 }
 
 // The limits with one of them set.
