@@ -8,19 +8,9 @@ use native.Mathlib.Omega.{arith}
 use lib.ListN.{length, get_or, drop, drop_of_length-le}
 use lib.Seq.{drop-cons}
 use borrow.Author.Tests.{le-leb, lt-leb}
+use Rattle.std.specs.Prelude.{Some, None}
 use Rattle.oat.specs.Basics.{pick}
-use Rattle.oat_console.specs.declared.words.Number.TheVariants.{Is, Absent}
 use Rattle.oat_console.specs.Numbers.{is_digit, with_digit, number_after, number_in}
-
--- a digit more
-module _ (n c x : ℕ) (e : x ≡ c - 48) where
-  pub many : 65536 < 10 * n + x → 65536 ≡ with_digit n c
-  unfolding with_digit
-  many h = omega (arith, h, e)
-
-  pub few : 10 * n + x ≤ 65536 → 10 * n + x ≡ with_digit n c
-  unfolding with_digit
-  few h = omega (arith, h, e)
 
 pub most : (n c r : ℕ) → r ≡ with_digit n c → r ≤ 65536
 unfolding with_digit
@@ -41,11 +31,11 @@ digit_between c h k = rw (le-leb 48 c h, le-leb c 57 k)
 
 -- one byte after another
 module _ (w : List ℕ) where
-  pub no_bytes : length w ≡ 0 → Absent ≡ number_in w
+  pub no_bytes : length w ≡ 0 → None ≡ number_in w
   unfolding number_in
   no_bytes e = go w e
     where
-      go : (s : List ℕ) → length s ≡ 0 → Absent ≡ number_in s
+      go : (s : List ℕ) → length s ≡ 0 → None ≡ number_in s
       go [] z = refl
       go (c ∷ s) z = absurd (omega (arith, z))
 
@@ -58,14 +48,14 @@ module _ (w : List ℕ) where
       go (c ∷ s) z = refl
 
   module _ (i n : ℕ) (k : number_after n (drop i w) ≡ number_in w) where
-    at_byte : i < length w → number_after n (drop i w) ≡ pick (is_digit (get_or w i 0)) (number_after (with_digit n (get_or w i 0)) (drop (suc i) w)) Absent
+    at_byte : i < length w → number_after n (drop i w) ≡ pick (is_digit (get_or w i 0)) (number_after (with_digit n (get_or w i 0)) (drop (suc i) w)) None
     unfolding number_after
     at_byte h = ap (number_after n) (drop-cons w i 0 h)
 
-    pub low_byte : (c : ℕ) → c ≡ get_or w i 0 → i < length w → c < 48 → Absent ≡ number_in w
+    pub low_byte : (c : ℕ) → c ≡ get_or w i 0 → i < length w → c < 48 → None ≡ number_in w
     low_byte c e h l = sym (at_byte h ∙ rw (digit_low (get_or w i 0) (omega (arith, e, l)))) ∙ k
 
-    pub high_byte : (c : ℕ) → c ≡ get_or w i 0 → i < length w → 57 < c → Absent ≡ number_in w
+    pub high_byte : (c : ℕ) → c ≡ get_or w i 0 → i < length w → 57 < c → None ≡ number_in w
     high_byte c e h l = sym (at_byte h ∙ rw (digit_high (get_or w i 0) (omega (arith, e, l)))) ∙ k
 
     pub next_byte : (c r : ℕ) → c ≡ get_or w i 0 → i < length w → 48 ≤ c → c ≤ 57 → r ≡ with_digit n c → number_after r (drop (i + 1) w) ≡ number_in w
@@ -75,6 +65,6 @@ module _ (w : List ℕ) where
         ∙ sym (at_byte h ∙ rw (digit_between (get_or w i 0) (omega (arith, e, l)) (omega (arith, e, m))))
         ∙ k
 
-    pub all_bytes : length w ≤ i → Is n ≡ number_in w
+    pub all_bytes : length w ≤ i → Some n ≡ number_in w
     unfolding number_after
     all_bytes h = sym (ap (number_after n) (drop_of_length-le w h)) ∙ k

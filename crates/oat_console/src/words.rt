@@ -10,6 +10,7 @@ use std::io::Write;
 use std::rt::Env;
 
 // A number and a digit after it; 65,536 where that is as much or more, which is over every count and limit.
+#[tactic(auto, unfolding(crate::specs::Numbers::with_digit))]
 fn with_digit(number: usize, digit: u8) -> usize
     requires { (number ≤ 65536) × (48 ≤ digit) × (digit ≤ 57) }
     ensures { result ≡ with_digit number digit }

@@ -1,8 +1,7 @@
--- `write_answer` meets its contract: it leaves what `print` leaves, and the text that `print` answers is within the buffer. Assumes nothing.
+-- `write_answer` writes a text that is within the buffer. Assumes nothing.
 use mathlib.Core.Path.{sym}
 use lib.Seq.{length-take-le}
 use Rattle.printing.proofs.LawsTold.{written_room}
-use Rattle.answer_output.proofs.LawsOutput.{answer_stays}
 use Rattle.answer_output.proofs.write_answer.Goals as goal
 
 pub slice_bounds-write_all-end : goal.slice_bounds-write_all-end
@@ -10,6 +9,3 @@ slice_bounds-write_all-end c = written_room _ _ _ _ _ _ _ _ c.print-printed.ensu
 
 pub slice_bounds-write_all-end-in-Ok : goal.slice_bounds-write_all-end-in-Ok
 slice_bounds-write_all-end-in-Ok c = sym (length-take-le _ _ (written_room _ _ _ _ _ _ _ _ c.print-printed.ensures _ c.in-Ok.is))
-
-pub returns-in-Ok : goal.returns-in-Ok
-returns-in-Ok c = answer_stays _ _ _ _ c.in-Ok.is c.print-printed.ensures
