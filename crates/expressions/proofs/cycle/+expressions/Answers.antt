@@ -318,7 +318,7 @@ index_expression-returns-clause-told t c =
     element_ok c.requires.ready c.requires.node_value c.expression-one.ensures.told c.in-Typed.is c.type_kind.ensures.0 c.if-type_kind-ne5.false c.expression-two.ensures.told c.in-Typed-judgement.is c.type_kind-2.ensures.0 c.if-type_kind-ne0.false c.type_a.ensures.0 (element_given c.requires.ready c.requires.node_value c.expression-one.ensures.told c.in-Typed.is c.type_kind.ensures.0 c.if-type_kind-ne5.false c.expression-two.ensures.told c.in-Typed-judgement.is c.type_kind-2.ensures.0 c.type_a.ensures.0) c.typed.ensures.value c.typed.ensures.rows_after
 
 pub inits-loop-passed-init : goal.inits-loop-passed-init
-inits-loop-passed-init t c = record { walked = inits_start c.requires; level = refl; same_buffers = (refl, refl) }
+inits-loop-passed-init t c = record { walked = inits_start c.requires; level = refl; same_buffers = (refl, refl, (refl, refl)) }
 
 pub inits-expression-one-requires : goal.inits-expression-one-requires
 inits-expression-one-requires t c =
@@ -372,7 +372,7 @@ pub length_of-returns-clause-told : goal.length_of-returns-clause-told
 length_of-returns-clause-told t c = length_ok c.requires.ready c.requires.node_value c.expression-one.ensures.told c.in-Typed.is c.type_kind.ensures.0 c.if-type_kind-ne5.false c.typed.ensures.value c.typed.ensures.rows_after
 
 pub list-loop-i-init : goal.list-loop-i-init
-list-loop-i-init t c = record { walked = list_start c.requires; level = refl; same_buffers = (refl, refl) }
+list-loop-i-init t c = record { walked = list_start c.requires; level = refl; same_buffers = (refl, refl, (refl, refl)) }
 
 pub list-expression-one-requires : goal.list-expression-one-requires
 list-expression-one-requires t c =
