@@ -1,7 +1,7 @@
 -- The condition of a for, or 40: the answers of its returns. Assumes nothing.
 use mathlib.Core.Path.{◌≡◌, sym, subst, ◌∙◌}
 use mathlib.Core.List.{List, [], ◌∷◌}
-use Prim.Native.Nat.{ℕ, ◌+◌, ◌*◌, ◌≤◌, ◌<◌}
+use Prim.Native.Nat.{ℕ, ◌+◌, ◌*◌, ◌<◌}
 use native.Mathlib.Omega.{arith}
 use lib.ListN.{length}
 use borrow.Author.Tests.{eq-eqb, ne_eqb}
@@ -12,20 +12,18 @@ use Rattle.typing_rules.specs.Contexts.{Scope}
 use Rattle.typing_rules.specs.Labels.{unlabelled}
 use Rattle.typing_rules.specs.Judge.{judging_condition}
 use Rattle.file_sections.specs.declared.Sections.{Sections}
-use Rattle.file_sections.specs.Layout.{Has, tables_of}
+use Rattle.file_sections.specs.Layout.{tables_of}
 use Rattle.file_sections.proofs.LawsFrames.{same_refl}
 use Rattle.bindings.specs.Bindings.{Holds}
 use Rattle.answers.specs.declared.answer.Judgement.TheVariants.{Typed, GoesOn}
 use Rattle.answers.specs.declared.answer.Judged.{Judged}
 use Rattle.answers.specs.Answers.{with_row, Refuses, AnswerIs}
-use Rattle.expressions.specs.Contract.{Fine, RowsAt, After, Meets, Few, Ready, Told, Listing}
+use Rattle.expressions.specs.Contract.{Fine, RowsAt, After, Meets, Told, Listing}
 use Rattle.expressions.proofs.LawsMeets.{Untyped, accepts_now, stops, passes, child_no, child_ok}
-use Rattle.expressions.proofs.LawsAfter.{row_length, row_other, row-result, row_binder, fine_rows, ready}
+use Rattle.expressions.proofs.LawsAfter.{row_length, row_other, row-result, row_binder, fine_rows}
 use Rattle.expressions.proofs.LawsScope.{in_scope}
-use Rattle.expressions.proofs.LawsChild.{has_node, child_type}
 use Rattle.expressions.proofs.LawsShape.{expr_kind}
 use Rattle.simple_statements.specs.Contract.{marked, condition_in, ReadyCondition, ToldCondition}
-use Rattle.simple_statements.proofs.LawsMarks.{mark_fits}
 
 -- the row of a 40
 pub after_nothing : {F : List ℕ} {S : Sections} {X R W K : List ℕ} {base n s : ℕ} → n < S.nodes → Fine F S X R W K base s

@@ -1,21 +1,14 @@
 -- One part of a statement after another, a statement's own row over its children's, and the answer to an accepted
 -- statement. Assumes nothing.
-use mathlib.Core.Path.{◌≡◌, refl, ap, sym, subst, ◌∙◌}
-use mathlib.Core.Bool.{Bool, true, false, not, ◌&&◌}
+use mathlib.Core.Path.{◌≡◌, refl, sym, subst, ◌∙◌}
 use mathlib.Core.List.{List, ◌∷◌, ◌++◌}
 use Prim.Native.Nat.{ℕ, ◌+◌, ◌*◌, ◌≤◌, ◌<◌}
 use native.Mathlib.Omega.{arith}
 use lib.ListN.{length}
-use lib.Dec.{eqb}
-use borrow.Author.Tests.{eq-eqb, ne_eqb, not-true, not-false}
-use Rattle.oat.specs.Basics.{pick}
-use Rattle.oat.specs.Tables.{Tables, node_at}
-use Rattle.oat.specs.Syntax.{truth, falsity, integer, text, Expr, null, literal, name, array_literal, default_array, array_with, index, length_of, struct_literal, field, call, unary, binary}
-use Rattle.oat.specs.Nodes.{Stands}
+use borrow.Author.Tests.{eq-eqb}
 use Rattle.file_sections.proofs.LawsFrames.{same_trans}
 use Rattle.typing_rules.specs.Contexts.{Scope}
 use Rattle.typing_rules.specs.Labels.{Label, marks, nothing}
-use Rattle.typing_rules.specs.Rules.{is_true}
 use Rattle.typing_rules.specs.Judge.{marked_as, done}
 use Rattle.typing_rules.specs.Check.{next_result}
 use Rattle.file_sections.specs.declared.Sections.{Sections}
@@ -23,14 +16,13 @@ use Rattle.file_sections.specs.Layout.{tables_of}
 use Rattle.bindings.specs.Bindings.{entry_of, Holds}
 use Rattle.bindings.proofs.LawsBindings.{holds_same}
 use Rattle.answers.specs.declared.answer.Judgement.{Judgement}
-use Rattle.answers.specs.declared.answer.Judgement.TheVariants.{GoesOn, Returns}
-use Rattle.answers.specs.declared.answer.At.{At}
+use Rattle.answers.specs.declared.answer.Judgement.TheVariants.{Returns}
 use Rattle.answers.specs.declared.answer.Judged.{Judged}
 use Rattle.answers.specs.Answers.{with_row, AnswerIs}
 use Rattle.expressions.specs.Contract.{Fine, RowsAt, After}
 use Rattle.expressions.proofs.LawsAfter.{rows_kept, row_length, row_other, row-result, row_binder, fine_rows}
 use Rattle.expressions.proofs.LawsLabels.{last_result, Closed, rows_join}
-use Rattle.simple_statements.specs.Contract.{marked, MarksWhile, Marking}
+use Rattle.simple_statements.specs.Contract.{marked, Marking}
 
 -- the judgement of a mark that is 1, and an answer with another judgement that is the same
 pub returns_marked : (p : ℕ) → p ≡ 1 → Returns ≡ marked p

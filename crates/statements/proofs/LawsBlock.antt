@@ -11,7 +11,7 @@ use Rattle.typing_rules.specs.Contexts.{Scope}
 use Rattle.typing_rules.specs.Labels.{Label}
 use Rattle.typing_rules.specs.Judge.{ok, marked_as, execute_block, executing_block}
 use Rattle.file_sections.specs.declared.Sections.{Sections}
-use Rattle.file_sections.specs.Layout.{Has, tables_of}
+use Rattle.file_sections.specs.Layout.{tables_of}
 use Rattle.file_sections.proofs.LawsRecords.{nodes_long}
 use Rattle.bindings.specs.Bindings.{Scoped, Holds}
 use Rattle.bindings.proofs.LawsBindings.{holds_some}
@@ -21,7 +21,6 @@ use Rattle.answers.specs.declared.answer.Judged.{Judged}
 use Rattle.answers.specs.Answers.{with_row, AnswerIs}
 use Rattle.expressions.specs.Contract.{context_of, Fine, After, Meets, Few}
 use Rattle.expressions.proofs.LawsMeets.{Unrefused, accepts_now, goes_on, part_of}
-use Rattle.expressions.proofs.LawsChild.{has_node}
 use Rattle.simple_statements.specs.Contract.{mark_of, marked}
 use Rattle.simple_statements.proofs.LawsLabels.{all_mark, block_within}
 use Rattle.simple_statements.proofs.LawsMarks.{after_mark, mark_fits}

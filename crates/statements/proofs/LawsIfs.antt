@@ -37,7 +37,7 @@ use Rattle.expressions.proofs.LawsAfter.{ready, typing_of, after_append}
 use Rattle.expressions.proofs.LawsScope.{in_scope}
 use Rattle.expressions.proofs.LawsLabels.{expr_long, expr_closed}
 use Rattle.expressions.proofs.LawsShape.{size_one}
-use Rattle.expressions.proofs.LawsChild.{few_parts_in, has_node, child_spent, child_within, child_type, child_fine, reference_within}
+use Rattle.expressions.proofs.LawsChild.{few_parts_in, child_spent, child_within, child_type, child_fine, reference_within}
 use Rattle.expressions.proofs.LawsList.{no_more}
 use Rattle.simple_statements.specs.Contract.{mark_of, marked, AnswersStmt, ReadyStmt, ToldAnywhere}
 use Rattle.simple_statements.proofs.LawsLabels.{on_if, on_if_null, block_within}

@@ -8,10 +8,9 @@ use lib.Dec.{eqb}
 use borrow.Author.Tests.{eqb-true, eqb-false}
 use Rattle.oat.specs.Tables.{node_at}
 use Rattle.file_sections.specs.declared.Sections.{Sections}
-use Rattle.file_sections.specs.Layout.{Has, tables_of}
+use Rattle.file_sections.specs.Layout.{tables_of}
 use Rattle.answers.specs.declared.answer.Judged.{Judged}
-use Rattle.expressions.proofs.LawsChild.{has_node}
-use Rattle.simple_statements.specs.Contract.{ReadyStmt, ToldStmt, ToldVar, ToldWhile, ToldAnywhere, ToldAny}
+use Rattle.simple_statements.specs.Contract.{ReadyStmt, ToldStmt, ToldAny}
 use Rattle.simple_statements.proofs.LawsLabels.{stmt_kind}
 
 -- a number that is not the lowest is above it

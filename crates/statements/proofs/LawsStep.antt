@@ -13,7 +13,7 @@ use Rattle.typing_rules.specs.Contexts.{Scope}
 use Rattle.typing_rules.specs.Labels.{unlabelled}
 use Rattle.typing_rules.specs.Judge.{executing_step}
 use Rattle.file_sections.specs.declared.Sections.{Sections}
-use Rattle.file_sections.specs.Layout.{Has, tables_of}
+use Rattle.file_sections.specs.Layout.{tables_of}
 use Rattle.file_sections.proofs.LawsFrames.{same_refl}
 use Rattle.bindings.specs.Bindings.{Scoped, Holds}
 use Rattle.bindings.proofs.LawsBindings.{holds_some}
@@ -24,10 +24,8 @@ use Rattle.answers.specs.Answers.{with_row, Refuses, AnswerIs}
 use Rattle.expressions.specs.Contract.{Fine, RowsAt, After, Meets, Few}
 use Rattle.expressions.proofs.LawsMeets.{Unrefused, accepts_now, stops, passes, goes_on, part_of}
 use Rattle.expressions.proofs.LawsAfter.{row_length, row_other, row-result, row_binder, fine_rows}
-use Rattle.expressions.proofs.LawsChild.{has_node}
 use Rattle.simple_statements.specs.Contract.{mark_of, marked, ReadyStmt, ToldStmt}
 use Rattle.simple_statements.proofs.LawsLabels.{stmt_kind, stmt_mark}
-use Rattle.simple_statements.proofs.LawsMarks.{mark_fits}
 use Rattle.statements.specs.Contract.{Blocking, step_in, ReadyStep, ToldStep}
 use Rattle.statements.proofs.LawsParts.{mark_is, part_no, after_left}
 

@@ -22,7 +22,7 @@ use Rattle.expressions.proofs.LawsMeets.{Unlisted, goes_unrefused, accepts_now, 
 use Rattle.expressions.proofs.LawsChild.{few_parts_in}
 use Rattle.simple_statements.specs.Contract.{marked}
 use Rattle.simple_statements.proofs.LawsLabels.{step_long, block_head, size_step_one}
-use Rattle.statements.specs.Contract.{ReadyBlock, ToldBlock, ReadyStep, ToldStep, ReadyTurn, ToldTurn}
+use Rattle.statements.specs.Contract.{ReadyBlock, ToldBlock, ToldStep, ReadyTurn, ToldTurn}
 use Rattle.statements.proofs.LawsParts.{head_plain, after_plain_then, retell_block}
 use Rattle.statements.proofs.LawsBlock.{ready_block}
 
