@@ -1,5 +1,5 @@
 -- A global: its initializer, whether its name is new, its binding and its row; the answers of its returns. Assumes nothing.
-use mathlib.Core.Path.{◌≡◌, refl, ap, sym, subst, ◌∙◌}
+use mathlib.Core.Path.{◌≡◌, ap, sym, subst, ◌∙◌}
 use mathlib.Core.Bool.{Bool, true, false, not}
 use mathlib.Core.List.{List, [], ◌∷◌, append-nil}
 use mathlib.Core.Logic.{◌⊎◌, inl, inr}
@@ -31,7 +31,7 @@ use Rattle.answers.specs.declared.answer.Judgement.TheVariants.{Typed, GoesOn, R
 use Rattle.answers.specs.declared.answer.Judged.{Judged}
 use Rattle.answers.specs.Answers.{with_row}
 use Rattle.expressions.specs.Contract.{context_of, Fine, Typing, Meets, accepts, refuses, Ready, Told}
-use Rattle.expressions.proofs.LawsMeets.{Untyped, pairs_told}
+use Rattle.expressions.proofs.LawsMeets.{pairs_told}
 use Rattle.expressions.proofs.LawsAfter.{ready, typing_of, row_other, row-result, row_binder}
 use Rattle.expressions.proofs.LawsChild.{child_within, child_fine}
 use Rattle.expressions.proofs.LawsLabels.{expr_long, expr_head}

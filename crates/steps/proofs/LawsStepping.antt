@@ -23,7 +23,7 @@ use Rattle.bindings.specs.Bindings.{names_of}
 use Rattle.answers.specs.declared.answer.Broken.{Broken}
 use Rattle.answers.specs.declared.answer.Judgement.TheVariants.{Refused}
 use Rattle.answers.specs.declared.answer.Judged.{Judged}
-use Rattle.answers.specs.Answers.{broken_number, Refuses}
+use Rattle.answers.specs.Answers.{broken_number}
 use Rattle.expressions.specs.Contract.{context_of, Meets}
 use Rattle.expressions.specs.Contract as meeting
 use Rattle.expressions.proofs.LawsMeets.{Unrefused}

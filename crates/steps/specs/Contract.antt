@@ -22,7 +22,7 @@ use Rattle.bindings.specs.declared.Bindings.{Bindings}
 use Rattle.answers.specs.declared.answer.Broken.{Broken}
 use Rattle.answers.specs.declared.answer.Walk.{Walk}
 use Rattle.answers.specs.declared.file.IndexedFile.{IndexedFile}
-use Rattle.answers.specs.Answers.{broken_number, tables}
+use Rattle.answers.specs.Answers.{broken_number}
 use Rattle.expressions.specs.Contract.{Fine, Few}
 use Rattle.steps.specs.declared.context.Context.{Context}
 use Rattle.steps.specs.declared.context.Refusal.{Refusal}

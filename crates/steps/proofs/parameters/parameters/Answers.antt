@@ -2,7 +2,6 @@
 use borrow.Author.Rules.{rules}
 use Rattle.std.proofs.lemmas.Bool.{not_from_true, not_from_false}
 use native.Mathlib.Omega.{arith}
-use mathlib.Core.Path.{refl}
 use Rattle.steps.proofs.LawsParameters.{parameters_start, parameter_some, parameter_node, parameter_entry, parameter_bindable, parameter_fits, parameter_taken, parameter_again, parameters_done}
 use Rattle.steps.proofs.parameters.parameters.Goals as goal
 
