@@ -99,16 +99,16 @@ module _ {F : List ℕ} {S : Sections} {X W K : List ℕ} (z : ReadyRun F S X W 
       few = omega (arith, structs_counted.steps_are, z.held.good_tables.laid.structs_most);
     }
 
-    module _ {r₂ : Result Context Refusal} {K₂ : List ℕ} (told₂ : ToldBuiltIns F S X W c K₂ r₂) where
+    module _ {r₂ : Result Context Refusal} {K₂ : List ℕ} (told₂ : ToldBuiltIns F S X W c K₂ r₂) {V : List ℕ} (same : V ≡ W) where
       both : (R : List ℕ) → Runs F S X start (tabulate S.structs struct_name ++ tabulate S.built_ins built_in) R W R W K₂ r₂
       both R = runs_then (apart_bare _ (built_ins_bare S.built_ins)) e₁ (structs_run told₁ R) (told₂.tells R)
 
-      pub first_built_ins_stop : {r : Result Context Refusal} → HandedUp r₂ r → ToldFirst F S X W W K₂ r
-      first_built_ins_stop e = subst (ToldFirst F S X W W K₂) (sym e.same) record {
+      pub first_built_ins_stop : {r : Result Context Refusal} → HandedUp r₂ r → ToldFirst F S X W V K₂ r
+      first_built_ins_stop {r} e = subst (λ V. ToldFirst F S X W V K₂ r) (sym same) (subst (ToldFirst F S X W W K₂) (sym e.same) record {
         tells = λ R ds D.
             subst (λ ss. Runs F S X start ss R W R W K₂ r₂) (append_assoc (tabulate S.structs struct_name) (tabulate S.built_ins built_in) (headings 0 ds))
             (runs_stop (headings 0 ds) e.stopped (both R));
-      }
+      })
 
       module _ {d : Context} (e₂ : r₂ ≡ Ok d) where
         built_ins_counted : More c d 0 S.built_ins S.built_ins
@@ -122,8 +122,9 @@ module _ {F : List ℕ} {S : Sections} {X W K : List ℕ} (z : ReadyRun F S X W 
               steps_are = ap (λ x. x.steps) e ∙ omega (arith, m.steps_are, n);
             }
 
-        pub first_headings : ReadyDecls headings F S X W K₂ d
+        pub first_headings : ReadyDecls headings F S X V K₂ d
         first_headings =
+            subst (λ V. ReadyDecls headings F S X V K₂ d) (sym same)
             let m = after_counted 0 1 (headings 0 z.declarations) d (group_alike headings_group 0 z.declarations) in
             record {
               held = (runs_next e₂ (told₂.tells [])).1;
@@ -136,11 +137,11 @@ module _ {F : List ℕ} {S : Sections} {X W K : List ℕ} (z : ReadyRun F S X W 
               sums = omega (arith, bare_sum e₁ (structs_run told₁ []) (structs_bare S.structs), bare_sum e₂ (told₂.tells []) (built_ins_bare S.built_ins), z.held.good_tables.laid.nodes_most);
             }
 
-        pub first_done : {r : Result Context Refusal} {W' K' : List ℕ} → HeadingsTold F S X d W W' K' r → ToldFirst F S X W W' K' r
+        pub first_done : {r : Result Context Refusal} {W' K' : List ℕ} → HeadingsTold F S X d V W' K' r → ToldFirst F S X W W' K' r
         first_done {r} {W'} {K'} told = record {
           tells = λ R ds D.
               subst (λ ss. Runs F S X start ss R W R W' K' r) (append_assoc (tabulate S.structs struct_name) (tabulate S.built_ins built_in) (headings 0 ds))
-              (runs_then (apart_bare _ (headings_bare 0 ds)) e₂ (both R) ((told.tells R).tells ds D));
+              (runs_then (apart_bare _ (headings_bare 0 ds)) e₂ (both R) (((subst (λ V. HeadingsTold F S X d V W' K' r) same told).tells R).tells ds D));
         }
 
   -- all groups

@@ -9,7 +9,6 @@ pub mod LawsHeadings
 pub mod LawsLoops
 pub mod LawsDecls
 pub mod LawsAll
-pub mod LawsFill
 pub mod LawsRows
 pub mod LawsCheck
 pub mod Endless

@@ -105,7 +105,12 @@ fn run(file: &IndexedFile<'_>, walk: &mut Walk<'_>) -> Result<Context, Refusal>
 }
 
 // The check of a readable file, where rows and work have two numbers for each node.
-fn check_read(file: &[u8], sections: Sections, rows: &mut [u16], work: &mut [u16]) -> Answer
+fn check_read<'a>(
+    file: &[u8],
+    sections: Sections,
+    rows: &'a mut [u16],
+    work: &'a mut [u16],
+) -> Answer
     requires { ReadyCheck file.now sections rows.old work.old }
     ensures { ToldCheck file.now sections rows.new work.new result }
 {
@@ -122,7 +127,8 @@ fn check_read(file: &[u8], sections: Sections, rows: &mut [u16], work: &mut [u16
     };
     let mut walk = Walk { rows, bindings };
     let stepped = run(&indexed, &mut walk);
-    finish(stepped, walk.rows)
+    let Walk { rows, .. } = walk;
+    finish(stepped, rows)
 }
 
 // The check of a file that was read: tests the buffers, and answers; `rows` gets two numbers for each node, and `work` lends as many.

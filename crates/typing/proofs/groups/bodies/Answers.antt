@@ -25,7 +25,7 @@ pub loop-node-preserved : goal.loop-node-preserved
 loop-node-preserved c = (
   along_next bodies_group c.loop-node.invariant.0 c.requires.0 c.loop-node-test.true c.past-node.ensures c.body.ensures.told c.in_ok-c.was,
   search rules,
-  ?,
+  c.in_ok-c.ensures.long,
 )
 
 pub returns-clause-told : goal.returns-clause-told

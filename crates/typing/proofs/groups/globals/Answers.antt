@@ -25,8 +25,11 @@ pub loop-node-preserved : goal.loop-node-preserved
 loop-node-preserved c = (
   along_next globals_group c.loop-node.invariant.0 c.requires.0 c.loop-node-test.true c.past-node.ensures c.global.ensures.told c.in_ok-c.was,
   search rules,
-  ?,
+  c.in_ok-c.ensures.long,
 )
 
 pub returns-clause-told : goal.returns-clause-told
 returns-clause-told c = along_done globals_group c.loop-node.invariant.0 c.loop-node-test.false
+
+pub returns-clause-long : goal.returns-clause-long
+returns-clause-long c = c.loop-node.invariant.2
