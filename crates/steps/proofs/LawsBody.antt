@@ -230,9 +230,6 @@ module _ {F : List ℕ} {S : Sections} {X R W K : List ℕ} {c : Context} {n : �
                     let (i, L, q, d) = part_of _ (m₂.tells body_block.tree body_block.stands _ held) v in
                     d.after.fine
 
-                pub body_long : S.nodes * 2 ≤ length R₂
-                body_long = fine_now.rows_long
-
                 -- for `leave` and `row`
                 pub body_scoped : Scoped F S W₂ K₂ (c.names + count) × (c.names ≤ c.names + count)
                 body_scoped = (fine_now.scoped, omega arith)

@@ -3,7 +3,7 @@ use mathlib.Core.Path.{◌≡◌, ap, sym, subst, ◌∙◌}
 use mathlib.Core.Bool.{Bool, true, false, not}
 use mathlib.Core.List.{List, [], ◌∷◌, append-nil}
 use mathlib.Core.Logic.{◌⊎◌, inl, inr}
-use Prim.Native.Nat.{ℕ, ◌+◌, ◌*◌, ◌≤◌, ◌<◌}
+use Prim.Native.Nat.{ℕ, ◌+◌, ◌*◌, ◌<◌}
 use native.Mathlib.Omega.{arith}
 use lib.ListN.{length}
 use borrow.Author.Tests.{eq-eqb, not-true, not-false}
@@ -104,9 +104,6 @@ module _ {F : List ℕ} {S : Sections} {X R W K : List ℕ} {c : Context} {n : �
     module _ {t : ℕ} (y₁ : r₁.judgement ≡ Typed t) where
       fine_now : Fine F S X R₁ W₁ K₁ c.names c.names
       fine_now = child_fine global_first m₁ y₁
-
-      pub global_long : S.nodes * 2 ≤ length R₁
-      global_long = fine_now.rows_long
 
       -- for `is_new`, `bind` and `row`
       pub global_some : Some F S W₁ K₁

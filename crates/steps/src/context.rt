@@ -1,5 +1,5 @@
 // The context, by value, and its steps.
-ghost use Rattle.std.specs.Prelude.{◌≡◌, ◌+◌, ◌*◌, ◌≤◌, ◌<◌, length, OnOk};
+ghost use Rattle.std.specs.Prelude.{◌≡◌, ◌+◌, ◌<◌};
 ghost use Rattle.typing_rules.specs.Steps.{built_in, struct_fields};
 ghost use Rattle.answers.specs.Walks.{SameBuffers};
 ghost use Rattle.steps.specs.Contract.{with_struct, with_name, with_step, summing, refusal_at, AnsweredAt, RowlessAt, ReadyStruct, ToldStruct, ReadyBuiltInAt, ReadyHeadingAt, ToldHeadingAt, ReadyGlobalAt, ToldGlobalAt, ReadyFieldsAt, ReadyBodyAt, ToldBodyAt};
@@ -176,7 +176,6 @@ impl Context {
     ) -> Result<Context, Refusal>
         requires { ReadyGlobalAt file.now walk.old self node }
         ensures told { ToldGlobalAt file.now walk.old self node walk.new result }
-        ensures long { OnOk result (file.now.sections.nodes * 2 ≤ length walk.new.rows.now) }
         ensures same_buffers { SameBuffers walk.old walk.new }
     {
         let frame = Frame {
@@ -231,7 +230,6 @@ impl Context {
     ) -> Result<Context, Refusal>
         requires { ReadyBodyAt file.now walk.old self node }
         ensures told { ToldBodyAt file.now walk.old self node walk.new result }
-        ensures long { OnOk result (file.now.sections.nodes * 2 ≤ length walk.new.rows.now) }
         ensures same_buffers { SameBuffers walk.old walk.new }
     {
         let t = node_t(file.bytes, file.sections, node);

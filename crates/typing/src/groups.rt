@@ -1,5 +1,5 @@
 // The steps in their groups, each step from the context that those before it made.
-ghost use Rattle.std.specs.Prelude.{◌≡◌, ◌*◌, ◌≤◌, length, OnOk};
+ghost use Rattle.std.specs.Prelude.{◌≡◌, ◌*◌, ◌≤◌, length};
 ghost use Rattle.oat.specs.Basics.{tabulate};
 ghost use Rattle.typing_rules.specs.Steps.{struct_name, struct_fields, headings, globals, bodies};
 ghost use Rattle.answers.specs.Walks.{SameBuffers};
@@ -87,7 +87,6 @@ fn global(
 ) -> Result<Context, Refusal>
     requires { ReadyDeclAt file.now walk.old.bindings context node × (file.now.sections.nodes * 2 ≤ length walk.old.rows.now) }
     ensures told { ToldDeclAt globals file.now walk.old context node walk.new result }
-    ensures long { OnOk result (file.now.sections.nodes * 2 ≤ length walk.new.rows.now) }
     ensures same_buffers { SameBuffers walk.old walk.new }
 {
     match node_kind(file.bytes, file.sections, node) {
@@ -104,7 +103,6 @@ pub fn globals(
 ) -> Result<Context, Refusal>
     requires { ReadyDeclsAt globals file.now walk.old.bindings context × (file.now.sections.nodes * 2 ≤ length walk.old.rows.now) }
     ensures told { ToldDeclsAt globals file.now walk.old context walk.new result }
-    ensures long { OnOk result (file.now.sections.nodes * 2 ≤ length walk.new.rows.now) }
     ensures same_buffers { SameBuffers walk.old walk.new }
 {
     let mut c = context;
@@ -137,7 +135,6 @@ fn body(
 ) -> Result<Context, Refusal>
     requires { ReadyDeclAt file.now walk.old.bindings context node × (file.now.sections.nodes * 2 ≤ length walk.old.rows.now) }
     ensures told { ToldDeclAt bodies file.now walk.old context node walk.new result }
-    ensures long { OnOk result (file.now.sections.nodes * 2 ≤ length walk.new.rows.now) }
     ensures same_buffers { SameBuffers walk.old walk.new }
 {
     match node_kind(file.bytes, file.sections, node) {

@@ -1,4 +1,5 @@
 -- `run` meets its contract. Assumes nothing.
+use native.Mathlib.Omega.{arith}
 use Rattle.typing.proofs.LawsRuns.{handed_up}
 use Rattle.typing.proofs.LawsAll.{all_first_stop, all_globals, all_globals_stop, all_fields, all_fields_stop, all_bodies, all_done}
 use Rattle.typing.proofs.check.run.Goals as goal
@@ -22,7 +23,7 @@ returns-in_err-third-clause-told c =
     (handed_up c.in_err-third.was c.from_residual-in_err-third.ensures.1)
 
 pub bodies-requires : goal.bodies-requires
-bodies-requires c = (all_bodies c.requires.0 c.run_first.ensures.told c.in_ok-first.was c.globals.ensures.told c.in_ok-second.was c.struct_fields.ensures c.in_ok-third.was, c.in_ok-second.ensures.long)
+bodies-requires c = (all_bodies c.requires.0 c.run_first.ensures.told c.in_ok-first.was c.globals.ensures.told c.in_ok-second.was c.struct_fields.ensures c.in_ok-third.was, omega (arith, c.globals.ensures.same_buffers.1.0, c.requires.1))
 
 pub returns-clause-told : goal.returns-clause-told
 returns-clause-told c = all_done c.requires.0 c.run_first.ensures.told c.in_ok-first.was c.globals.ensures.told c.in_ok-second.was c.struct_fields.ensures c.in_ok-third.was c.bodies.ensures.told

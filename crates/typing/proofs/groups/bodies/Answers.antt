@@ -7,7 +7,7 @@ use Rattle.typing.proofs.LawsGroups.{along_start, along_ready, along_tree, along
 use Rattle.typing.proofs.groups.bodies.Goals as goal
 
 pub loop-node-init : goal.loop-node-init
-loop-node-init c = (along_start bodies_group c.requires.0.held, search rules, search rules)
+loop-node-init c = (along_start bodies_group c.requires.0.held, search rules)
 
 pub body-requires : goal.body-requires
 body-requires c = (along_ready bodies_group c.loop-node.invariant.0 c.requires.0 c.loop-node-test.true, search rules)
@@ -25,7 +25,6 @@ pub loop-node-preserved : goal.loop-node-preserved
 loop-node-preserved c = (
   along_next bodies_group c.loop-node.invariant.0 c.requires.0 c.loop-node-test.true c.past-node.ensures c.body.ensures.told c.in_ok-c.was,
   search rules,
-  c.in_ok-c.ensures.long,
 )
 
 pub returns-clause-told : goal.returns-clause-told

@@ -7,7 +7,7 @@ use Rattle.typing.proofs.LawsGroups.{along_start, along_ready, along_tree, along
 use Rattle.typing.proofs.groups.globals.Goals as goal
 
 pub loop-node-init : goal.loop-node-init
-loop-node-init c = (along_start globals_group c.requires.0.held, search rules, search rules)
+loop-node-init c = (along_start globals_group c.requires.0.held, search rules)
 
 pub global-requires : goal.global-requires
 global-requires c = (along_ready globals_group c.loop-node.invariant.0 c.requires.0 c.loop-node-test.true, search rules)
@@ -25,11 +25,7 @@ pub loop-node-preserved : goal.loop-node-preserved
 loop-node-preserved c = (
   along_next globals_group c.loop-node.invariant.0 c.requires.0 c.loop-node-test.true c.past-node.ensures c.global.ensures.told c.in_ok-c.was,
   search rules,
-  c.in_ok-c.ensures.long,
 )
 
 pub returns-clause-told : goal.returns-clause-told
 returns-clause-told c = along_done globals_group c.loop-node.invariant.0 c.loop-node-test.false
-
-pub returns-clause-long : goal.returns-clause-long
-returns-clause-long c = c.loop-node.invariant.2

@@ -1,6 +1,6 @@
 -- `headings` meets its contract. The loop keeps: the declarations before `node` have had their headings' steps. Assumes nothing.
-use mathlib.Core.Path.{◌≡◌}
 use Prim.Native.Nat.{◌-◌}
+use Rattle.bindings.specs.Buffers.{SameWork}
 use Rattle.typing.proofs.LawsHeadings.{HeadingsAlong}
 use Rattle.typing.proofs.groups.headings.Given as goal
 

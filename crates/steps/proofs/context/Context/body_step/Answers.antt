@@ -2,7 +2,7 @@
 use Rattle.std.proofs.lemmas.Bool.{not_from_true, not_from_false}
 use native.Mathlib.Omega.{arith}
 use mathlib.Core.Path.{ap}
-use Rattle.steps.proofs.LawsBody.{unfinished, returns_unrefused, body_node, body_type, body_parameters, body_numbers, body_taken, body_block, body_no, body_open, body_scoped, body_long, body_fits, body_ok}
+use Rattle.steps.proofs.LawsBody.{unfinished, returns_unrefused, body_node, body_type, body_parameters, body_numbers, body_taken, body_block, body_no, body_open, body_scoped, body_fits, body_ok}
 use Rattle.steps.proofs.context.Context.body_step.Goals as goal
 
 pub node_t-t-requires : goal.node_t-t-requires
@@ -51,6 +51,3 @@ row-requires c = body_fits c.requires c.node_t-t.ensures.0 c.type_b-first.ensure
 
 pub returns-clause-told : goal.returns-clause-told
 returns-clause-told c = body_ok c.requires c.node_t-t.ensures.0 c.type_b-first.ensures.0 c.type_c-count.ensures.0 c.parameters.ensures.told (not_from_true _ c.if-not-parameters.false) c.type_a.ensures.0 c.block-body.ensures.told (returns_unrefused _ c.in-Returns.is) c.in-Returns.is (ap (λ w. w.now) c.leave.ensures.work_unchanged) c.leave.ensures.left c.row.ensures c.summing-after.ensures c.with_step.ensures
-
-pub returns-clause-long : goal.returns-clause-long
-returns-clause-long c = omega (arith, body_long c.requires c.node_t-t.ensures.0 c.type_b-first.ensures.0 c.type_c-count.ensures.0 c.parameters.ensures.told (not_from_true _ c.if-not-parameters.false) c.type_a.ensures.0 c.block-body.ensures.told (returns_unrefused _ c.in-Returns.is), c.leave, c.row)

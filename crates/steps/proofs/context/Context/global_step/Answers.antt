@@ -2,7 +2,7 @@
 use Rattle.std.proofs.lemmas.Bool.{not_from_true, not_from_false}
 use native.Mathlib.Omega.{arith}
 use borrow.Author.Rules.{rules}
-use Rattle.steps.proofs.LawsGlobal.{global_first, global_node, global_counts, global_no, global_some, global_bindable, global_long, global_fits, global_taken, global_ok, global_never}
+use Rattle.steps.proofs.LawsGlobal.{global_first, global_node, global_counts, global_no, global_some, global_bindable, global_fits, global_taken, global_ok, global_never}
 use Rattle.steps.proofs.context.Context.global_step.Goals as goal
 
 pub overflow_add-at : goal.overflow_add-at
@@ -37,6 +37,3 @@ unreachable-requires c = global_never c.requires c.expression-value.ensures.told
 
 pub with_name-requires : goal.with_name-requires
 with_name-requires c = let counts = global_counts c.requires in search (rules, counts)
-
-pub returns-clause-long : goal.returns-clause-long
-returns-clause-long c = omega (arith, global_long c.requires c.expression-value.ensures.told c.in-Typed.is, c.bind, c.row)
