@@ -421,7 +421,10 @@ operator-returns-in_default-judgement-clause-told t c =
     operator_no_2 c.requires.ready c.requires.node_value c.expression-one.ensures.told c.in-Typed.is c.requires.node_value_2 c.type_kind.ensures.0 c.if-type_kind-taken.false c.expression-two.ensures.told (untyped _ c.in_default-judgement.not-Typed)
 
 pub operator-type_kind-requires-2 : goal.operator-type_kind-requires-2
-operator-type_kind-requires-2 t c = child_type (binary_second c.requires.ready c.requires.node_value c.expression-one.ensures.told c.in-Typed.is).1 c.expression-two.ensures.told c.in-Typed-judgement.is
+operator-type_kind-requires-2 t c =
+    let first_there = child_type (binary_first c.requires.ready c.requires.node_value) c.expression-one.ensures.told c.in-Typed.is in
+    let second_there = child_type (binary_second c.requires.ready c.requires.node_value c.expression-one.ensures.told c.in-Typed.is).1 c.expression-two.ensures.told c.in-Typed-judgement.is in
+    search (first_there, second_there)
 
 pub operator-returns-then-type_kind-taken-2-clause-told : goal.operator-returns-then-type_kind-taken-2-clause-told
 operator-returns-then-type_kind-taken-2-clause-told t c =
