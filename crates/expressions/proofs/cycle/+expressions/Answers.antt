@@ -420,6 +420,7 @@ pub operator-returns-in_default-judgement-clause-told : goal.operator-returns-in
 operator-returns-in_default-judgement-clause-told t c =
     operator_no_2 c.requires.ready c.requires.node_value c.expression-one.ensures.told c.in-Typed.is c.requires.node_value_2 c.type_kind.ensures.0 c.if-type_kind-taken.false c.expression-two.ensures.told (untyped _ c.in_default-judgement.not-Typed)
 
+-- either operand's type may be looked at, so that a test of the wrong one is refused by what the function answers
 pub operator-type_kind-requires-2 : goal.operator-type_kind-requires-2
 operator-type_kind-requires-2 t c =
     let first_there = child_type (binary_first c.requires.ready c.requires.node_value) c.expression-one.ensures.told c.in-Typed.is in
