@@ -152,8 +152,8 @@ module _ {F : List ℕ} {S : Sections} {R W : List ℕ} (z : ReadyCheck F S R W)
         let p = z.program in
         ends_small p z.file z.reads (run_ends p z.file z.reads (m.tells p.declarations (declares p z.file z.reads)))
 
-    pub check_told : {R' : List ℕ} {a : Answer} → length R₁ ≡ length R → length W₁ ≡ length W → a ≡ answer_of r → R' ≡ rows_after r R₁ → ToldCheck F S R' W₁ a
-    check_told {R'} {a} l w ea e_r = record {
+    pub check_told : {R' W' : List ℕ} {a : Answer} → length R₁ ≡ length R → length W' ≡ length W → a ≡ answer_of r → R' ≡ rows_after r R₁ → ToldCheck F S R' W' a
+    check_told {R'} {W'} {a} l w ea e_r = record {
       tells = λ p f.
           subst (λ x. AnswersAs p R' x) (sym ea)
           (subst (λ x. AnswersAs p x (answer_of r)) (sym e_r)

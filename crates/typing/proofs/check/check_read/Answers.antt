@@ -18,4 +18,4 @@ pub finish-requires : goal.finish-requires
 finish-requires c = check_small c.requires c.run-stepped.ensures.told
 
 pub returns : goal.returns
-returns c = check_told c.requires c.run-stepped.ensures.told c.run-stepped.ensures.same_buffers.1.0 c.run-stepped.ensures.same_buffers.1.1.1 c.finish.ensures.value c.finish.ensures.rows_after
+returns c = check_told c.requires c.run-stepped.ensures.told c.run-stepped.ensures.same_buffers.1 (search rules) c.finish.ensures.value (search rules)

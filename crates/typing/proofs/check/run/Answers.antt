@@ -23,7 +23,7 @@ returns-in_err-third-clause-told c =
     (handed_up c.in_err-third.was c.from_residual-in_err-third.ensures.1)
 
 pub bodies-requires : goal.bodies-requires
-bodies-requires c = (all_bodies c.requires.0 c.run_first.ensures.told c.in_ok-first.was c.globals.ensures.told c.in_ok-second.was c.struct_fields.ensures c.in_ok-third.was, omega (arith, c.globals.ensures.same_buffers.1.0, c.requires.1))
+bodies-requires c = (all_bodies c.requires.0 c.run_first.ensures.told c.in_ok-first.was c.globals.ensures.told c.in_ok-second.was c.struct_fields.ensures c.in_ok-third.was, omega (arith, c.globals.ensures.same_buffers.1, c.requires.1))
 
 pub returns-clause-told : goal.returns-clause-told
 returns-clause-told c = all_done c.requires.0 c.run_first.ensures.told c.in_ok-first.was c.globals.ensures.told c.in_ok-second.was c.struct_fields.ensures c.in_ok-third.was c.bodies.ensures.told

@@ -6,7 +6,7 @@ use Rattle.typing.proofs.LawsHeadings.{headings_start, headings_ready, headings_
 use Rattle.typing.proofs.groups.headings.Goals as goal
 
 pub loop-node-init : goal.loop-node-init
-loop-node-init c = (search (headings_start, rules), refl, refl)
+loop-node-init c = (search (headings_start, rules), (refl, refl))
 
 pub heading-requires : goal.heading-requires
 heading-requires c = search (headings_ready, rules)
