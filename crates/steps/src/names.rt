@@ -29,6 +29,7 @@ pub fn types_formed(file: &IndexedFile<'_>, first: usize, count: usize) -> bool
     requires { first + count ≤ file.now.sections.fields }
     ensures { result ≡ types_formed file.now.index.now (tables file.now) first count }
 {
+    // No `all`: that the closure may be called at each index didn't prove.
     for i in 0..count {
         if !is_formed(file.index, field_type(file.bytes, file.sections, first + i)) {
             return false;
@@ -42,6 +43,7 @@ pub fn times(names: &[u16], count: usize, name: u16) -> u16
     requires { (count ≤ length names.now) × (count < 65536) }
     ensures { result ≡ times_in names.now count name }
 {
+    // Counted to the end, in 16 bits, so that LLVM makes vector instructions of it (DECISIONS.md): no `contains`, which branches out.
     let mut found = 0;
     for other in &names[..count] {
         if *other == name {

@@ -69,6 +69,8 @@ pub fn headings(
     ensures told { HeadingsToldAt file.now bindings.old context bindings.new result }
     ensures same_work { SameWork bindings.old bindings.new }
 {
+    // The loop follows the ends of trees. Those of `globals` and `bodies` differ in their step alone; one generic function would need a
+    // trait with the step, its group and the group's laws as ghost members, and three types with an impl each: no plainer.
     let mut c = context;
     let mut node = 0;
     while node < file.sections.nodes {
