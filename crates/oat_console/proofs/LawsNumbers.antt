@@ -2,6 +2,7 @@
 use mathlib.Core.Path.{◌≡◌, refl, ap, sym, ◌∙◌}
 use mathlib.Core.Bool.{true, false}
 use mathlib.Core.List.{List, [], ◌∷◌}
+use mathlib.Core.Logic.{◌⊎◌, inl, inr}
 use Prim.Native.Nat.{ℕ, suc, ◌+◌, ◌*◌, ◌-◌, ◌≤◌, ◌<◌}
 use native.Mathlib.Numerals.{add-one}
 use native.Mathlib.Omega.{arith}
@@ -52,11 +53,9 @@ module _ (w : List ℕ) where
     unfolding number_after
     at_byte h = ap (number_after n) (drop-cons w i 0 h)
 
-    pub low_byte : (c : ℕ) → c ≡ get_or w i 0 → i < length w → c < 48 → None ≡ number_in w
-    low_byte c e h l = sym (at_byte h ∙ rw (digit_low (get_or w i 0) (omega (arith, e, l)))) ∙ k
-
-    pub high_byte : (c : ℕ) → c ≡ get_or w i 0 → i < length w → 57 < c → None ≡ number_in w
-    high_byte c e h l = sym (at_byte h ∙ rw (digit_high (get_or w i 0) (omega (arith, e, l)))) ∙ k
+    pub no_digit : i < length w → (get_or w i 0 < 48) ⊎ (57 < get_or w i 0) → None ≡ number_in w
+    no_digit h (inl l) = sym (at_byte h ∙ rw (digit_low (get_or w i 0) l)) ∙ k
+    no_digit h (inr l) = sym (at_byte h ∙ rw (digit_high (get_or w i 0) l)) ∙ k
 
     pub next_byte : (c r : ℕ) → c ≡ get_or w i 0 → i < length w → 48 ≤ c → c ≤ 57 → r ≡ with_digit n c → number_after r (drop (i + 1) w) ≡ number_in w
     next_byte c r e h l m q =

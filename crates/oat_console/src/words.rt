@@ -27,7 +27,7 @@ pub(crate) fn number_in(word: &[u8]) -> Option<usize>
     }
     let mut number = 0;
     for &byte in word {
-        if byte < b'0' || b'9' < byte {
+        if !byte.is_ascii_digit() {
             return None;
         }
         number = with_digit(number, byte);
