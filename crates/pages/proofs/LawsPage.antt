@@ -102,8 +102,8 @@ long_of (no_room n l) = n
 pub page_unread : {l : Limits} {F R W O : List ℕ} {r : Answer} {g : Result Sections Unreadable} {n : Unreadable} {m : ℕ} → g ≡ reading_of l F → g ≡ Err n → m ≡ number_of g → r ≡ answer m 0 0 0
     → Paged l F R W O R W O r
 page_unread {l} {F} {R} {W} {r = r} {n = n} {m = m} e h k q =
-    let (c, d) = with_demands (check_unread {R = R} {W = W} e h k refl) in
     let same : m ≡ unreadable_number n = k ∙ ap number_of h in
+    let (c, d) = with_demands (check_unread {R = R} {W = W} e h same refl) in
     record {
       check = record { number = m; step = 0; place = 0; pairs = 0 };
       checked = c;

@@ -126,8 +126,8 @@ written_of p (no_room i u v) x q = absurd (let o : ◌≡◌ {A = ℕ} 0 1 = cc 
 pub tally_unread : {l : Limits} {F R W A B : List ℕ} {r : Answer} {g : Result Sections Unreadable} {n : Unreadable} {m : ℕ} → g ≡ reading_of l F → g ≡ Err n → m ≡ number_of g → r ≡ answer m 0 0
     → Tallied l F R W A B R W A B r
 tally_unread {l} {F} {R} {W} {n = n} {m = m} e h k q =
-    let (c, d) = with_demands (check_unread {R = R} {W = W} e h k refl) in
     let same : m ≡ unreadable_number n = k ∙ ap number_of h in
+    let (c, d) = with_demands (check_unread {R = R} {W = W} e h same refl) in
     record {
       check = record { number = m; step = 0; place = 0; pairs = 0 };
       checked = c;
