@@ -7,7 +7,7 @@ use Prim.Native.Nat.{ℕ, ◌+◌, ◌*◌, ◌/◌, ◌%◌, ◌≤◌, ◌<◌
 use native.Mathlib.Omega.{arith}
 use mir.Syntax.{w16}
 use mir.Val.{Fits}
-use lib.ListN.{length, get_or, drop, length-append}
+use lib.ListN.{length, get_or, drop}
 use Rattle.oat.specs.Tables.{Tables, node_at}
 use Rattle.oat.specs.ProgramFile.{Limits, widest, Program, meant, IsFile}
 use Rattle.oat.proofs.LawsBlank.{meant_is_file}
@@ -33,7 +33,7 @@ use Rattle.pages.specs.Page.{row_lines, last_line, page_of}
 use Rattle.pages.specs.Columns.{PageLong, OnBoard}
 use Rattle.pages.specs.Paging.{answer, same_answer, AfterAcceptance, short, printed, Paged}
 use Rattle.pages.specs.Writing.{ReadyRows, Writes, writes, no_room}
-use Rattle.pages.proofs.LawsLines.{FittingRows, rows_fit, lines_long, last_long}
+use Rattle.pages.proofs.LawsLines.{FittingRows, rows_fit, lines_long}
 use Rattle.pages.proofs.LawsBoard.{page_long, on_board}
 
 -- the page of a file with these sections, whose last line has x bytes

@@ -23,11 +23,11 @@ write_page-requires c =
     let these = these_meant _ _ c.meant.ensures c.blank_file-blank.ensures in
     page_ready _ c.read-read.ensures.value c.in-Ok.is c.check_sections-checked.ensures bytes these c.if-checked-ne0.false
 
-pub returns-in_default-2 : goal.returns-in_default-2
-returns-in_default-2 c =
+pub returns-in_default-write_page : goal.returns-in_default-write_page
+returns-in_default-write_page c =
     let bytes = bytes-of c.args.file.now c.type_inv.file in
     let these = these_meant _ _ c.meant.ensures c.blank_file-blank.ensures in
-    page_short _ c.read-read.ensures.value c.in-Ok.is c.check_sections-checked.ensures bytes these c.if-checked-ne0.false c.write_page.ensures c.in_default-2.not-Some c.told-in_default-2.ensures
+    page_short _ c.read-read.ensures.value c.in-Ok.is c.check_sections-checked.ensures bytes these c.if-checked-ne0.false c.write_page.ensures c.in_default-write_page.not-Some c.told-in_default-write_page.ensures
 
 pub returns : goal.returns
 returns c =

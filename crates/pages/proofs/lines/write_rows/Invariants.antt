@@ -1,6 +1,5 @@
 -- `lines::write_rows` meets its contract. The loop keeps: the lines of the nodes passed are written. Assumes nothing.
 use mathlib.Core.Path.{◌≡◌}
-use Prim.Native.Nat.{◌-◌, ◌≤◌}
 use lib.ListN.{length}
 use Rattle.file_sections.specs.Layout.{tables_of}
 use Rattle.writing.specs.Placed.{placed}
