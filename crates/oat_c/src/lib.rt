@@ -11,7 +11,6 @@ ghost use Rattle.tallies.specs.Tally.{Tallied};
 ghost use Rattle.pages.specs.Paging.{Paged};
 
 use program_file::Limits;
-use subtyping::question::Answer;
 
 // 0 where the file is readable, or the number under which it is refused.
 #[unsafe(no_mangle)]
@@ -41,19 +40,14 @@ pub extern "C" fn oat_subtype(
 {
     let answer = subtyping::question::subtype(file, Limits { parts, depth }, a, b);
     match answer {
-        Answer::Refused(number) => {
+        Ok(found) => {
+            *yes = u8::from(found.holds);
+            *pairs = found.pairs;
+            0
+        }
+        Err(refusal) => {
             *pairs = 0;
-            number
-        }
-        Answer::Yes(compared) => {
-            *yes = 1;
-            *pairs = compared;
-            0
-        }
-        Answer::No(compared) => {
-            *yes = 0;
-            *pairs = compared;
-            0
+            refusal.number()
         }
     }
 }
