@@ -8,7 +8,7 @@ ghost use Rattle.std.specs.Prelude.{◌≤◌};
 use answer_output::node_count;
 use program_file::{Limits, widest};
 use typing::check::{Answer, check};
-use vector_input::each_file;
+use vector_input::{next_length, read_one};
 
 // A file's answer, and the buffers as its check left them.
 #[derive(Clone, Copy)]
@@ -55,6 +55,10 @@ fn painted_from(buffer: [u16; 512]) -> usize {
     from
 }
 
+fn is_same_answer(a: Answer, b: Answer) -> bool {
+    a.number == b.number && a.step == b.step && a.place == b.place && a.pairs == b.pairs
+}
+
 // Prints what is said of a fact.
 fn say(fact: bool, text: &[u8]) {
     if !fact {
@@ -64,11 +68,11 @@ fn say(fact: bool, text: &[u8]) {
 }
 
 fn print_answer(answer: Answer) {
-    io::print_decimal(1, u64::from(answer.number));
+    io::print_decimal(1, answer.number as u64);
     io::write_all(1, b" ");
-    io::print_decimal(1, u64::from(answer.step));
+    io::print_decimal(1, answer.step as u64);
     io::write_all(1, b" ");
-    io::print_decimal(1, u64::from(answer.place));
+    io::print_decimal(1, answer.place as u64);
     io::write_all(1, b"\n");
 }
 
@@ -149,7 +153,7 @@ fn again(
     requires { needed ≤ 512 }
 {
     let outcome = check_in(file, widest(), rows, needed, work, needed);
-    say(outcome.answer == answer, label);
+    say(is_same_answer(outcome.answer, answer), label);
     let found = outcome.rows;
     say(compare(found, first, 0, needed, true), b", same rows\n");
 }
@@ -219,12 +223,12 @@ fn in_painted(
 {
     let outcome = check_in(file, limits, painted(), rows_length, painted(), work_length);
     let bare = Answer {
-        number,
+        number: number,
         step: 0,
         place: 0,
         pairs: 0,
     };
-    say(outcome.answer == bare, label);
+    say(is_same_answer(outcome.answer, bare), label);
     let rows = outcome.rows;
     let work = outcome.work;
     say_kept(rows, work);
@@ -282,16 +286,35 @@ fn facts(file: &[u8], needed: usize)
     io::write_all(1, b"--\n");
 }
 
-// Answers a file.
-fn answer(file: &[u8]) {
-    let nodes = node_count(file, widest());
-    if nodes <= 240 {
-        facts(file, 2 * nodes);
+// Answers a file of this length.
+fn answer_one(file: &[u8], bytes: usize) {
+    if file.len() < bytes {
+        return;
     }
+    let part = &file[..bytes];
+    let nodes = node_count(part, widest());
+    if nodes <= 240 {
+        facts(part, 2 * nodes);
+    }
+}
+
+// Answers the next file of the input; false where there is none.
+fn answer_next() -> bool {
+    let bytes = next_length();
+    if bytes == 65536 {
+        return false;
+    }
+    let mut file = [0u8; 45200];
+    read_one(&mut file, bytes);
+    answer_one(&file, bytes);
+    true
 }
 
 // Answers each file of the input, at most 100,000.
 fn main() {
-    let mut file = [0u8; 45200];
-    each_file(&mut file, 100000, answer);
+    for _ in 0..100000usize {
+        if !answer_next() {
+            return;
+        }
+    }
 }

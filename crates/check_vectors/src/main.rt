@@ -6,7 +6,7 @@
 use answer_output::{node_count, write_answer};
 use program_file::widest;
 use typing::check::check;
-use vector_input::each_file;
+use vector_input::{next_length, read_one};
 
 // Checks a file and prints its lines.
 fn answer(file: &[u8], rows: &mut [u16], work: &mut [u16], text: &mut [u8]) {
@@ -20,8 +20,27 @@ fn answer(file: &[u8], rows: &mut [u16], work: &mut [u16], text: &mut [u8]) {
         text,
     );
     io::write_all(1, b"pairs ");
-    io::print_decimal(1, u64::from(answer.pairs));
+    io::print_decimal(1, answer.pairs as u64);
     io::write_all(1, b"\n--\n");
+}
+
+// Answers a file of this length.
+fn answer_one(file: &[u8], length: usize, rows: &mut [u16], work: &mut [u16], text: &mut [u8]) {
+    if length <= file.len() {
+        answer(&file[..length], rows, work, text);
+    }
+}
+
+// Answers each file of the input, at most `most`.
+fn answer_each(file: &mut [u8], rows: &mut [u16], work: &mut [u16], text: &mut [u8], most: usize) {
+    for _ in 0..most {
+        let length = next_length();
+        if length == 65536 {
+            return;
+        }
+        read_one(&mut *file, length);
+        answer_one(&*file, length, &mut *rows, &mut *work, &mut *text);
+    }
 }
 
 fn main() {
@@ -29,7 +48,5 @@ fn main() {
     let mut rows = [7u16; 8192];
     let mut work = [9u16; 8192];
     let mut text = [0u8; 73746];
-    each_file(&mut file, 100000, |part| {
-        answer(part, &mut rows, &mut work, &mut text)
-    });
+    answer_each(&mut file, &mut rows, &mut work, &mut text, 100000);
 }

@@ -8,12 +8,12 @@ use answer_output::{node_count, write_answer};
 use program_file::Limits;
 use subtyping::question::subtype;
 use typing::check::check;
-use vector_input::{next_length, next_number, read_one};
+use vector_input::{next_length, read_one};
 
-// The limits that the next eight bytes of the input say.
+// The limits that the next eight bytes of the input say; 65,536 for more, which is out of range too.
 fn next_limits() -> Limits {
-    let parts = next_number();
-    let depth = next_number();
+    let parts = next_length();
+    let depth = next_length();
     Limits { parts, depth }
 }
 
@@ -21,7 +21,7 @@ fn next_limits() -> Limits {
 fn print_read(file: &[u8], limits: Limits) {
     let number = program_file::number(program_file::read(file, limits));
     io::write_all(1, b"read ");
-    io::print_decimal(1, u64::from(number));
+    io::print_decimal(1, number as u64);
     io::write_all(1, b"\nsub");
 }
 
@@ -60,7 +60,7 @@ fn answer(file: &[u8], limits: Limits, rows: &mut [u16], work: &mut [u16], text:
         text,
     );
     io::write_all(1, b"pairs ");
-    io::print_decimal(1, u64::from(answer.pairs));
+    io::print_decimal(1, answer.pairs as u64);
     io::write_all(1, b"\n--\n");
 }
 
@@ -78,12 +78,13 @@ fn answer_one(
     }
 }
 
-// Answers each case of the input, at most `most`. A loop of its own and not `each_file`, since limits stand between a length and its file.
+// Answers each case of the input, at most `most`.
 fn answer_each(file: &mut [u8], rows: &mut [u16], work: &mut [u16], text: &mut [u8], most: usize) {
     for _ in 0..most {
-        let Some(length) = next_length() else {
+        let length = next_length();
+        if length == 65536 {
             return;
-        };
+        }
         let limits = next_limits();
         read_one(&mut *file, length);
         answer_one(&*file, length, limits, &mut *rows, &mut *work, &mut *text);

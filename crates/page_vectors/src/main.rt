@@ -8,6 +8,11 @@ use pages::page;
 use program_file::Limits;
 use vector_input::{next_length, next_number, read_one};
 
+// Fills a buffer with `#`.
+fn paint(buffer: &mut [u8]) {
+    buffer.fill(35);
+}
+
 // Prints a number and the text before it.
 fn print_number(before: &[u8], number: usize) {
     io::write_all(1, before);
@@ -17,9 +22,9 @@ fn print_number(before: &[u8], number: usize) {
 // Prints the page of a file, as this program does.
 fn answer(file: &[u8], limits: Limits, rows: &mut [u16], work: &mut [u16], out: &mut [u8]) {
     let answer = page(file, limits, rows, work, &mut *out);
-    print_number(b"", usize::from(answer.number));
-    print_number(b" ", usize::from(answer.step));
-    print_number(b" ", usize::from(answer.place));
+    print_number(b"", answer.number as usize);
+    print_number(b" ", answer.step as usize);
+    print_number(b" ", answer.place as usize);
     print_number(b" ", answer.bytes);
     io::write_all(1, b"\n");
     io::write_all(1, &*out);
@@ -34,17 +39,17 @@ struct Case {
     room: usize,
 }
 
-// The case that the next sixteen bytes of the input say; None where the input has ended, or no file is so long.
-fn next_case() -> Option<Case> {
-    let length = next_length()?;
-    let parts = next_number();
-    let depth = next_number();
+// The case that the next sixteen bytes of the input say; a length of 65,536 for more, and where the input has ended.
+fn next_case() -> Case {
+    let length = next_length();
+    let parts = next_length();
+    let depth = next_length();
     let room = next_number();
-    Some(Case {
+    Case {
         length,
         limits: Limits { parts, depth },
         room,
-    })
+    }
 }
 
 // Answers a case whose file is read.
@@ -60,14 +65,15 @@ fn answer_one(case: Case, file: &[u8], rows: &mut [u16], work: &mut [u16], out: 
     answer(&file[..length], case.limits, rows, work, &mut out[..room]);
 }
 
-// Answers each case of the input, at most `most`. A loop of its own and not `each_file`, since limits stand between a length and its file.
+// Answers each case of the input, at most `most`.
 fn answer_each(file: &mut [u8], rows: &mut [u16], work: &mut [u16], out: &mut [u8], most: usize) {
     for _ in 0..most {
-        let Some(case) = next_case() else {
+        let case = next_case();
+        if case.length == 65536 {
             return;
-        };
+        }
         read_one(&mut *file, case.length);
-        out.fill(b'#');
+        paint(&mut *out);
         answer_one(case, &*file, &mut *rows, &mut *work, &mut *out);
     }
 }

@@ -6,7 +6,7 @@
 
 use program_file::widest;
 use subtyping::question::{Refusal, subtype};
-use vector_input::each_file;
+use vector_input::{next_length, read_one};
 
 // Prints 1 or 0; false where the question is refused.
 fn pair(file: &[u8], a: usize, b: usize) -> bool {
@@ -70,7 +70,26 @@ fn table(file: &[u8]) {
     io::write_all(1, b"--\n");
 }
 
+// Answers a file of this length.
+fn answer_one(file: &[u8], length: usize) {
+    if length <= file.len() {
+        table(&file[..length]);
+    }
+}
+
+// Answers each file of the input, at most `most`.
+fn answer_each(file: &mut [u8], most: usize) {
+    for _ in 0..most {
+        let length = next_length();
+        if length == 65536 {
+            return;
+        }
+        read_one(&mut *file, length);
+        answer_one(&*file, length);
+    }
+}
+
 fn main() {
     let mut file = [0u8; 45200];
-    each_file(&mut file, 100000, table);
+    answer_each(&mut file, 100000);
 }

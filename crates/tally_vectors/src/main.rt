@@ -6,12 +6,17 @@
 
 use program_file::Limits;
 use tallies::tally;
-use vector_input::{next_length, next_number, read_one};
+use vector_input::{next_length, read_one};
+
+// Fills a buffer with a number.
+fn paint(buffer: &mut [u16], number: u16) {
+    buffer.fill(number);
+}
 
 // Prints a number and the byte before it.
 fn print_number(before: &[u8], number: u16) {
     io::write_all(1, before);
-    io::print_decimal(1, u64::from(number));
+    io::print_decimal(1, number as u64);
 }
 
 // Prints a word and the numbers of a buffer, in a line.
@@ -58,19 +63,19 @@ struct Case {
     declarations: usize,
 }
 
-// The case that the next twenty bytes of the input say; None where the input has ended, or no file is so long.
-fn next_case() -> Option<Case> {
-    let length = next_length()?;
-    let parts = next_number();
-    let depth = next_number();
-    let types = next_number();
-    let declarations = next_number();
-    Some(Case {
+// The case that the next twenty bytes of the input say; 65,536 for more in any of its numbers, and where the input has ended.
+fn next_case() -> Case {
+    let length = next_length();
+    let parts = next_length();
+    let depth = next_length();
+    let types = next_length();
+    let declarations = next_length();
+    Case {
         length,
         limits: Limits { parts, depth },
         types,
         declarations,
-    })
+    }
 }
 
 // Answers a case whose file is read.
@@ -104,7 +109,7 @@ fn answer_one(
     );
 }
 
-// Answers each case of the input, at most `most`. A loop of its own and not `each_file`, since limits stand between a length and its file.
+// Answers each case of the input, at most `most`.
 fn answer_each(
     file: &mut [u8],
     rows: &mut [u16],
@@ -114,12 +119,13 @@ fn answer_each(
     most: usize,
 ) {
     for _ in 0..most {
-        let Some(case) = next_case() else {
+        let case = next_case();
+        if case.length == 65536 {
             return;
-        };
+        }
         read_one(&mut *file, case.length);
-        by_type.fill(7777);
-        by_declaration.fill(8888);
+        paint(&mut *by_type, 7777);
+        paint(&mut *by_declaration, 8888);
         answer_one(
             case,
             &*file,
