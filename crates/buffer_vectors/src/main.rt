@@ -55,10 +55,6 @@ fn painted_from(buffer: [u16; 512]) -> usize {
     from
 }
 
-fn is_same_answer(a: Answer, b: Answer) -> bool {
-    a.number == b.number && a.step == b.step && a.place == b.place && a.pairs == b.pairs
-}
-
 // Prints what is said of a fact.
 fn say(fact: bool, text: &[u8]) {
     if !fact {
@@ -68,11 +64,11 @@ fn say(fact: bool, text: &[u8]) {
 }
 
 fn print_answer(answer: Answer) {
-    io::print_decimal(1, answer.number as u64);
+    io::print_decimal(1, u64::from(answer.number));
     io::write_all(1, b" ");
-    io::print_decimal(1, answer.step as u64);
+    io::print_decimal(1, u64::from(answer.step));
     io::write_all(1, b" ");
-    io::print_decimal(1, answer.place as u64);
+    io::print_decimal(1, u64::from(answer.place));
     io::write_all(1, b"\n");
 }
 
@@ -153,7 +149,7 @@ fn again(
     requires { needed ≤ 512 }
 {
     let outcome = check_in(file, widest(), rows, needed, work, needed);
-    say(is_same_answer(outcome.answer, answer), label);
+    say(outcome.answer == answer, label);
     let found = outcome.rows;
     say(compare(found, first, 0, needed, true), b", same rows\n");
 }
@@ -223,12 +219,12 @@ fn in_painted(
 {
     let outcome = check_in(file, limits, painted(), rows_length, painted(), work_length);
     let bare = Answer {
-        number: number,
+        number,
         step: 0,
         place: 0,
         pairs: 0,
     };
-    say(is_same_answer(outcome.answer, bare), label);
+    say(outcome.answer == bare, label);
     let rows = outcome.rows;
     let work = outcome.work;
     say_kept(rows, work);

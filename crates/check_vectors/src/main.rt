@@ -20,7 +20,7 @@ fn answer(file: &[u8], rows: &mut [u16], work: &mut [u16], text: &mut [u8]) {
         text,
     );
     io::write_all(1, b"pairs ");
-    io::print_decimal(1, answer.pairs as u64);
+    io::print_decimal(1, u64::from(answer.pairs));
     io::write_all(1, b"\n--\n");
 }
 

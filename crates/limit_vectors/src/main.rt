@@ -21,7 +21,7 @@ fn next_limits() -> Limits {
 fn print_read(file: &[u8], limits: Limits) {
     let number = program_file::number(program_file::read(file, limits));
     io::write_all(1, b"read ");
-    io::print_decimal(1, number as u64);
+    io::print_decimal(1, u64::from(number));
     io::write_all(1, b"\nsub");
 }
 
@@ -60,7 +60,7 @@ fn answer(file: &[u8], limits: Limits, rows: &mut [u16], work: &mut [u16], text:
         text,
     );
     io::write_all(1, b"pairs ");
-    io::print_decimal(1, answer.pairs as u64);
+    io::print_decimal(1, u64::from(answer.pairs));
     io::write_all(1, b"\n--\n");
 }
 

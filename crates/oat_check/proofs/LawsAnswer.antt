@@ -1,4 +1,5 @@
 -- An answer of the check, and its text. Assumes nothing.
+use Rattle.std.proofs.Common.{Result}
 use mathlib.Core.Path.{◌≡◌, ap, subst, ◌∙◌}
 use mathlib.Core.List.{List}
 use Prim.Native.Nat.{ℕ}
@@ -8,12 +9,12 @@ use Rattle.demand3.specs.CheckFile.{Checks}
 use Rattle.typing.specs.declared.check.Answer.{Answer}
 use Rattle.typing.specs.Check.{outcome_of, Checked}
 use Rattle.printing.specs.Outcome.{leaves, print_of}
-use Rattle.printing.specs.declared.Printed.{Printed}
+use Rattle.printing.specs.declared.Unprinted.{Unprinted}
 use Rattle.answer_output.specs.Nodes.{nodes_of}
 use Rattle.oat_check.specs.Answers.{Answers}
 
 module _ (F R W T R' W' T' : List ℕ) (limits : Limits) (widest : limits ≡ record { parts = 200; depth = 100 }) (a : Answer) (checked : Checked (setting_of limits) F R W R' W' a) where
-  pub answered : (nodes : ℕ) → nodes ≡ nodes_of (reading_of (setting_of limits) F) → (o : Printed)
+  pub answered : (nodes : ℕ) → nodes ≡ nodes_of (reading_of (setting_of limits) F) → (o : Result ℕ Unprinted)
       → leaves o T' ≡ print_of a.number a.step a.place R' nodes T
       → Answers F R W T R' T' (record { number = a.number; printed = o })
   answered nodes e o h = record {

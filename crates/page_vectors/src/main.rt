@@ -8,11 +8,6 @@ use pages::page;
 use program_file::Limits;
 use vector_input::{next_length, next_number, read_one};
 
-// Fills a buffer with `#`.
-fn paint(buffer: &mut [u8]) {
-    buffer.fill(35);
-}
-
 // Prints a number and the text before it.
 fn print_number(before: &[u8], number: usize) {
     io::write_all(1, before);
@@ -22,9 +17,9 @@ fn print_number(before: &[u8], number: usize) {
 // Prints the page of a file, as this program does.
 fn answer(file: &[u8], limits: Limits, rows: &mut [u16], work: &mut [u16], out: &mut [u8]) {
     let answer = page(file, limits, rows, work, &mut *out);
-    print_number(b"", answer.number as usize);
-    print_number(b" ", answer.step as usize);
-    print_number(b" ", answer.place as usize);
+    print_number(b"", usize::from(answer.number));
+    print_number(b" ", usize::from(answer.step));
+    print_number(b" ", usize::from(answer.place));
     print_number(b" ", answer.bytes);
     io::write_all(1, b"\n");
     io::write_all(1, &*out);
@@ -73,7 +68,7 @@ fn answer_each(file: &mut [u8], rows: &mut [u16], work: &mut [u16], out: &mut [u
             return;
         }
         read_one(&mut *file, case.length);
-        paint(&mut *out);
+        out.fill(b'#');
         answer_one(case, &*file, &mut *rows, &mut *work, &mut *out);
     }
 }

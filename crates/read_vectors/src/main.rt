@@ -11,7 +11,7 @@ fn answer_one(file: &[u8], length: usize) {
             &file[..length],
             program_file::widest(),
         ));
-        io::print_decimal(1, answer as u64);
+        io::print_decimal(1, u64::from(answer));
         io::write_all(1, b"\n");
     }
 }

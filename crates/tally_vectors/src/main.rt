@@ -8,15 +8,10 @@ use program_file::Limits;
 use tallies::tally;
 use vector_input::{next_length, read_one};
 
-// Fills a buffer with a number.
-fn paint(buffer: &mut [u16], number: u16) {
-    buffer.fill(number);
-}
-
 // Prints a number and the byte before it.
 fn print_number(before: &[u8], number: u16) {
     io::write_all(1, before);
-    io::print_decimal(1, number as u64);
+    io::print_decimal(1, u64::from(number));
 }
 
 // Prints a word and the numbers of a buffer, in a line.
@@ -124,8 +119,8 @@ fn answer_each(
             return;
         }
         read_one(&mut *file, case.length);
-        paint(&mut *by_type, 7777);
-        paint(&mut *by_declaration, 8888);
+        by_type.fill(7777);
+        by_declaration.fill(8888);
         answer_one(
             case,
             &*file,
