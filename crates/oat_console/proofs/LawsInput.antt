@@ -13,4 +13,4 @@ use Rattle.program_file.proofs.Theorem.{good_tables}
 
 module _ (limits : Limits) (s t u : List ℕ) (r : Result Sections Unreadable) (S : Sections) where
   pub laid : r ≡ reading_of limits s → r ≡ Ok S → u ≡ blank_file → t ≡ or_else u s → Laid t S
-  laid e read blank is = subst (λ (x : List ℕ). Laid x S) (sym (these_meant s u is blank)) (good_tables limits s r S e read).laid
+  laid e good blank is = subst (λ (x : List ℕ). Laid x S) (sym (these_meant s u is blank)) (good_tables limits s r S e good).laid
