@@ -52,9 +52,7 @@ broken_number NoDefault = 16
 
 -- r refuses under the number p at the place q, where k pairs have been compared
 pub record Refuses (r : Judged) (p q k : ℕ) : Type 0 where
-  pub broken : Broken
-  pub numbered : broken_number broken ≡ p
-  pub judged : r.judgement ≡ Refused broken q
+  pub judged : r.judgement ≡ Refused p q
   pub sum : r.at.pairs ≡ k
 
 -- r is the judgement j, and the walk stands at the node n in a scope of the height s, where k pairs have been compared

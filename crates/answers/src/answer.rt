@@ -30,14 +30,14 @@ impl Broken {
     }
 }
 
-// A type, a mark (goes on, returns), or the premise and the place of a refusal. A list of expressions goes on.
+// A type, a mark (goes on, returns), or the number and the place of a refusal. A list of expressions goes on.
 // A refusal is a case of it, and no Err: document 01's form.
 #[derive(Clone, Copy)]
 pub enum Judgement {
     Typed(usize),
     GoesOn,
     Returns,
-    Refused(Broken, usize),
+    Refused(usize, usize),
 }
 
 // What is fixed within a declaration: the file, the height at which its locals begin, and the type that it returns.
@@ -84,14 +84,11 @@ pub struct Judged {
 }
 
 impl Judged {
-    // A refusal, found where the walk stands.
+    // A refusal for the premise that is broken.
     pub fn refused(broken: Broken, place: usize, found: At) -> Judged
         ensures { Refuses result (broken_number broken) place found.pairs × (result.at ≡ found) }
     {
-        Judged {
-            judgement: Judgement::Refused(broken, place),
-            at: found,
-        }
+        refused(usize::from(broken.number()), place, found)
     }
 
     // A list of expressions, or a part that adds no mark: the walk goes on.
@@ -102,6 +99,16 @@ impl Judged {
             judgement: Judgement::GoesOn,
             at,
         }
+    }
+}
+
+// A refusal, found where the walk stands.
+pub fn refused(number: usize, place: usize, found: At) -> Judged
+    ensures { Refuses result number place found.pairs × (result.at ≡ found) }
+{
+    Judged {
+        judgement: Judgement::Refused(number, place),
+        at: found,
     }
 }
 

@@ -111,7 +111,7 @@ pub fn operator_of(operator: usize) -> Operator
         6..=9 => Operator::Fixed(0, 1),
         10..=11 => Operator::Equality,
         12..=13 => Operator::Fixed(1, 1),
-        _ => Operator::Fixed(0, 0),
+        0..=5 | 14..=15 | _ => Operator::Fixed(0, 0),
     }
 }
 

@@ -4,7 +4,7 @@
 // remainder by 512, and the number 512 + j leads from the position j to the one before it in its chain; all one higher, 0 for none.
 #![tactic(auto)]
 
-ghost use Rattle.std.specs.Prelude.{◌≡◌, ◌+◌, ◌*◌, ◌%◌, ◌≤◌, ◌<◌, get_or, set};
+ghost use Rattle.std.specs.Prelude.{◌≡◌, ◌+◌, ◌*◌, ◌%◌, ◌≤◌, ◌<◌, length, get_or, set};
 ghost use Rattle.file_sections.specs.Layout.{tables_of};
 ghost use Rattle.bindings.specs.Bindings.{binder_of, type_bound, name_bound, Position, Scoped, Some as Holding, SomeFrom, Finds, Freshness, Assignability, Bindable, Bound};
 ghost use Rattle.bindings.specs.Buffers.{SameWork};
@@ -115,6 +115,59 @@ pub fn is_assignable(
             && node_kind(file, sections, binder_at(file, sections, work, position)) == 1
 }
 
+// Puts the position, which has the name, first in its chain.
+pub fn link(chains: &mut [u16], position: usize, name: usize)
+    requires { (4736 ≤ length chains.old) × (position < 4224) }
+    ensures { chains.new ≡ set (set chains.old (512 + position) (get_or chains.old (name % 512) 0)) (name % 512) (position + 1) }
+{
+    chains::link(chains, name % 512, 512 + position, position + 1);
+}
+
+// Takes the position, which has the name and is first in its chain, out of it.
+fn unlink(chains: &mut [u16], position: usize, name: usize)
+    requires { (4736 ≤ length chains.old) × (position < 4224) }
+    ensures { chains.new ≡ set chains.old (name % 512) (get_or chains.old (512 + position) 0) }
+{
+    chains[name % 512] = chains[512 + position];
+}
+
+// Binds the name of the node, with the type t, at the position `scope`.
+pub fn bind(
+    file: &[u8],
+    sections: Sections,
+    work: &mut [u16],
+    chains: &mut [u16],
+    scope: usize,
+    node: usize,
+    t: usize,
+)
+    requires { Bindable file.now sections work.old chains.old scope node t }
+    ensures { Bound file.now sections work.old chains.old scope node t work.new chains.new }
+{
+    let entry = (scope - sections.built_ins) * 2;
+    work[entry] = node as u16;
+    work[entry + 1] = t as u16;
+    link(chains, scope, node_x(file, sections, node));
+}
+
+// Goes back from the scope `from` to the scope `to`.
+pub fn leave(
+    file: &[u8],
+    sections: Sections,
+    work: &[u16],
+    chains: &mut [u16],
+    from: usize,
+    to: usize,
+)
+    requires { Scoped file.now sections work.now chains.old from × (to ≤ from) }
+    ensures { Scoped file.now sections work.now chains.new to }
+{
+    for position in (to..from).rev() {
+        let name = name_at(file, sections, work, position);
+        unlink(chains, position, name);
+    }
+}
+
 // The stack and the chains of its positions.
 #[derive(Drop)]
 pub struct Bindings<'a> {
@@ -123,14 +176,6 @@ pub struct Bindings<'a> {
 }
 
 impl Bindings<'_> {
-    // The name of a position.
-    fn name_at(&self, file: &[u8], sections: Sections, position: usize) -> usize
-        requires { Position file.now sections self.now.work.now position }
-        ensures { (result ≡ name_bound (tables_of file.now sections) self.now.work.now position) × (result < 65536) }
-    {
-        name_at(file, sections, self.work, position)
-    }
-
     // The block whose bindings stand from the position `start` on has not bound the name.
     pub fn is_fresh(&self, file: &[u8], sections: Sections, start: usize, name: usize) -> bool
         requires { Holding file.now sections self.now.work.now self.now.chains }
@@ -145,16 +190,7 @@ impl Bindings<'_> {
         ensures chains_after { self.new.chains ≡ set (set self.old.chains (512 + position) (get_or self.old.chains (name % 512) 0)) (name % 512) (position + 1) }
         ensures work_unchanged { self.new.work ≡ self.old.work }
     {
-        chains::link(&mut self.chains, name % 512, 512 + position, position + 1);
-    }
-
-    // Takes the position, which has the name and is first in its chain, out of it.
-    fn unlink(&mut self, position: usize, name: usize)
-        requires { position < 4224 }
-        ensures chains_after { self.new.chains ≡ set self.old.chains (name % 512) (get_or self.old.chains (512 + position) 0) }
-        ensures work_unchanged { self.new.work ≡ self.old.work }
-    {
-        self.chains[name % 512] = self.chains[512 + position];
+        link(&mut self.chains, position, name);
     }
 
     // Binds the name of the node, with the type t, at the position `scope`.
@@ -163,10 +199,7 @@ impl Bindings<'_> {
         ensures bound { Bound file.now sections self.old.work.now self.old.chains scope node t self.new.work.now self.new.chains }
         ensures same_work { SameWork self.old self.new }
     {
-        let entry = (scope - sections.built_ins) * 2;
-        self.work[entry] = node as u16;
-        self.work[entry + 1] = t as u16;
-        self.link(scope, node_x(file, sections, node));
+        bind(file, sections, self.work, &mut self.chains, scope, node, t);
     }
 
     // Goes back from the scope `from` to the scope `to`.
@@ -175,9 +208,7 @@ impl Bindings<'_> {
         ensures left { Scoped file.now sections self.old.work.now self.new.chains to }
         ensures work_unchanged { self.new.work ≡ self.old.work }
     {
-        for position in (to..from).rev() {
-            let name = self.name_at(file, sections, position);
-            self.unlink(position, name);
-        }
+        let work = &mut *self.work;
+        leave(file, sections, &*work, &mut self.chains, from, to);
     }
 }

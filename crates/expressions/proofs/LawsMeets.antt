@@ -9,7 +9,6 @@ use Rattle.oat.specs.Basics.{pick}
 use Rattle.oat.specs.Pairs.{Compared}
 use Rattle.typing_rules.specs.Judge.{Out, ok, no, Counted, and_then, needs, pairs_after}
 use Rattle.file_sections.specs.declared.Sections.{Sections}
-use Rattle.answers.specs.declared.answer.Broken.{Broken}
 use Rattle.answers.specs.declared.answer.Judgement.{Judgement}
 use Rattle.answers.specs.declared.answer.Judgement.TheVariants.{Typed, GoesOn, Refused}
 use Rattle.answers.specs.declared.answer.Judged.{Judged}
@@ -24,7 +23,7 @@ pub record Unlisted (r : Judged) : Type 0 where
   pub never : r.judgement ≡ GoesOn → ⊥
 
 pub record Unrefused (r : Judged) : Type 0 where
-  pub never : (p : Broken) (q : ℕ) → r.judgement ≡ Refused p q → ⊥
+  pub never : (p q : ℕ) → r.judgement ≡ Refused p q → ⊥
 
 pub untyped : (r : Judged) → ((t : ℕ) → r.judgement ≡ Typed t → ⊥) → Untyped r
 untyped r h = record { never = h }
@@ -46,7 +45,7 @@ pairs_told (refuses p q k e) = e.sum
 
 -- a refusal whose sum is written otherwise
 pub refuses_with : {A : Type 0} {P : A → List (Label ℕ) → Type 0} {r : Judged} {π i : ℕ} (p q k : ℕ) → Refuses r p q i → i ≡ π + k → Meets P r π (no p q) k
-refuses_with p q k e s = refuses p q k (record { broken = e.broken; numbered = e.numbered; judged = e.judged; sum = e.sum ∙ s })
+refuses_with p q k e s = refuses p q k (record { judged = e.judged; sum = e.sum ∙ s })
 
 -- nothing more is compared
 pub accepts_now : {A : Type 0} {P : A → List (Label ℕ) → Type 0} {r : Judged} {π : ℕ} (a : A) (L : List (Label ℕ)) → P a L → r.at.pairs ≡ π → Meets P r π (ok a L) 0
@@ -89,7 +88,7 @@ module _ {A B : Type 0} {P : A → List (Label ℕ) → Type 0} {Q : B → List 
   pub goes_on : {r₁ : Judged} (o : Out A) (k : A → List (Label ℕ) → Out B) {j : A → List (Label ℕ) → ℕ} → Unrefused r₁ → Meets P r₁ π o i
       → ((a : A) (L : List (Label ℕ)) → o ≡ ok a L → P a L → Meets Q r r₁.at.pairs (k a L) (j a L)) → Meets Q r π (and_then o k) (i + pairs_after o j)
   goes_on o k u (accepts a L i p e) g = meets_more i e (g a L refl p)
-  goes_on o k u (refuses p q i e) g = absurd (u.never e.broken q e.judged)
+  goes_on o k u (refuses p q i e) g = absurd (u.never p q e.judged)
 
   pub part_last : (o : Out A) (k : A → List (Label ℕ) → Out B) {j : A → List (Label ℕ) → ℕ} → Meets P r π o i
       → ((a : A) (L : List (Label ℕ)) → o ≡ ok a L → P a L → Meets Q r r.at.pairs (k a L) (j a L)) → Meets Q r π (and_then o k) (i + pairs_after o j)
@@ -100,7 +99,7 @@ module _ {A B : Type 0} {P : A → List (Label ℕ) → Type 0} {Q : B → List 
 pub part_of : {A : Type 0} {P : A → List (Label ℕ) → Type 0} {r : Judged} {π k : ℕ} (o : Out A) → Meets P r π o k → Unrefused r
     → (a : A) × (L : List (Label ℕ)) × (o ≡ ok a L) × P a L
 part_of o (accepts a L k p e) u = (a, L, refl, p)
-part_of o (refuses p q k e) u = absurd (u.never e.broken q e.judged)
+part_of o (refuses p q k e) u = absurd (u.never p q e.judged)
 
 -- a question about a part, asked within the part, then what goes on with it and asks no more
 pub then_tested : {A B : Type 0} {Q : B → List (Label ℕ) → Type 0} {r : Judged} {π : ℕ} (x : Counted A) (f : A → Compared) (p q : ℕ) (k : A → List (Label ℕ) → Out B)

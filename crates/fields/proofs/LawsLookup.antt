@@ -3,7 +3,6 @@ use mathlib.Core.Path.{◌≡◌, refl, ap, ap₂, sym, subst, ◌∙◌}
 use mathlib.Core.Bool.{Bool, true, false}
 use mathlib.Core.List.{List}
 use Prim.Native.Nat.{ℕ, zero, suc, ◌+◌, ◌-◌, ◌≤◌, ◌<◌}
-use native.Mathlib.Numerals.{add-one}
 use native.Mathlib.Omega.{arith}
 use lib.ListN.{length}
 use lib.Dec.{eqb, ltb}
@@ -24,44 +23,46 @@ use Rattle.typing_rules.proofs.Claims.{File, Value}
 use Rattle.typing_rules.proofs.LawsFields.{member_of, fields_of_struct, fields_listed, among_value}
 use Rattle.fields.specs.Lookup.{field_in}
 
--- the loop over the fields before `end`: the field is among those left
-unfoldable pub among_left : Tables → ℕ → ℕ → ℕ → Number
-among_left T x end i = field_among T x i (end - i)
+-- the loop over the fields: the field is among those left
+unfoldable pub among_left : Tables → ℕ → ℕ → ℕ → ℕ → Number
+among_left T x first count i = field_among T x (first + i) (count - i)
 
 module _ (T : Tables) (x first count : ℕ) where
-  pub among_start : among_left T x (first + count) first ≡ field_among T x first count
+  pub among_start : among_left T x first count 0 ≡ field_among T x first count
   unfolding among_left
   among_start =
-      let all : first + count - first ≡ count = omega arith in
-      ap (field_among T x first) all
+      let none : first + 0 ≡ first = omega arith in
+      let all : count - 0 ≡ count = omega arith in
+      ap₂ (field_among T x) none all
 
-  among_next : (i : ℕ) → i < first + count
-      → among_left T x (first + count) i ≡ pick (eqb (field_at T i).name x) (number (field_at T i).type) (among_left T x (first + count) (i + 1))
+  among_next : (i : ℕ) → i < count
+      → among_left T x first count i ≡ pick (eqb (field_at T (first + i)).name x) (number (field_at T (first + i)).type) (among_left T x first count (i + 1))
   unfolding among_left field_among
   among_next i h =
-      let left : first + count - i ≡ suc (first + count - (i + 1)) = omega arith in
-      ap (field_among T x i) left
-      ∙ ap (λ n. pick (eqb (field_at T i).name x) (number (field_at T i).type) (field_among T x n (first + count - (i + 1)))) (sym (add-one i))
+      let left : count - i ≡ suc (count - (i + 1)) = omega arith in
+      let next : suc (first + i) ≡ first + (i + 1) = omega arith in
+      ap (field_among T x (first + i)) left
+      ∙ ap (λ n. pick (eqb (field_at T (first + i)).name x) (number (field_at T (first + i)).type) (field_among T x n (count - (i + 1)))) next
 
-  module _ (i n : ℕ) (a : among_left T x (first + count) i ≡ field_among T x first count) (en : n ≡ (field_at T i).name) (h : i < first + count) where
-    pub among_hit : (t : ℕ) → n ≡ x → t ≡ (field_at T i).type → number t ≡ field_among T x first count
+  module _ (i n : ℕ) (a : among_left T x first count i ≡ field_among T x first count) (en : n ≡ (field_at T (first + i)).name) (h : i < count) where
+    pub among_hit : (t : ℕ) → n ≡ x → t ≡ (field_at T (first + i)).type → number t ≡ field_among T x first count
     among_hit t e et =
         ap number et
-        ∙ sym (ap (λ b. pick b (number (field_at T i).type) (among_left T x (first + count) (i + 1))) (eq-eqb (field_at T i).name x (sym en ∙ e)))
+        ∙ sym (ap (λ b. pick b (number (field_at T (first + i)).type) (among_left T x first count (i + 1))) (eq-eqb (field_at T (first + i)).name x (sym en ∙ e)))
         ∙ sym (among_next i h)
         ∙ a
 
-    pub among_miss : (n ≡ x → ⊥) → among_left T x (first + count) (i + 1) ≡ field_among T x first count
+    pub among_miss : (n ≡ x → ⊥) → among_left T x first count (i + 1) ≡ field_among T x first count
     among_miss f =
-        sym (ap (λ b. pick b (number (field_at T i).type) (among_left T x (first + count) (i + 1))) (ne_eqb (field_at T i).name x (λ e. f (en ∙ e))))
+        sym (ap (λ b. pick b (number (field_at T (first + i)).type) (among_left T x first count (i + 1))) (ne_eqb (field_at T (first + i)).name x (λ e. f (en ∙ e))))
         ∙ sym (among_next i h)
         ∙ a
 
-  pub among_none : (i : ℕ) → first + count ≤ i → among_left T x (first + count) i ≡ field_among T x first count → unknown ≡ field_among T x first count
+  pub among_none : (i : ℕ) → count ≤ i → among_left T x first count i ≡ field_among T x first count → unknown ≡ field_among T x first count
   unfolding among_left field_among
   among_none i h a =
-      let none : first + count - i ≡ 0 = omega arith in
-      sym (ap (field_among T x i) none) ∙ a
+      let none : count - i ≡ 0 = omega arith in
+      sym (ap (field_among T x (first + i)) none) ∙ a
 
 -- the struct record
 module _ (T : Tables) (r x : ℕ) where

@@ -18,9 +18,9 @@ pub fn field_among(
     requires { Laid file.now sections × (first + count ≤ sections.fields) }
     ensures { number_of result ≡ field_among (tables_of file.now sections) name first count }
 {
-    for i in first..first + count {
-        if field_name(file, sections, i) == name {
-            return Some(field_type(file, sections, i));
+    for i in 0..count {
+        if field_name(file, sections, first + i) == name {
+            return Some(field_type(file, sections, first + i));
         }
     }
     None

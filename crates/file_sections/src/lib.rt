@@ -54,3 +54,12 @@ impl Unreadable {
         }
     }
 }
+
+// The number that the documents give it, where a number is asked for.
+impl From<Unreadable> for u16 {
+    ghost from_gives = { λ unreadable number. number ≡ unreadable_number unreadable };
+
+    fn from(unreadable: Unreadable) -> u16 {
+        unreadable.number()
+    }
+}

@@ -13,6 +13,7 @@ use program_file::widest;
 use std::io::Result;
 
 // The number of a file, under document 01's limits.
+#[tactic(auto, using(program_file::proofs::LawsReading::number_told))]
 fn answer(file: &[u8]) -> u16
     ensures { result ≡ number_of (reading_of Widest file.now) }
 {

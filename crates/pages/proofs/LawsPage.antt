@@ -7,7 +7,7 @@ use Prim.Native.Nat.{ℕ, ◌+◌, ◌*◌, ◌/◌, ◌%◌, ◌≤◌, ◌<◌
 use native.Mathlib.Omega.{arith}
 use mir.Syntax.{w16}
 use mir.Val.{Fits}
-use lib.ListN.{length, get_or, drop}
+use lib.ListN.{length, get_or, drop, length-append}
 use Rattle.oat.specs.Tables.{Tables, node_at}
 use Rattle.oat.specs.ProgramFile.{Limits, widest, Program, meant, IsFile}
 use Rattle.oat.proofs.LawsBlank.{meant_is_file}
@@ -33,8 +33,15 @@ use Rattle.pages.specs.Page.{row_lines, last_line, page_of}
 use Rattle.pages.specs.Columns.{PageLong, OnBoard}
 use Rattle.pages.specs.Paging.{answer, same_answer, AfterAcceptance, short, printed, Paged}
 use Rattle.pages.specs.Writing.{ReadyRows, Writes, writes, no_room}
-use Rattle.pages.proofs.LawsLines.{FittingRows, rows_fit, lines_long}
+use Rattle.pages.proofs.LawsLines.{FittingRows, rows_fit, lines_long, last_long}
 use Rattle.pages.proofs.LawsBoard.{page_long, on_board}
+
+-- a page has some bytes
+pub page_some : (T : Tables) (R : List ℕ) → length (page_of T R) ≡ 0 → ⊥
+unfolding page_of
+page_some T R e =
+    let n = length T.nodes in
+    omega (arith, e, length-append (row_lines T R n) (last_line (n / 50) (n % 50)), last_long (n / 50) (n % 50))
 
 -- the page of a file with these sections, whose last line has x bytes
 module _ {F R : List ℕ} {S : Sections} (z : ReadyRows F S R) (h : (i : ℕ) → Fits w16 (get_or R i 0)) (x : ℕ) (e : x ≡ length (last_line (S.nodes / 50) (S.nodes % 50))) where

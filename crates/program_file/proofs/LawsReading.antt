@@ -20,7 +20,7 @@ use Rattle.file_sections.specs.Numbers.{number_at}
 use Rattle.file_sections.specs.Layout.{Laid, section_of, then_reading, front_of, sections_of, tables_of}
 use Rattle.file_sections.proofs.LawsFile.{all_stood}
 use Rattle.node_tree.specs.Tree.{trees_right}
-use Rattle.program_file.specs.Reading.{reading_within, reading_of}
+use Rattle.program_file.specs.Reading.{reading_within, reading_of, number_of, IsNumberOf}
 
 -- the sections of a file that is read are laid
 pub laid : (s : List ℕ) (S : Sections) → Ok S ≡ sections_of s → Laid s S
@@ -109,3 +109,8 @@ module _ (l : Limits) (s : List ℕ) (b : Bool) (e : b ≡ in_range l) where
 
   pub tested_in : (t : List ℕ) (r : Result Sections Unreadable) → not b ≡ false → t ≡ meant s → r ≡ reading_within l t → r ≡ reading_of l s
   tested_in t r h is c = c ∙ ap (reading_within l) is ∙ sym (reading_in_range l s (sym e ∙ not-false b h))
+
+-- the number of an answer of `read`
+pub number_told : {r : Result Sections Unreadable} {n : ℕ} → IsNumberOf (λ u n. n ≡ unreadable_number u) r n → n ≡ number_of r
+number_told {r = Ok S} h = h.read S refl
+number_told {r = Err u} h = h.refused u refl

@@ -36,6 +36,11 @@ abbrev pub number_of : Result Sections Unreadable → ℕ
 number_of (Ok S) = 0
 number_of (Err unreadable) = unreadable_number unreadable
 
+-- the number n of a reading, whatever stands for a refusal: 0 where the file is readable, and else a number that the refusal gives
+pub record IsNumberOf {E : Type 0} (gives : E → ℕ → Type 0) (r : Result Sections E) (n : ℕ) : Type 0 where
+  pub read : (S : Sections) → r ≡ Ok S → n ≡ 0
+  pub refused : (e : E) → r ≡ Err e → gives e n
+
 -- the bytes are a program file within the limits
 pub record IsProgramFile (limits : Limits) (F : List ℕ) : Type 0 where
   pub program : Program

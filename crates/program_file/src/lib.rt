@@ -4,7 +4,7 @@
 
 ghost use Rattle.std.specs.Prelude.{◌≡◌, ◌≤◌};
 ghost use Rattle.oat.specs.ProgramFile.{from_one_to, in_range, blank_file, or_else};
-ghost use Rattle.program_file.specs.Reading.{setting_of, reading_within, reading_of, number_of, ReadsTables};
+ghost use Rattle.program_file.specs.Reading.{setting_of, reading_within, reading_of, IsNumberOf, ReadsTables};
 
 use file_sections::{Sections, Unreadable};
 
@@ -95,12 +95,12 @@ fn read_within(file: &[u8], limits: Limits) -> Result<Sections, Unreadable>
     Ok(sections)
 }
 
-// Document 01's number for an answer: 0 where the file is readable.
-pub fn number(reading: Result<Sections, Unreadable>) -> u16
-    ensures { result ≡ number_of reading }
+// Document 01's number for an answer: 0 where the file is readable, and else the number that stands for the refusal.
+pub fn number<E: Into<u16>>(reading: Result<Sections, E>) -> u16
+    ensures { IsNumberOf E.converts reading result }
 {
     match reading {
         Ok(_) => 0,
-        Err(unreadable) => unreadable.number(),
+        Err(unreadable) => unreadable.into(),
     }
 }

@@ -5,7 +5,7 @@ ghost use Rattle.answers.specs.Answers.{with_row};
 ghost use Rattle.simple_statements.specs.Contract.{mark_of, marked, MarksWhile};
 
 use answers::answer::{At, Judged, Judgement, row};
-use answers::file::IndexedFile;
+use file_sections::Sections;
 use file_sections::records::node_kind;
 
 // 1 where it returns, else 0.
@@ -16,11 +16,11 @@ pub fn mark_of(judgement: Judgement) -> usize
 }
 
 // The mark of a while whose condition stands at `test`: 1 where it is the last of its block and its condition is the node `true`.
-pub fn while_mark(file: &IndexedFile<'_>, test: usize, last: bool) -> usize
-    requires { Has file.now.bytes.now file.now.sections test file.now.sections.nodes }
-    ensures { MarksWhile file.now.bytes.now file.now.sections test last result × (result ≤ 1) }
+pub fn while_mark(file: &[u8], sections: Sections, test: usize, last: bool) -> usize
+    requires { Has file.now sections test sections.nodes }
+    ensures { MarksWhile file.now sections test last result × (result ≤ 1) }
 {
-    usize::from(last && node_kind(file.bytes, file.sections, test) == 11)
+    usize::from(last && node_kind(file, sections, test) == 11)
 }
 
 // The judgement of a mark.

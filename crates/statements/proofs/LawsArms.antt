@@ -20,7 +20,6 @@ use Rattle.file_sections.specs.declared.Sections.{Sections}
 use Rattle.file_sections.specs.Layout.{tables_of}
 use Rattle.bindings.specs.Bindings.{Scoped}
 use Rattle.bindings.proofs.LawsBindings.{holds_some}
-use Rattle.answers.specs.declared.answer.Broken.{Broken}
 use Rattle.answers.specs.declared.answer.Judgement.TheVariants.{GoesOn, Refused}
 use Rattle.answers.specs.declared.answer.Judged.{Judged}
 use Rattle.answers.specs.Answers.{AnswerIs}
@@ -57,7 +56,7 @@ either_mark T C rt b c n Γ Δ p L j =
 
 module _ {F : List ℕ} {S : Sections} {X R W K : List ℕ} {base rt n s top π : ℕ} (g : ReadyArms F S X R W K base rt n s top π) where
   module _ {R₁ W₁ K₁ : List ℕ} {r₁ : Judged} (m₁ : ToldBlock F S X R W base top rt n top π R₁ W₁ K₁ r₁) where
-    pub arms_no : {p : Broken} {q : ℕ} → r₁.judgement ≡ Refused p q → ToldArms F S X R W base rt n s top π R₁ W₁ K₁ r₁
+    pub arms_no : {p q : ℕ} → r₁.judgement ≡ Refused p q → ToldArms F S X R W base rt n s top π R₁ W₁ K₁ r₁
     arms_no e = record { tells = λ b c h h₂ Γ Δ d d₂. part_no _ _ _ (λ p L v. (p, v.mark)) e (m₁.tells b h Γ d) }
 
     module _ (u : Unrefused r₁) where
@@ -99,7 +98,7 @@ module _ {F : List ℕ} {S : Sections} {X R W K : List ℕ} {base rt n s top π 
           second_told : ToldBlock F S X R₁ W₁ base s rt r₁.at.node s r₁.at.pairs R₂ W₂ K₃ r₂
           second_told = subst (λ w. ToldBlock F S X R₁ w base s rt r₁.at.node s r₁.at.pairs R₂ W₂ K₃ r₂) same m₂
 
-          pub arms_no_2 : {p : Broken} {q : ℕ} → r₂.judgement ≡ Refused p q → ToldArms F S X R W base rt n s top π R₂ W₂ K₃ r₂
+          pub arms_no_2 : {p q : ℕ} → r₂.judgement ≡ Refused p q → ToldArms F S X R W base rt n s top π R₂ W₂ K₃ r₂
           arms_no_2 e =
               record {
                 tells = λ b c h h₂ Γ Δ d d₂.

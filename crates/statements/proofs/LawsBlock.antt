@@ -15,7 +15,6 @@ use Rattle.file_sections.specs.Layout.{tables_of}
 use Rattle.file_sections.proofs.LawsRecords.{nodes_long}
 use Rattle.bindings.specs.Bindings.{Scoped, Holds}
 use Rattle.bindings.proofs.LawsBindings.{holds_some}
-use Rattle.answers.specs.declared.answer.Broken.{Broken}
 use Rattle.answers.specs.declared.answer.Judgement.TheVariants.{Refused}
 use Rattle.answers.specs.declared.answer.Judged.{Judged}
 use Rattle.answers.specs.Answers.{with_row, AnswerIs}
@@ -77,7 +76,7 @@ module _ {F : List ℕ} {S : Sections} {X R W K : List ℕ} {base start rt n s �
       g.tree g.stands g.room g.few
 
   module _ {c : ℕ} (e : c ≡ (node_at (tables_of F S) n).children) {R₁ W₁ K₁ : List ℕ} {r₁ : Judged} (m₁ : ToldStmts F S X R W base start rt (n + 1) s π c n R₁ W₁ K₁ r₁) where
-    pub block_refused : {p : Broken} {q : ℕ} → r₁.judgement ≡ Refused p q → ToldBlock F S X R W base start rt n s π R₁ W₁ K₁ r₁
+    pub block_refused : {p q : ℕ} → r₁.judgement ≡ Refused p q → ToldBlock F S X R W base start rt n s π R₁ W₁ K₁ r₁
     unfolding executing_block
     block_refused f =
         record {

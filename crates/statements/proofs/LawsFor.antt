@@ -19,7 +19,6 @@ use Rattle.file_sections.proofs.LawsRecords.{nodes_long}
 use Rattle.bindings.specs.Bindings.{entry_of, Scoped, Holds}
 use Rattle.bindings.proofs.LawsBindings.{holds_same, holds_inner, holds_some}
 use Rattle.file_sections.proofs.LawsFrames.{same_less, same_more}
-use Rattle.answers.specs.declared.answer.Broken.{Broken}
 use Rattle.answers.specs.declared.answer.Judgement.TheVariants.{GoesOn, Refused}
 use Rattle.answers.specs.declared.answer.Judged.{Judged}
 use Rattle.answers.specs.Answers.{with_row, AnswerIs}
@@ -184,7 +183,7 @@ module _ {F : List ℕ} {S : Sections} {X R W K : List ℕ} {base n s π : ℕ} 
                 (turn_of (tables_of F S) C rt z b (m + k + j) Δ).out (turn_of (tables_of F S) C rt z b (m + k + j) Δ).pairs)
                 ((subst (λ v. ToldTurn F S X R₂ W₂ base s rt v h r₂.at.pairs R₃ W₃ K₃ r₃) p₂.next m₃).tells z b i i₂ Δ (holds_same (vars_scope p) p₂.after.same))
 
-            pub for_no_3 : {p : Broken} {q : ℕ} → r₃.judgement ≡ Refused p q → ToldAnywhere F S X R W base rt n s π R₃ W₃ K₃ r₃
+            pub for_no_3 : {p q : ℕ} → r₃.judgement ≡ Refused p q → ToldAnywhere F S X R W base rt n s π R₃ W₃ K₃ r₃
             unfolding executing
             for_no_3 f =
                 record {

@@ -26,7 +26,6 @@ use Rattle.type_index.specs.Index.{Indexed}
 use Rattle.bindings.specs.Bindings.{entry_of, Holds, Bindable, Bound}
 use Rattle.bindings.proofs.LawsBindings.{holds_same, holds_inner, holds_bound}
 use Rattle.subtyping.specs.declared.below.Compared.{Compared as Comparing}
-use Rattle.answers.specs.declared.answer.Broken.{Broken}
 use Rattle.answers.specs.declared.answer.Judgement.TheVariants.{Typed, Refused}
 use Rattle.answers.specs.declared.answer.At.{At}
 use Rattle.answers.specs.declared.answer.Judged.{Judged}
@@ -109,7 +108,7 @@ module _ (F : List ℕ) (S : Sections) (W : List ℕ) (base rt s : ℕ) (b c : B
       subst₂ (Meets Q r π) (either-then both (block_in F S W base rt b i Γ).out (block_in F S W base rt c (i + size_block b) Δ).out k)
       (omega (arith, no_more (either_in F S W base rt b c i Γ Δ).out)) m
 
-  either_no : {p : Broken} {q : ℕ} → r₂.judgement ≡ Refused p q → Meets Q r₂ π (either_then F S W base rt b c i Γ Δ k).out (either_then F S W base rt b c i Γ Δ k).pairs
+  either_no : {p q : ℕ} → r₂.judgement ≡ Refused p q → Meets Q r₂ π (either_then F S W base rt b c i Γ Δ k).out (either_then F S W base rt b c i Γ Δ k).pairs
   either_no e = as_one (part_no _ k _ (λ p L v. (p, v.mark)) e z)
 
   either_ok : {r : Judged} {m : ℕ} → Unrefused r₂ → m ≡ mark_of r₂.judgement
@@ -167,7 +166,7 @@ module _ {F : List ℕ} {S : Sections} {X R W K : List ℕ} {base rt n s π : �
               let i = holds_inner (holds_same d p.after.same) in
               retell_arms p.after.same given.0.fine.above p.next m₂ b c h h₂ (inner Γ) (inner Γ) i i
 
-          pub if_no_2 : {p : Broken} {q : ℕ} → r₂.judgement ≡ Refused p q → ToldAnywhere F S X R W base rt n s π R₂ W₂ K₂ r₂
+          pub if_no_2 : {p q : ℕ} → r₂.judgement ≡ Refused p q → ToldAnywhere F S X R W base rt n s π R₂ W₂ K₂ r₂
           unfolding executing
           if_no_2 e =
               record {
@@ -329,7 +328,7 @@ module _ {F : List ℕ} {S : Sections} {X R W K : List ℕ} {base rt n s π : �
                       retell_arms same given.0.fine.above (ap (λ i. i.node) ev ∙ p.next) m₂ b c h h₂ (inner (binds (inner Γ) x t n)) (inner Γ)
                       (named_held e e₂ p.after.same d) (holds_inner (holds_same d same))
 
-                  pub null_no_2 : {p : Broken} {q : ℕ} → r₂.judgement ≡ Refused p q → ToldAnywhere F S X R W base rt n s π R₂ W₃ K₃ r₂
+                  pub null_no_2 : {p q : ℕ} → r₂.judgement ≡ Refused p q → ToldAnywhere F S X R W base rt n s π R₂ W₃ K₃ r₂
                   unfolding executing
                   null_no_2 e =
                       record {

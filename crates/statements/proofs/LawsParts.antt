@@ -21,7 +21,6 @@ use Rattle.file_sections.specs.Layout.{tables_of}
 use Rattle.type_index.specs.Index.{declared}
 use Rattle.bindings.specs.Bindings.{entry_of, Scoped, Holds}
 use Rattle.bindings.proofs.LawsBindings.{names_same, holds_same}
-use Rattle.answers.specs.declared.answer.Broken.{Broken}
 use Rattle.answers.specs.declared.answer.Judgement.{Judgement}
 use Rattle.answers.specs.declared.answer.Judgement.TheVariants.{GoesOn, Returns, Refused}
 use Rattle.answers.specs.declared.answer.Judged.{Judged}
@@ -33,7 +32,7 @@ use Rattle.simple_statements.proofs.LawsMarks.{judged_as, after_join, rule_left}
 use Rattle.statements.specs.Contract.{Blocking, block_in, ToldBlock}
 
 -- a mark is no refusal, and it is read off its judgement
-pub marked_no : (m : ℕ) (p : Broken) (q : ℕ) → marked m ≡ Refused p q → ⊥
+pub marked_no : (m : ℕ) (p q : ℕ) → marked m ≡ Refused p q → ⊥
 marked_no m p q e = go (eqb m 1) e
   where
     go : (b : Bool) → pick b Returns GoesOn ≡ Refused p q → ⊥
@@ -49,7 +48,7 @@ mark_is j p h e = ap mark_of e ∙ go p h
     go (suc (suc p)) h = absurd (omega arith)
 
 -- a part that is refused, where P gives a mark
-pub part_no : {A B : Type 0} {P : A → List (Label ℕ) → Type 0} {Q : B → List (Label ℕ) → Type 0} {r : Judged} {p : Broken} {q π i : ℕ} (o : Out A) (c : A → List (Label ℕ) → Out B) (j : A → List (Label ℕ) → ℕ)
+pub part_no : {A B : Type 0} {P : A → List (Label ℕ) → Type 0} {Q : B → List (Label ℕ) → Type 0} {r : Judged} {p q π i : ℕ} (o : Out A) (c : A → List (Label ℕ) → Out B) (j : A → List (Label ℕ) → ℕ)
     → ((a : A) (L : List (Label ℕ)) → P a L → (m : ℕ) × (r.judgement ≡ marked m)) → r.judgement ≡ Refused p q → Meets P r π o i → Meets Q r π (and_then o c) (i + pairs_after o j)
 part_no {p = p} {q = q} o c j f e m = hands_up o c j (λ a L z v. let (m, is) = f a L v in marked_no m p q (sym is ∙ e)) m
 

@@ -20,7 +20,6 @@ use Rattle.file_sections.specs.Layout.{tables_of}
 use Rattle.file_sections.proofs.LawsRecords.{nodes_long}
 use Rattle.bindings.specs.Bindings.{Scoped, Holds}
 use Rattle.bindings.proofs.LawsBindings.{holds_some}
-use Rattle.answers.specs.declared.answer.Broken.{Broken}
 use Rattle.answers.specs.declared.answer.Judgement.TheVariants.{Refused}
 use Rattle.answers.specs.declared.answer.Judged.{Judged}
 use Rattle.answers.specs.Answers.{Refuses, AnswerIs}
@@ -73,7 +72,7 @@ module _ (T : Tables) (C : Context ℕ) (rt : ℕ) (z : Stmt) (zs : Stmts) (n pr
   all_ok d M e q = (rw (eq-eqb p 0 e, q), rw (eq-eqb p 0 e, q, no_more (execute_all T C rt zs (n + size_stmt z) n d.mark d.scope)) (omega arith))
 
 -- a refused statement's outcome
-refusal-of : {P : Done → List (Label ℕ) → Type 0} {r : Judged} {a : Broken} {b π k : ℕ} (o : Out Done) → Meets P r π o k → r.judgement ≡ Refused a b
+refusal-of : {P : Done → List (Label ℕ) → Type 0} {r : Judged} {a b π k : ℕ} (o : Out Done) → Meets P r π o k → r.judgement ≡ Refused a b
     → ((d : Done) (L : List (Label ℕ)) → P d L → r.judgement ≡ marked d.mark) → (p q : ℕ) × (o ≡ no p q) × Refuses r p q (π + k)
 refusal-of {a = a} {b = b} o (accepts d L k v s) e f = absurd (marked_no d.mark a b (sym (f d L v) ∙ e))
 refusal-of o (refuses p q k s) e f = (p, q, refl, s)
@@ -254,7 +253,7 @@ module _ {F : List ℕ} {S : Sections} {X R W K : List ℕ} {base start rt n s �
         told_first : (z : Stmt) (zs : Stmts) → count_stmts (then z zs) + i ≡ left → ToldStmt F S X R₁ W₁ base start rt (is_empty zs) at height compared R₂ W₂ K₂ r₁
         told_first z zs c = subst (λ b. ToldStmt F S X R₁ W₁ base start rt b at height compared R₂ W₂ K₂ r₁) (is_last i left z zs c) m₁
 
-        pub run_no : {p : Broken} {q : ℕ} → r₁.judgement ≡ Refused p q → ToldStmts F S X R W base start rt n s π left parent R₂ W₂ K₂ r₁
+        pub run_no : {p q : ℕ} → r₁.judgement ≡ Refused p q → ToldStmts F S X R W base start rt n s π left parent R₂ W₂ K₂ r₁
         run_no e = record { tells = λ ss h c Γ d. go ss Γ (w.part ss h c Γ d) }
           where
             refusing : (ss : Stmts) (L : List (Label ℕ)) (z : Stmt) (zs : Stmts) (Δ : Scope ℕ) (a b k : ℕ) → (stmt_in F S W base rt (is_empty zs) z at Δ).out ≡ no a b

@@ -17,7 +17,6 @@ use Rattle.file_sections.specs.Layout.{tables_of}
 use Rattle.file_sections.proofs.LawsFrames.{same_refl}
 use Rattle.bindings.specs.Bindings.{Scoped, Holds}
 use Rattle.bindings.proofs.LawsBindings.{holds_some}
-use Rattle.answers.specs.declared.answer.Broken.{Broken}
 use Rattle.answers.specs.declared.answer.Judgement.TheVariants.{GoesOn, Refused}
 use Rattle.answers.specs.declared.answer.Judged.{Judged}
 use Rattle.answers.specs.Answers.{with_row, Refuses, AnswerIs}
@@ -92,7 +91,7 @@ module _ {F : List ℕ} {S : Sections} {X R W K : List ℕ} {base start rt n s �
       )
 
       module _ {R₁ W₁ K₁ : List ℕ} {r₁ : Judged} (m₁ : ToldStmt F S X R W base start rt false n s π R₁ W₁ K₁ r₁) where
-        pub step_no : {p : Broken} {q : ℕ} → r₁.judgement ≡ Refused p q → ToldStep F S X R W base start rt n s π R₁ W₁ K₁ r₁
+        pub step_no : {p q : ℕ} → r₁.judgement ≡ Refused p q → ToldStep F S X R W base start rt n s π R₁ W₁ K₁ r₁
         unfolding executing_step
         step_no e =
             record {

@@ -14,7 +14,6 @@ use Rattle.typing_rules.specs.Judge.{executing}
 use Rattle.file_sections.specs.declared.Sections.{Sections}
 use Rattle.file_sections.specs.Layout.{Has, tables_of}
 use Rattle.bindings.proofs.LawsBindings.{holds_inner, holds_some}
-use Rattle.answers.specs.declared.answer.Broken.{Broken}
 use Rattle.answers.specs.declared.answer.Judgement.TheVariants.{Typed, Refused}
 use Rattle.answers.specs.declared.answer.Judged.{Judged}
 use Rattle.answers.specs.Answers.{with_row, Refuses, AnswerIs}
@@ -68,7 +67,7 @@ module _ {F : List ℕ} {S : Sections} {X R W K : List ℕ} {base n s π : ℕ} 
           g.tree g.stands g.room g.few
 
       module _ (z₁ : k₁ ≡ 1) {rt : ℕ} {R₂ W₂ K₂ : List ℕ} {r₂ : Judged} (m₂ : ToldBlock F S X R₁ W₁ base s rt r₁.at.node s r₁.at.pairs R₂ W₂ K₂ r₂) where
-        pub while_no_2 : {last : Bool} {p : Broken} {q : ℕ} → r₂.judgement ≡ Refused p q → ToldWhile F S X R W base rt last n s π R₂ W₂ K₂ r₂
+        pub while_no_2 : {last : Bool} {p q : ℕ} → r₂.judgement ≡ Refused p q → ToldWhile F S X R W base rt last n s π R₂ W₂ K₂ r₂
         unfolding executing
         while_no_2 {last} e =
             record {

@@ -317,7 +317,7 @@ fn while_loop(frame: &Frame<'_>, walk: &mut Walk<'_>, at: At, last: bool) -> Jud
     if let Judgement::Refused(_, _) = two.judgement {
         return two;
     }
-    let mark = while_mark(file, test, last);
+    let mark = while_mark(file.bytes, file.sections, test, last);
     let after = At {
         scope: at.scope,
         ..two.at

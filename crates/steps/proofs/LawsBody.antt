@@ -3,7 +3,6 @@
 use mathlib.Core.Path.{◌≡◌, refl, ap, sym, subst, ◌∙◌}
 use mathlib.Core.Bool.{Bool, true, false, not}
 use mathlib.Core.List.{List, ◌∷◌, ◌++◌}
-use mathlib.Core.Logic.{◌⊎◌, inl, inr}
 use Prim.Native.Nat.{ℕ, zero, suc, ◌+◌, ◌*◌, ◌≤◌, ◌<◌}
 use native.Mathlib.Omega.{arith}
 use lib.ListN.{length, drop, replicate, length-append}
@@ -29,9 +28,7 @@ use Rattle.file_sections.proofs.LawsFrames.{same_trans, list_row, list_append, l
 use Rattle.type_index.specs.Index.{declared}
 use Rattle.bindings.specs.Bindings.{entry_of, Scoped, Holds}
 use Rattle.bindings.proofs.LawsBindings.{names_same, holds_own}
-use Rattle.answers.specs.declared.answer.Broken.{Broken}
-use Rattle.answers.specs.declared.answer.Broken.TheVariants.{BoundTwice, WrongMark}
-use Rattle.answers.specs.declared.answer.Judgement.TheVariants.{Typed, GoesOn, Returns, Refused}
+use Rattle.answers.specs.declared.answer.Judgement.TheVariants.{Returns, Refused}
 use Rattle.answers.specs.declared.answer.Judged.{Judged}
 use Rattle.answers.specs.Answers.{with_row}
 use Rattle.expressions.specs.Contract.{Fine, After, Meets}
@@ -54,13 +51,8 @@ use Rattle.steps.proofs.LawsRows.{rows_count, rows_list, parameters_count}
 pub record Unreturned (r : Judged) : Type 0 where
   pub never : r.judgement ≡ Returns → ⊥
 
--- an answer that goes on, or is a type, is neither return nor refusal; a return is no refusal
-pub unfinished : (r : Judged) → (r.judgement ≡ GoesOn) ⊎ ((t : ℕ) × (r.judgement ≡ Typed t)) → Unrefused r × Unreturned r
-unfinished r (inl e) = (record { never = λ p q z. let y : ◌≡◌ {A = ℕ} 0 1 = cc in omega arith }, record { never = λ z. let y : ◌≡◌ {A = ℕ} 0 1 = cc in omega arith })
-unfinished r (inr (t, e)) = (record { never = λ p q z. let y : ◌≡◌ {A = ℕ} 0 1 = cc in omega arith }, record { never = λ z. let y : ◌≡◌ {A = ℕ} 0 1 = cc in omega arith })
-
-pub returns_unrefused : (r : Judged) → r.judgement ≡ Returns → Unrefused r
-returns_unrefused r e = record { never = λ p q z. let y : ◌≡◌ {A = ℕ} 0 1 = cc in omega arith }
+pub unreturned : (r : Judged) → (r.judgement ≡ Returns → ⊥) → Unreturned r
+unreturned r h = record { never = h }
 
 -- the labels of the block are those after the unlabelled nodes
 drop_unlabelled : (k : ℕ) (M : List (Label ℕ)) → drop k (replicate k unlabelled ++ M) ≡ M
@@ -157,9 +149,9 @@ module _ {F : List ℕ} {S : Sections} {X R W K : List ℕ} {c : Context} {n : �
           )
 
       module _ {R₁ W₁ K₁ : List ℕ} {b₁ : Bool} (p₁ : ToldParameters F S X c.names n first count R W R₁ W₁ K₁ b₁) where
-        pub body_taken : {y : Refusal} → not b₁ ≡ true → y ≡ refusal_at c BoundTwice n → ToldBody F S X R W c n R₁ W₁ K₁ (Err y)
+        pub body_taken : {y : Refusal} → not b₁ ≡ true → y ≡ refusal_at c 7 n → ToldBody F S X R W c n R₁ W₁ K₁ (Err y)
         unfolding stepping
-        body_taken f e = record { tells = λ x u ps b h. stops (distinct_names ps) BoundTwice n _ _ (sym (p₁.distinct ps h.3 (counted x u ps b h)) ∙ not-true b₁ f) (ap Err e) }
+        body_taken f e = record { tells = λ x u ps b h. stops (distinct_names ps) 7 n _ _ (sym (p₁.distinct ps h.3 (counted x u ps b h)) ∙ not-true b₁ f) (ap Err e) }
 
         module _ (f : not b₁ ≡ false) where
           bound : (ps : List ℕ) → ParametersStand (tables_of F S) (n + 1) ps → length ps ≡ count → BoundAll F S X c.names n first ps R W R₁ W₁ K₁
@@ -202,7 +194,7 @@ module _ {F : List ℕ} {S : Sections} {X R W K : List ℕ} {c : Context} {n : �
               distinct : (x u : ℕ) (ps : List ℕ) (b : Block) → DeclStands (tables_of F S) n (function x u ps b) → distinct_names ps ≡ true
               distinct x u ps b h = sym (p₁.distinct ps h.3 (counted x u ps b h)) ∙ not-false b₁ f
 
-              pub body_no : {p : Broken} {q : ℕ} {d : Context} {y : Refusal} → r₂.judgement ≡ Refused p q → d ≡ summing r₂.at.pairs c → y ≡ refusal_at d p q
+              pub body_no : {p q : ℕ} {d : Context} {y : Refusal} → r₂.judgement ≡ Refused p q → d ≡ summing r₂.at.pairs c → y ≡ refusal_at d p q
                   → ToldBody F S X R W c n R₂ W₂ K₂ (Err y)
               unfolding stepping
               body_no {p} {q} j ed ey =
@@ -213,7 +205,7 @@ module _ {F : List ℕ} {S : Sections} {X R W K : List ℕ} {c : Context} {n : �
                   }
 
               module _ (v : Unrefused r₂) where
-                pub body_open : {d : Context} {y : Refusal} → Unreturned r₂ → d ≡ summing r₂.at.pairs c → y ≡ refusal_at d WrongMark n
+                pub body_open : {d : Context} {y : Refusal} → Unreturned r₂ → d ≡ summing r₂.at.pairs c → y ≡ refusal_at d 14 n
                     → ToldBody F S X R W c n R₂ W₂ K₂ (Err y)
                 unfolding stepping
                 body_open o ed ey =
@@ -221,7 +213,7 @@ module _ {F : List ℕ} {S : Sections} {X R W K : List ℕ} {c : Context} {n : �
                       tells = λ x u ps b h.
                           passes (distinct_names ps) 7 n _ (distinct x u ps b h)
                           (goes_on _ _ v (ran x u ps b h) λ i L q d.
-                          stops (eqb i 1) WrongMark n _ _ (ne_eqb i 1 (λ z. o.never (d.mark ∙ sym (returns_marked i z)))) (refused_after c ed ey));
+                          stops (eqb i 1) 14 n _ _ (ne_eqb i 1 (λ z. o.never (d.mark ∙ sym (returns_marked i z)))) (refused_after c ed ey));
                     }
 
                 fine_now : Fine F S X R₂ W₂ K₂ c.names (c.names + count)

@@ -2,7 +2,6 @@
 use mathlib.Core.Path.{◌≡◌, ap, sym, subst, ◌∙◌}
 use mathlib.Core.Bool.{Bool, true, false, not}
 use mathlib.Core.List.{List, [], ◌∷◌, append-nil}
-use mathlib.Core.Logic.{◌⊎◌, inl, inr}
 use Prim.Native.Nat.{ℕ, ◌+◌, ◌*◌, ◌<◌}
 use native.Mathlib.Omega.{arith}
 use lib.ListN.{length}
@@ -25,9 +24,7 @@ use Rattle.file_sections.proofs.LawsRecords.{nodes_long}
 use Rattle.file_sections.proofs.LawsFrames.{list_row, list_kept, list_from}
 use Rattle.bindings.specs.Bindings.{entry_of, names_of, Some, Bindable, Bound}
 use Rattle.bindings.proofs.LawsBindings.{scope_none, names_same, names_declared}
-use Rattle.answers.specs.declared.answer.Broken.{Broken}
-use Rattle.answers.specs.declared.answer.Broken.TheVariants.{BoundTwice}
-use Rattle.answers.specs.declared.answer.Judgement.TheVariants.{Typed, GoesOn, Returns, Refused}
+use Rattle.answers.specs.declared.answer.Judgement.TheVariants.{Typed, Refused}
 use Rattle.answers.specs.declared.answer.Judged.{Judged}
 use Rattle.answers.specs.Answers.{with_row}
 use Rattle.expressions.specs.Contract.{context_of, Fine, Typing, Meets, accepts, refuses, Ready, Told}
@@ -38,14 +35,14 @@ use Rattle.expressions.proofs.LawsLabels.{expr_long, expr_head}
 use Rattle.expressions.proofs.LawsShape.{size_one}
 use Rattle.steps.specs.declared.context.Context.{Context}
 use Rattle.steps.specs.declared.context.Refusal.{Refusal}
-use Rattle.steps.specs.Contract.{context_at, with_name, summing, refusal_at, Accepted, Stepping, Newness, ReadyGlobal, ToldGlobal}
+use Rattle.steps.specs.Contract.{context_at, with_name, summing, Refusing, refusal_at, Accepted, Stepping, Newness, ReadyGlobal, ToldGlobal}
 use Rattle.steps.proofs.LawsStepping.{accepts_with, stepping_more, stops, passes, hands_up, whole_context}
 use Rattle.steps.proofs.LawsRows.{rows_count, rows_list}
 
 -- the refusal after a sum of pairs
-pub refused_after : (c : Context) {d : Context} {k q : ℕ} {b : Broken} {y : Refusal} → d ≡ summing k c → y ≡ refusal_at d b q
-    → ◌≡◌ {A = Result Context Refusal} (Err y) (Err (refusal_at (summing k c) b q))
-refused_after c {q = q} {b = b} ed ey = ap Err (ey ∙ ap (λ x. refusal_at x b q) ed)
+pub refused_after : (c : Context) {d : Context} {k p q : ℕ} {y : Refusal} → d ≡ summing k c → y ≡ refusal_at d p q
+    → ◌≡◌ {A = Result Context Refusal} (Err y) (Err (refusal_at (summing k c) p q))
+refused_after c {p = p} {q = q} ed ey = ap Err (ey ∙ ap (λ x. refusal_at x p q) ed)
 
 entry_is : {t n x y : ℕ} {b : Bool} {l k : List (Entry ℕ)} → x ≡ y → b ≡ true → l ≡ k
     → ◌≡◌ {A = List (Entry ℕ)} (record { name = x; type = t; binder = n; assignable = b } ∷ l) (record { name = y; type = t; binder = n; assignable = true } ∷ k)
@@ -84,22 +81,20 @@ module _ {F : List ℕ} {S : Sections} {X R W K : List ℕ} {c : Context} {n : �
         subst (λ C. Initial a (judging (tables_of F S) C a (n + 1) empty)) (sym (whole_context F S W c g.whole))
         (subst (λ Γ. Initial a (judging (tables_of F S) (context_of (tables_of F S) W c.names) a (n + 1) Γ)) (scope_none (tables_of F S) W c.names) (m₁.tells a h.2))
 
-    pub global_no : {b : Broken} {q : ℕ} {d : Context} {y : Refusal} → r₁.judgement ≡ Refused b q → d ≡ summing r₁.at.pairs c → y ≡ refusal_at d b q
+    pub global_no : {p q : ℕ} {d : Context} {y : Refusal} → r₁.judgement ≡ Refused p q → d ≡ summing r₁.at.pairs c → y ≡ refusal_at d p q
         → ToldGlobal F S X R W c n R₁ W₁ K₁ (Err y)
     unfolding stepping
-    global_no {b} {q} j ed ey = record {
-      tells = λ x a h. hands_up _ _ _ (λ t L p. let z : ◌≡◌ {A = ℕ} 0 1 = cc in omega arith) b q j (refused_after c ed ey) (judged a x h);
+    global_no {p} {q} j ed ey = record {
+      tells = λ x a h. hands_up _ _ _ (λ t L d. let z : ◌≡◌ {A = ℕ} 0 1 = cc in omega arith) p q j (refused_after c ed ey) (judged a x h);
     }
 
-    -- an initializer is typed or refused
-    pub global_never : (r₁.judgement ≡ GoesOn) ⊎ (r₁.judgement ≡ Returns) → ⊥
-    global_never j = go (judged g.initializer g.name g.stands) j
+    -- an initializer that isn't typed is refused
+    pub global_refused : ((t : ℕ) → r₁.judgement ≡ Typed t → ⊥) → Refusing r₁.judgement
+    global_refused u = go (judged g.initializer g.name g.stands)
       where
-        go : {x : Counted ℕ} → Initial g.initializer x → (r₁.judgement ≡ GoesOn) ⊎ (r₁.judgement ≡ Returns) → ⊥
-        go (accepts t L k p e) (inl j) = let z : ◌≡◌ {A = ℕ} 0 1 = cc in omega arith
-        go (accepts t L k p e) (inr j) = let z : ◌≡◌ {A = ℕ} 0 1 = cc in omega arith
-        go (refuses p q k e) (inl j) = let z : ◌≡◌ {A = ℕ} 0 1 = cc in omega arith
-        go (refuses p q k e) (inr j) = let z : ◌≡◌ {A = ℕ} 0 1 = cc in omega arith
+        go : {x : Counted ℕ} → Initial g.initializer x → Refusing r₁.judgement
+        go (accepts t L k p e) = absurd (u t p.typed)
+        go (refuses p q k e) = record { number = p; place = q; is = e.judged }
 
     module _ {t : ℕ} (y₁ : r₁.judgement ≡ Typed t) where
       fine_now : Fine F S X R₁ W₁ K₁ c.names c.names
@@ -169,13 +164,13 @@ module _ {F : List ℕ} {S : Sections} {X R W K : List ℕ} {c : Context} {n : �
             ∙ ap (λ l. is_miss (find_name x₁ l)) (names_same (tables_of F S) c.names a c.names (omega arith))
             ∙ ap (λ i. is_miss (find_name i (names_of (tables_of F S) W c.names))) (ex ∙ e))
 
-        pub global_taken : {d : Context} {y : Refusal} → not b₁ ≡ true → d ≡ summing r₁.at.pairs c → y ≡ refusal_at d BoundTwice n → ToldGlobal F S X R W c n R₁ W₁ K₁ (Err y)
+        pub global_taken : {d : Context} {y : Refusal} → not b₁ ≡ true → d ≡ summing r₁.at.pairs c → y ≡ refusal_at d 7 n → ToldGlobal F S X R W c n R₁ W₁ K₁ (Err y)
         unfolding stepping
         global_taken f ed ey =
             record {
               tells = λ x a h.
                   accepted x a h _ λ L q p.
-                  stops _ BoundTwice n _ _ (new_is x h.0.x_is p.after.same ∙ not-true b₁ f) (refused_after c ed ey);
+                  stops _ 7 n _ _ (new_is x h.0.x_is p.after.same ∙ not-true b₁ f) (refused_after c ed ey);
             }
 
         pub global_ok : {W₂ K₂ R' : List ℕ} {d e : Context} → not b₁ ≡ false → Bound F S W₁ K₁ c.names n t W₂ K₂ → R' ≡ with_row R₁ n t 65535 → d ≡ summing r₁.at.pairs c

@@ -31,7 +31,6 @@ use Rattle.type_index.proofs.LawsIndex.{entered}
 use Rattle.bindings.specs.Bindings.{names_of, Bindable, Bound}
 use Rattle.bindings.proofs.LawsBindings.{scoped_linked, names_linked, names_declared}
 use Rattle.fields.proofs.LawsLookup.{record_fields}
-use Rattle.answers.specs.declared.answer.Broken.TheVariants.{BoundTwice, Undeclared}
 use Rattle.expressions.proofs.LawsChild.{kind_within}
 use Rattle.steps.specs.declared.context.Context.{Context}
 use Rattle.steps.specs.declared.context.Refusal.{Refusal}
@@ -78,10 +77,10 @@ module _ {F : List ℕ} {S : Sections} {N : List ℕ} {c : Context} {i : ℕ} (r
       ap (λ k. is_missing (lookup (structs_of (tables_of F S) k) (struct_at (tables_of F S) i).name)) ready.next
       ∙ struct_new_is F S N i x n ready.copied ex en
 
-  pub struct_known : (y : Refusal) → (n ≡ 0 → ⊥) → y ≡ refusal_at c BoundTwice i → ToldStruct F S c i N (Err y)
+  pub struct_known : (y : Refusal) → (n ≡ 0 → ⊥) → y ≡ refusal_at c 7 i → ToldStruct F S c i N (Err y)
   unfolding stepping
   struct_known y f e = record {
-    answered = record { tells = λ W. answer_stops _ BoundTwice i _ (struct_tested ∙ ne_eqb n 0 f) (ap Err e) };
+    answered = record { tells = λ W. answer_stops _ 7 i _ (struct_tested ∙ ne_eqb n 0 f) (ap Err e) };
     copied = λ h. absurd (let z : ◌≡◌ {A = ℕ} 0 1 = cc in omega arith);
   }
 
@@ -130,18 +129,18 @@ module _ {F : List ℕ} {S : Sections} {X W K : List ℕ} {c : Context} {i : ℕ
       built_in_tested : formed (tables_of F S) (context_at (tables_of F S) W c) (built_in_at (tables_of F S) i).type ≡ b
       built_in_tested = formed_whole F S X W c _ b ready.held.indexed ready.whole built_in_within (eb ∙ ap (formed_entry X) et)
 
-      pub built_in_unformed : (y : Refusal) → not b ≡ true → y ≡ refusal_at c Undeclared i → Rowless F S X c (built_in i) W W K (Err y)
+      pub built_in_unformed : (y : Refusal) → not b ≡ true → y ≡ refusal_at c 9 i → Rowless F S X c (built_in i) W W K (Err y)
       unfolding stepping
-      built_in_unformed y f e = record { tells = λ R. stops _ Undeclared i _ _ (built_in_tested ∙ not-true b f) (ap Err e) }
+      built_in_unformed y f e = record { tells = λ R. stops _ 9 i _ _ (built_in_tested ∙ not-true b f) (ap Err e) }
 
       module _ (f : not b ≡ false) (x : ℕ) (ex : x ≡ (built_in_at (tables_of F S) i).name) (n : Bool) (new : Newness F S W K x n) where
         built_in_asked : is_miss (find_name (built_in_at (tables_of F S) i).name (names_of (tables_of F S) W c.names)) ≡ n
         built_in_asked = sym (new.tells c.names ready.held.scoped ∙ ap (λ y. is_miss (find_name y (names_of (tables_of F S) W c.names))) ex)
 
-        pub built_in_known : (y : Refusal) → not n ≡ true → y ≡ refusal_at c BoundTwice i → Rowless F S X c (built_in i) W W K (Err y)
+        pub built_in_known : (y : Refusal) → not n ≡ true → y ≡ refusal_at c 7 i → Rowless F S X c (built_in i) W W K (Err y)
         unfolding stepping
         built_in_known y g e = record {
-          tells = λ R. passes _ 9 i _ (built_in_tested ∙ not-false b f) (stops _ BoundTwice i _ _ (built_in_asked ∙ not-true n g) (ap Err e));
+          tells = λ R. passes _ 9 i _ (built_in_tested ∙ not-false b f) (stops _ 7 i _ _ (built_in_asked ∙ not-true n g) (ap Err e));
         }
 
         built_in_low : c.names < S.built_ins
@@ -205,18 +204,18 @@ module _ {F : List ℕ} {S : Sections} {X W K : List ℕ} {c : Context} {n : ℕ
       heading_tested : formed (tables_of F S) (context_at (tables_of F S) W c) (node_at (tables_of F S) n).t ≡ b
       heading_tested = subst (λ u. formed (tables_of F S) (context_at (tables_of F S) W c) u ≡ b) et (formed_whole F S X W c t b ready.held.indexed ready.whole heading_within eb)
 
-      pub heading_unformed : (y : Refusal) → not b ≡ true → y ≡ refusal_at c Undeclared n → ToldHeading F S X W c n W K (Err y)
+      pub heading_unformed : (y : Refusal) → not b ≡ true → y ≡ refusal_at c 9 n → ToldHeading F S X W c n W K (Err y)
       unfolding stepping
-      heading_unformed y f e = heading_told W K _ (record { tells = λ R. stops _ Undeclared n _ _ (heading_tested ∙ not-true b f) (ap Err e) })
+      heading_unformed y f e = heading_told W K _ (record { tells = λ R. stops _ 9 n _ _ (heading_tested ∙ not-true b f) (ap Err e) })
 
       module _ (f : not b ≡ false) (x : ℕ) (ex : x ≡ (node_at (tables_of F S) n).x) (m : Bool) (new : Newness F S W K x m) where
         heading_asked : is_miss (find_name (node_at (tables_of F S) n).x (names_of (tables_of F S) W c.names)) ≡ m
         heading_asked = sym (new.tells c.names ready.held.scoped ∙ ap (λ y. is_miss (find_name y (names_of (tables_of F S) W c.names))) ex)
 
-        pub heading_known : (y : Refusal) → not m ≡ true → y ≡ refusal_at c BoundTwice n → ToldHeading F S X W c n W K (Err y)
+        pub heading_known : (y : Refusal) → not m ≡ true → y ≡ refusal_at c 7 n → ToldHeading F S X W c n W K (Err y)
         unfolding stepping
         heading_known y g e = heading_told W K _ (record {
-          tells = λ R. passes _ 9 n _ (heading_tested ∙ not-false b f) (stops _ BoundTwice n _ _ (heading_asked ∙ not-true m g) (ap Err e));
+          tells = λ R. passes _ 9 n _ (heading_tested ∙ not-false b f) (stops _ 7 n _ _ (heading_asked ∙ not-true m g) (ap Err e));
         })
 
         module _ {W' K' : List ℕ} (bound : Bound F S W K c.names n t W' K') where
@@ -258,15 +257,15 @@ module _ {F : List ℕ} {S : Sections} {X : List ℕ} {c : Context} {i : ℕ} (r
         (ap (λ k. structs_of (tables_of F S) k) (ready.whole.structs ∙ sym (structs_long F S)))
         (record_fields F S ready.good_tables i ready.there))
 
-    pub fields_unformed : (y : Refusal) → not b ≡ true → y ≡ refusal_at c Undeclared i → Answered F S c (struct_fields i) (Err y)
+    pub fields_unformed : (y : Refusal) → not b ≡ true → y ≡ refusal_at c 9 i → Answered F S c (struct_fields i) (Err y)
     unfolding stepping
-    fields_unformed y f e = record { tells = λ W. answer_stops _ Undeclared i _ (fields_tested W ∙ not-true b f) (ap Err e) }
+    fields_unformed y f e = record { tells = λ W. answer_stops _ 9 i _ (fields_tested W ∙ not-true b f) (ap Err e) }
 
     module _ (f : not b ≡ false) (n : Bool) (en : n ≡ distinct_fields (struct_of (tables_of F S) i).fields) where
-      pub fields_again : (y : Refusal) → not n ≡ true → y ≡ refusal_at c BoundTwice i → Answered F S c (struct_fields i) (Err y)
+      pub fields_again : (y : Refusal) → not n ≡ true → y ≡ refusal_at c 7 i → Answered F S c (struct_fields i) (Err y)
       unfolding stepping
       fields_again y g e = record {
-        tells = λ W. answer_passes _ 9 i _ (fields_tested W ∙ not-false b f) (answer_stops _ BoundTwice i _ (sym en ∙ not-true n g) (ap Err e));
+        tells = λ W. answer_passes _ 9 i _ (fields_tested W ∙ not-false b f) (answer_stops _ 7 i _ (sym en ∙ not-true n g) (ap Err e));
       }
 
       pub fields_distinct : (d : Context) → not n ≡ false → d ≡ with_step c → Answered F S c (struct_fields i) (Ok d)

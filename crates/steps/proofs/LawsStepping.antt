@@ -1,6 +1,6 @@
 -- A step's answer against the outcome of the definition, premise by premise and part after part, and the context of a file all of whose
 -- structs are declared. Assumes nothing.
-use mathlib.Core.Path.{◌≡◌, refl, ap, sym, subst, ◌∙◌}
+use mathlib.Core.Path.{◌≡◌, refl, ap, ap₂, sym, ◌∙◌}
 use mathlib.Core.Bool.{Bool, true, false}
 use mathlib.Core.List.{List, []}
 use Prim.Native.Nat.{ℕ, ◌+◌, ◌<◌}
@@ -20,10 +20,8 @@ use Rattle.file_sections.specs.declared.Sections.{Sections}
 use Rattle.file_sections.specs.Layout.{tables_of}
 use Rattle.file_sections.proofs.LawsRecords.{structs_long}
 use Rattle.bindings.specs.Bindings.{names_of}
-use Rattle.answers.specs.declared.answer.Broken.{Broken}
 use Rattle.answers.specs.declared.answer.Judgement.TheVariants.{Refused}
 use Rattle.answers.specs.declared.answer.Judged.{Judged}
-use Rattle.answers.specs.Answers.{broken_number}
 use Rattle.expressions.specs.Contract.{context_of, Meets}
 use Rattle.expressions.specs.Contract as meeting
 use Rattle.expressions.proofs.LawsMeets.{Unrefused}
@@ -37,25 +35,25 @@ module _ {F : List ℕ} {S : Sections} {X : List ℕ} {c : Context} {s : Step} {
       → Stepping F S X c s R R' W' K' r π (ok C L) k
   accepts_with C L m k e f a = accepts C L k (f ∙ ap (λ i. Ok (summing i (after_step s c))) e) a
 
-  refuses_with : (b : Broken) (p q m k : ℕ) → broken_number b ≡ p → m ≡ π + k → r ≡ Err (refusal_at (summing m c) b q) → Stepping F S X c s R R' W' K' r π (no p q) k
-  refuses_with b p q m k n e f = refuses b p q k n (f ∙ ap (λ i. Err (refusal_at (summing i c) b q)) e)
+  refuses_with : (p q m k : ℕ) → m ≡ π + k → r ≡ Err (refusal_at (summing m c) p q) → Stepping F S X c s R R' W' K' r π (no p q) k
+  refuses_with p q m k e f = refuses p q k (f ∙ ap (λ i. Err (refusal_at (summing i c) p q)) e)
 
   -- with what was compared before it
   pub stepping_more : {j k : ℕ} {o : Out (Contexts.Context ℕ)} (i : ℕ) → j ≡ π + i → Stepping F S X c s R R' W' K' r j o k → Stepping F S X c s R R' W' K' r π o (i + k)
   stepping_more {j} i e (accepts C L k f a) = accepts_with C L (j + k) (i + k) (omega arith) f a
-  stepping_more {j} i e (refuses b p q k n f) = refuses_with b p q (j + k) (i + k) n (omega arith) f
+  stepping_more {j} i e (refuses p q k f) = refuses_with p q (j + k) (i + k) (omega arith) f
 
   -- a premise that is tested
-  pub stops : (b : Bool) (d : Broken) (q : ℕ) (o : Out (Contexts.Context ℕ)) (k : ℕ) → b ≡ false → r ≡ Err (refusal_at (summing π c) d q)
-      → Stepping F S X c s R R' W' K' r π (needs b (broken_number d) q o) (pick b k 0)
-  stops b d q o k f e = rw f (refuses_with d (broken_number d) q π 0 refl (omega arith) e)
+  pub stops : (b : Bool) (p q : ℕ) (o : Out (Contexts.Context ℕ)) (k : ℕ) → b ≡ false → r ≡ Err (refusal_at (summing π c) p q)
+      → Stepping F S X c s R R' W' K' r π (needs b p q o) (pick b k 0)
+  stops b p q o k f e = rw f (refuses_with p q π 0 (omega arith) e)
 
   pub passes : (b : Bool) (p q : ℕ) (o : Out (Contexts.Context ℕ)) {k : ℕ} → b ≡ true → Stepping F S X c s R R' W' K' r π o k → Stepping F S X c s R R' W' K' r π (needs b p q o) (pick b k 0)
   passes b p q o t m = rw t m
 
 module _ {T : Tables} {W : List ℕ} {c : Context} {s : Step} {r : Result Context Refusal} where
-  pub answer_stops : (b : Bool) (d : Broken) (q : ℕ) (o : Out (Contexts.Context ℕ)) → b ≡ false → r ≡ Err (refusal_at c d q) → Answering T W c s r (needs b (broken_number d) q o)
-  answer_stops b d q o f e = rw f (answers_refused d (broken_number d) q refl e)
+  pub answer_stops : (b : Bool) (p q : ℕ) (o : Out (Contexts.Context ℕ)) → b ≡ false → r ≡ Err (refusal_at c p q) → Answering T W c s r (needs b p q o)
+  answer_stops b p q o f e = rw f (answers_refused p q e)
 
   pub answer_passes : (b : Bool) (p q : ℕ) (o : Out (Contexts.Context ℕ)) → b ≡ true → Answering T W c s r o → Answering T W c s r (needs b p q o)
   answer_passes b p q o t m = rw t m
@@ -63,20 +61,19 @@ module _ {T : Tables} {W : List ℕ} {c : Context} {s : Step} {r : Result Contex
 -- a part that is refused hands its refusal up; an accepted one goes on with its labels, after the pairs that it compared
 module _ {F : List ℕ} {S : Sections} {X : List ℕ} {c : Context} {s : Step} {R R' W' K' : List ℕ} {r : Result Context Refusal} {A : Type 0} {P : A → List (Label ℕ) → Type 0} {r₁ : Judged} {π i : ℕ} where
   pub hands_up : (o : Out A) (k : A → List (Label ℕ) → Out (Contexts.Context ℕ)) (j : A → List (Label ℕ) → ℕ) → ((a : A) (L : List (Label ℕ)) → P a L → ⊥)
-      → (b : Broken) (q : ℕ) → r₁.judgement ≡ Refused b q → r ≡ Err (refusal_at (summing r₁.at.pairs c) b q) → Meets P r₁ π o i
+      → (p q : ℕ) → r₁.judgement ≡ Refused p q → r ≡ Err (refusal_at (summing r₁.at.pairs c) p q) → Meets P r₁ π o i
       → Stepping F S X c s R R' W' K' r π (and_then o k) (i + pairs_after o j)
-  hands_up o k j f b q h e (meeting.accepts a L i p d) = absurd (f a L p)
-  hands_up o k j f b q h e (meeting.refuses n m i d) =
-      let same : b ≡ d.broken = cc in
+  hands_up o k j f p q h e (meeting.accepts a L i d g) = absurd (f a L d)
+  hands_up o k j f p q h e (meeting.refuses n m i d) =
+      let same : p ≡ n = cc in
       let there : q ≡ m = cc in
-      subst (λ m. Stepping F S X c s R R' W' K' r π (no n m) (i + 0)) there
-      (refuses_with b n q r₁.at.pairs (i + 0) (ap broken_number same ∙ d.numbered) (omega (arith, d.sum)) e)
+      refuses_with n m r₁.at.pairs (i + 0) (omega (arith, d.sum)) (e ∙ ap₂ (λ p q. Err (refusal_at (summing r₁.at.pairs c) p q)) same there)
 
   pub goes_on : (o : Out A) (k : A → List (Label ℕ) → Out (Contexts.Context ℕ)) {j : A → List (Label ℕ) → ℕ} → Unrefused r₁ → Meets P r₁ π o i
       → ((a : A) (L : List (Label ℕ)) → o ≡ ok a L → P a L → Stepping F S X c s R R' W' K' r r₁.at.pairs (k a L) (j a L))
       → Stepping F S X c s R R' W' K' r π (and_then o k) (i + pairs_after o j)
   goes_on o k u (meeting.accepts a L i p e) g = stepping_more i e (g a L refl p)
-  goes_on o k u (meeting.refuses p q i e) g = absurd (u.never e.broken q e.judged)
+  goes_on o k u (meeting.refuses p q i e) g = absurd (u.never p q e.judged)
 
 -- an accepted step without rows
 pub rowless : {F : List ℕ} {S : Sections} {X : List ℕ} {c : Context} {s : Step} {W' K' : List ℕ} {r : Result Context Refusal} {π : ℕ} (R : List ℕ) (C : Contexts.Context ℕ)

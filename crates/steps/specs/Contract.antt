@@ -19,10 +19,10 @@ use Rattle.file_sections.specs.Frames.{Same, Kept, ListAt}
 use Rattle.type_index.specs.Index.{formed_entry, Indexed}
 use Rattle.bindings.specs.Bindings.{entry_of, names_of, scope_of, Scoped}
 use Rattle.bindings.specs.declared.Bindings.{Bindings}
-use Rattle.answers.specs.declared.answer.Broken.{Broken}
+use Rattle.answers.specs.declared.answer.Judgement.{Judgement}
+use Rattle.answers.specs.declared.answer.Judgement.TheVariants.{Refused}
 use Rattle.answers.specs.declared.answer.Walk.{Walk}
 use Rattle.answers.specs.declared.file.IndexedFile.{IndexedFile}
-use Rattle.answers.specs.Answers.{broken_number}
 use Rattle.expressions.specs.Contract.{Fine, Few}
 use Rattle.steps.specs.declared.context.Context.{Context}
 use Rattle.steps.specs.declared.context.Refusal.{Refusal}
@@ -45,9 +45,19 @@ with_step c = record { structs = c.structs; names = c.names; steps = c.steps + 1
 abbrev pub summing : ℕ → Context → Context
 summing k c = record { structs = c.structs; names = c.names; steps = c.steps; pairs = k }
 
--- the refusal of the step after the context c, at the place q
-abbrev pub refusal_at : Context → Broken → ℕ → Refusal
-refusal_at c b q = record { broken = b; step = c.steps; place = q; pairs = c.pairs }
+-- the refusal of the step after the context c, under the number p at the place q
+abbrev pub refusal_at : Context → (p q : ℕ) → Refusal
+refusal_at c p q = record { number = p; step = c.steps; place = q; pairs = c.pairs }
+
+-- the judgement j is a refusal
+pub record Refusing (j : Judgement) : Type 0 where
+  pub number : ℕ
+  pub place : ℕ
+  pub is : j ≡ Refused number place
+
+-- y hands the refusal j up, as that of the step after the context c
+pub record HandsUp (c : Context) (j : Judgement) (y : Refusal) : Type 0 where
+  pub tells : (p q : ℕ) → j ≡ Refused p q → y ≡ refusal_at c p q
 
 abbrev pub after_step : Step → Context → Context
 after_step (struct_name i) c = with_struct c
@@ -76,7 +86,7 @@ pub record Accepted (F : List ℕ) (S : Sections) (X : List ℕ) (c : Context) (
 pub data Stepping (F : List ℕ) (S : Sections) (X : List ℕ) (c : Context) (s : Step) (R R' W' K' : List ℕ) (r : Result Context Refusal) (π : ℕ) : Out (Contexts.Context ℕ) → ℕ → Type 0 where
   accepts : (C : Contexts.Context ℕ) (L : List (Label ℕ)) (k : ℕ) → r ≡ Ok (summing (π + k) (after_step s c)) → Accepted F S X c s R R' W' K' C L
       → Stepping F S X c s R R' W' K' r π (ok C L) k
-  refuses : (b : Broken) (p q k : ℕ) → broken_number b ≡ p → r ≡ Err (refusal_at (summing (π + k) c) b q) → Stepping F S X c s R R' W' K' r π (no p q) k
+  refuses : (p q k : ℕ) → r ≡ Err (refusal_at (summing (π + k) c) p q) → Stepping F S X c s R R' W' K' r π (no p q) k
 
 -- r answers the step as the definition has it, in the context of the buffers before
 abbrev pub Steps : List ℕ → Sections → (X : List ℕ) → Context → Step → (R W R' W' K' : List ℕ) → Result Context Refusal → Type 0
@@ -87,7 +97,7 @@ Steps F S X c s R W R' W' K' r =
 -- of the definition in the context of c and the stack W
 pub data Answering (T : Tables) (W : List ℕ) (c : Context) (s : Step) (r : Result Context Refusal) : Out (Contexts.Context ℕ) → Type 0 where
   answers_next : (C : Contexts.Context ℕ) → r ≡ Ok (after_step s c) → context_at T W (after_step s c) ≡ C → Answering T W c s r (ok C [])
-  answers_refused : (b : Broken) (p q : ℕ) → broken_number b ≡ p → r ≡ Err (refusal_at c b q) → Answering T W c s r (no p q)
+  answers_refused : (p q : ℕ) → r ≡ Err (refusal_at c p q) → Answering T W c s r (no p q)
 
 -- r answers the step as the definition has it, whatever the stack holds: it depends on the file alone
 pub record Answered (F : List ℕ) (S : Sections) (c : Context) (s : Step) (r : Result Context Refusal) : Type 0 where
@@ -109,8 +119,8 @@ pub record Whole (S : Sections) (c : Context) : Type 0 where
 pub record Rowless (F : List ℕ) (S : Sections) (X : List ℕ) (c : Context) (s : Step) (W W' K' : List ℕ) (r : Result Context Refusal) : Type 0 where
   pub tells : (R : List ℕ) → Steps F S X c s R W R W' K' r
 
-abbrev pub RowlessAt : IndexedFile → Bindings → Context → Step → Bindings → Result Context Refusal → Type 0
-RowlessAt f b c s b' r = Rowless f.bytes.now f.sections f.index.now c s b.work.now b'.work.now b'.chains r
+abbrev pub RowlessAt : IndexedFile → Context → Step → (W W' K' : List ℕ) → Result Context Refusal → Type 0
+RowlessAt f c s W W' K' r = Rowless f.bytes.now f.sections f.index.now c s W W' K' r
 
 -- how often x stands among the first `count` numbers
 unfoldable pub times_in : List ℕ → ℕ → ℕ → ℕ
@@ -139,8 +149,8 @@ pub record ReadyBuiltIn (F : List ℕ) (S : Sections) (X W K : List ℕ) (c : Co
   pub there : i < S.built_ins
   pub next : c.names ≡ i
 
-abbrev pub ReadyBuiltInAt : IndexedFile → Bindings → Context → ℕ → Type 0
-ReadyBuiltInAt f b c i = ReadyBuiltIn f.bytes.now f.sections f.index.now b.work.now b.chains c i
+abbrev pub ReadyBuiltInAt : IndexedFile → (W K : List ℕ) → Context → ℕ → Type 0
+ReadyBuiltInAt f W K c i = ReadyBuiltIn f.bytes.now f.sections f.index.now W K c i
 
 -- function headings: a function stands at n
 pub record ReadyHeading (F : List ℕ) (S : Sections) (X W K : List ℕ) (c : Context) (n : ℕ) : Type 0 where

@@ -1,15 +1,16 @@
 // The context, by value, and its steps.
 ghost use Rattle.std.specs.Prelude.{◌≡◌, ◌+◌, ◌<◌};
 ghost use Rattle.typing_rules.specs.Steps.{built_in, struct_fields};
+ghost use Rattle.answers.specs.Answers.{broken_number};
 ghost use Rattle.answers.specs.Walks.{SameBuffers};
-ghost use Rattle.steps.specs.Contract.{with_struct, with_name, with_step, summing, refusal_at, AnsweredAt, RowlessAt, ReadyStruct, ToldStruct, ReadyBuiltInAt, ReadyHeadingAt, ToldHeadingAt, ReadyGlobalAt, ToldGlobalAt, ReadyFieldsAt, ReadyBodyAt, ToldBodyAt};
+ghost use Rattle.steps.specs.Contract.{with_struct, with_name, with_step, summing, refusal_at, Refusing, HandsUp, AnsweredAt, RowlessAt, ReadyStruct, ToldStruct, ReadyBuiltInAt, ReadyHeadingAt, ToldHeadingAt, ReadyGlobalAt, ToldGlobalAt, ReadyFieldsAt, ReadyBodyAt, ToldBodyAt};
 ghost use Rattle.bindings.specs.Buffers.{SameWork};
 
-use crate::names::{is_new, times, types_formed};
+use crate::names::{is_new, is_new_in, times, types_formed};
 use crate::parameters::parameters;
 use answers::answer::{At, Broken, Frame, Judgement, Walk, row};
 use answers::file::IndexedFile;
-use bindings::Bindings;
+use bindings::{Bindings, Chains, link};
 use expressions::cycle::expression;
 use fields::distinct::are_distinct;
 use file_sections::Sections;
@@ -30,10 +31,10 @@ pub struct Context {
     pub pairs: usize,
 }
 
-// The premise that is broken, the step and the place of a refusal, and how many pairs of types were compared up to it.
+// The number, the step and the place of a refusal, and how many pairs of types were compared up to it.
 #[derive(Clone, Copy, PartialEq, Eq)]
 pub struct Refusal {
-    pub broken: Broken,
+    pub number: usize,
     pub step: usize,
     pub place: usize,
     pub pairs: usize,
@@ -93,13 +94,29 @@ impl Context {
 
     // The refusal of the next step, at a place.
     fn refusal(self, broken: Broken, place: usize) -> Refusal
-        ensures { result ≡ refusal_at self broken place }
+        ensures { result ≡ refusal_at self (broken_number broken) place }
     {
         Refusal {
-            broken,
+            number: usize::from(broken.number()),
             step: self.steps,
             place,
             pairs: self.pairs,
+        }
+    }
+
+    // The refusal that a judgement hands up; it is called with refusals alone.
+    fn handed_up(self, judgement: Judgement) -> Refusal
+        requires { Refusing judgement }
+        ensures { HandsUp self judgement result }
+    {
+        match judgement {
+            Judgement::Refused(number, place) => Refusal {
+                number,
+                step: self.steps,
+                place,
+                pairs: self.pairs,
+            },
+            Judgement::Typed(_) | Judgement::GoesOn | Judgement::Returns => unreachable!(),
         }
     }
 
@@ -126,21 +143,21 @@ impl Context {
     pub fn built_in_step(
         self,
         file: &IndexedFile<'_>,
-        bindings: &mut Bindings<'_>,
+        work: &[u16],
+        chains: &mut Chains,
         i: usize,
     ) -> Result<Context, Refusal>
-        requires { ReadyBuiltInAt file.now bindings.old self i }
-        ensures told { RowlessAt file.now bindings.old self (built_in i) bindings.new result }
-        ensures work_unchanged { bindings.new.work ≡ bindings.old.work }
+        requires { ReadyBuiltInAt file.now work.now chains.old self i }
+        ensures { RowlessAt file.now self (built_in i) work.now work.now chains.new result }
     {
         if !is_formed(file.index, built_in_type(file.bytes, file.sections, i)) {
             return Err(self.refusal(Broken::Undeclared, i));
         }
         let name = built_in_name(file.bytes, file.sections, i);
-        if !is_new(file, bindings, name) {
+        if !is_new_in(file, work, &*chains, name) {
             return Err(self.refusal(Broken::BoundTwice, i));
         }
-        bindings.link(i, name);
+        link(chains, i, name);
         Ok(self.with_name())
     }
 
@@ -190,10 +207,8 @@ impl Context {
         };
         let value = expression(&frame, walk, at);
         let after = self.summing(value.at.pairs);
-        let t = match value.judgement {
-            Judgement::Typed(t) => t,
-            Judgement::Refused(broken, place) => return Err(after.refusal(broken, place)),
-            Judgement::GoesOn | Judgement::Returns => unreachable!(),
+        let Judgement::Typed(t) = value.judgement else {
+            return Err(after.handed_up(value.judgement));
         };
         let name = node_x(file.bytes, file.sections, node);
         if !is_new(file, &walk.bindings, name) {
@@ -250,13 +265,12 @@ impl Context {
         };
         let body = block(&frame, walk, at, self.names);
         let after = self.summing(body.at.pairs);
-        match body.judgement {
-            Judgement::Returns => {}
-            Judgement::Refused(broken, place) => return Err(after.refusal(broken, place)),
-            Judgement::GoesOn | Judgement::Typed(_) => {
-                return Err(after.refusal(Broken::WrongMark, node));
-            }
+        if let Judgement::Refused(_, _) = body.judgement {
+            return Err(after.handed_up(body.judgement));
         }
+        let Judgement::Returns = body.judgement else {
+            return Err(after.refusal(Broken::WrongMark, node));
+        };
         walk.bindings
             .leave(file.bytes, file.sections, at.scope, self.names);
         row(walk.rows, node, 1, 65535);

@@ -14,14 +14,15 @@ pub fn is_new(file: &IndexedFile<'_>, bindings: &Bindings<'_>, name: usize) -> b
     requires { Holding file.now.bytes.now file.now.sections bindings.now.work.now bindings.now.chains }
     ensures { Newness file.now.bytes.now file.now.sections bindings.now.work.now bindings.now.chains name result }
 {
-    find(
-        file.bytes,
-        file.sections,
-        bindings.work,
-        &bindings.chains,
-        name,
-    )
-    .is_none()
+    is_new_in(file, bindings.work, &bindings.chains, name)
+}
+
+// The same, where the stack and its chains are lent to be read.
+pub fn is_new_in(file: &IndexedFile<'_>, work: &[u16], chains: &[u16], name: usize) -> bool
+    requires { Holding file.now.bytes.now file.now.sections work.now chains.now }
+    ensures { Newness file.now.bytes.now file.now.sections work.now chains.now name result }
+{
+    find(file.bytes, file.sections, work, chains, name).is_none()
 }
 
 // The types of `count` fields from `first` on are well-formed.

@@ -2,7 +2,7 @@
 ghost use Rattle.std.specs.Prelude.{◌≡◌, ◌+◌, ◌*◌, ◌≤◌, ◌<◌, length};
 ghost use Rattle.oat.specs.Basics.{pick};
 ghost use Rattle.oat.specs.Nodes.{is_expression};
-ghost use Rattle.file_sections.specs.Layout.{tables_of};
+ghost use Rattle.file_sections.specs.Layout.{Has, tables_of};
 ghost use Rattle.file_sections.specs.Trees.{Tree as IsTree};
 ghost use Rattle.tallies.specs.Tallies.{type_in_row};
 ghost use Rattle.tallies.specs.Walk.{ReadyWalk, CountedTo, ToldTree, ReadyTally, ToldTally};
@@ -21,6 +21,15 @@ fn type_in_row(rows: &[u16], node: usize) -> usize
     usize::from(rows[2 * node])
 }
 
+// The node is an expression.
+#[tactic(auto, using(crate::proofs::LawsWalk::kind_tells))]
+fn is_counted(file: &[u8], sections: Sections, node: usize) -> bool
+    requires { Has file.now sections node sections.nodes }
+    ensures { result ≡ is_expression (tables_of file.now sections) node }
+{
+    is_expression(node_kind(file, sections, node))
+}
+
 // Counts a node under the lowest number of its type where it is an expression; answers how many expressions that are, 1 or 0.
 fn tally_node(
     file: &[u8],
@@ -35,7 +44,7 @@ fn tally_node(
     ensures value { (result ≡ pick (is_expression (tables_of file.now sections) node) 1 0) × (result ≤ 1) }
     ensures counted_to_2 { CountedTo (tables_of file.now sections) rows.now (node + 1) types.new }
 {
-    if !is_expression(node_kind(file, sections, node)) {
+    if !is_counted(file, sections, node) {
         return 0;
     }
     add_one(types, lowest(index, type_in_row(rows, node)));

@@ -186,6 +186,9 @@ pub fn types_right(file: &[u8], sections: Sections, most: usize) -> bool
     requires { Laid file.now sections × (most ≤ 200) }
     ensures { result ≡ types_right most (tables_of file.now sections) }
 {
+    if sections.types < 4 {
+        return false;
+    }
     let mut parts = [0u16; 512];
-    4 <= sections.types && each_type(file, sections, &mut parts, most)
+    each_type(file, sections, &mut parts, most)
 }

@@ -6,11 +6,11 @@ use Prim.Native.Nat.{ℕ, ◌+◌, ◌*◌, ◌<◌}
 use native.Mathlib.Nat.{zero-add, add-zero}
 use native.Mathlib.Omega.{arith}
 use lib.ListN.{length}
-use Rattle.std.specs.Prelude.{Result, Ok, Err}
+use Rattle.std.specs.Prelude.{Result, Ok}
 use Rattle.oat.specs.Basics.{tabulate}
 use Rattle.oat.specs.Tables.{Tables}
 use Rattle.typing_rules.specs.Contexts as Contexts
-use Rattle.typing_rules.specs.Judge.{Out, no}
+use Rattle.typing_rules.specs.Judge.{Out}
 use Rattle.typing_rules.specs.Steps.{Step, struct_name, built_in, heading, global_value, struct_fields, body}
 use Rattle.typing_rules.specs.Check.{rows_begin, step_rows, stepping, run_step, run_pairs, node_count}
 use Rattle.typing_rules.proofs.LawsSteps.{tabulate_more}
@@ -19,7 +19,6 @@ use Rattle.file_sections.specs.Layout.{tables_of}
 use Rattle.file_sections.specs.Frames.{ListAt}
 use Rattle.file_sections.proofs.LawsFrames.{list_none}
 use Rattle.bindings.specs.Bindings.{Scoped}
-use Rattle.answers.specs.Answers.{broken_number}
 use Rattle.steps.specs.declared.context.Context.{Context}
 use Rattle.steps.specs.declared.context.Refusal.{Refusal}
 use Rattle.steps.specs.Contract.{context_at, summing, after_step, refusal_at, Held, Answering, answers_next, answers_refused, Answered}
@@ -41,7 +40,7 @@ bare_rows T (body n t ps b) z = absurd (omega arith)
 -- the context after an accepted one
 next_of : {T : Tables} {W : List ℕ} {c d : Context} {s : Step} {r : Result Context Refusal} {o : Out (Contexts.Context ℕ)} → Answering T W c s r o → r ≡ Ok d → d ≡ after_step s c
 next_of (answers_next C q m) e = next_is e q
-next_of (answers_refused b p q n i) e = absurd (not_both e i)
+next_of (answers_refused p q i) e = absurd (not_both e i)
 
 -- the sum of pairs after steps, as the context after them has it
 sum_stays : (ss : List Step) (c : Context) → (after_steps ss c).pairs ≡ c.pairs
@@ -57,11 +56,11 @@ all_then {T} {W} {c} {d} {ss} {ts} {r₁} {r} (all_next gs f m o w) e n = next (
         all_next (gs ++ hs) (g ∙ ap (λ x. Ok x) (sym (after_append ss ts c))) (then_on T c ss ts W W W gs hs m n) (then_counts T c ss ts W W W 0 0 o u)
         (λ R. written_append (w R) (v R))
     next (all_refused y g h n u) =
-        all_refused y g (h ∙ sum_stays ss c) (then_breaks T c ss ts W W gs (broken_number y.broken) y.step y.place m n) (then_counts_to T c ss ts W W 0 0 o u)
+        all_refused y g (h ∙ sum_stays ss c) (then_breaks T c ss ts W W gs y.number y.step y.place m n) (then_counts_to T c ss ts W W 0 0 o u)
 
 all_stop : {T : Tables} {W : List ℕ} {c : Context} {ss : List Step} {r : Result Context Refusal} (ts : List Step) → Stopped r → AnsweringAll T W c ss r → AnsweringAll T W c (ss ++ ts) r
 all_stop ts e (all_next gs f m o w) = absurd (e.never _ f)
-all_stop {T} {W} {c} {ss} ts e (all_refused y f h n o) = all_refused y f h (breaks_still T c ss ts W (broken_number y.broken) y.step y.place n) (counts_still T c ss ts W 0 o)
+all_stop {T} {W} {c} {ss} ts e (all_refused y f h n o) = all_refused y f h (breaks_still T c ss ts W y.number y.step y.place n) (counts_still T c ss ts W 0 o)
 
 module _ {F : List ℕ} {S : Sections} where
   pub answered_next : {c d : Context} {s : Step} {r : Result Context Refusal} → Answered F S c s r → r ≡ Ok d → d ≡ after_step s c
@@ -87,7 +86,7 @@ module _ {F : List ℕ} {S : Sections} where
           all_next (record { node = rows_begin s; rows = step_rows (tables_of F S) s [] } ∷ []) q (one_on F S W c s W C [] e m)
           (λ rest. one_counts F S W c s W C [] e m rest ∙ ap (λ k. k + run_pairs (tables_of F S) (context_at (tables_of F S) W (after_step s c)) rest) nothing)
           (λ R. written_next refl (ap length none ∙ sym (ap (λ k. k * 2) z)) (subst (ListAt R (rows_begin s * 2)) (sym none) (list_none R (rows_begin s * 2))) written_none)
-      go o e (answers_refused b p q n i) = all_refused (refusal_at c b q) i refl (one_stop F S W c s (broken_number b) q (e ∙ ap (λ x. no x q) (sym n))) (λ rest. one_counts_to F S W c s p q e rest ∙ nothing)
+      go o e (answers_refused p q i) = all_refused (refusal_at c p q) i refl (one_stop F S W c s p q e) (λ rest. one_counts_to F S W c s p q e rest ∙ nothing)
 
   -- the first i records have had their steps
   module _ (f : ℕ → Step) (b : (i : ℕ) → node_count (f i) ≡ 0) {c₀ c : Context} {t : Result Context Refusal} {i : ℕ} (a : AnsweredAll F S c₀ (tabulate i f) (Ok c)) (h : Answered F S c (f i) t) where

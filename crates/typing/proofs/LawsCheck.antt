@@ -33,7 +33,6 @@ use Rattle.bindings.proofs.LawsBindings.{scoped_none}
 use Rattle.demand3.specs.CheckFile.{needed, outcome, Checks, unreadable, rows_short, work_short, checked}
 use Rattle.demand3.proofs.Theorem.{fits, sum_of, demand3, check_numbers}
 use Rattle.demand3.proofs.LawsPlaces.{refused_fits, accepted_fits}
-use Rattle.answers.specs.Answers.{broken_number}
 use Rattle.steps.specs.declared.context.Context.{Context}
 use Rattle.steps.specs.declared.context.Refusal.{Refusal}
 use Rattle.steps.specs.Contract.{context_at, summing}
@@ -70,7 +69,7 @@ module _ {F : List ℕ} {S : Sections} (p : Program) (f : IsFile widest F p) (e 
 -- what a run of all steps of the program p says
 pub data Ends (p : Program) (R' : List ℕ) (r : Result Context Refusal) : Type 0 where
   ends_next : (c : Context) (ss : List Step) (gs : List Segment) → r ≡ Ok c → run_of p ≡ accepted gs c.steps → sum_of p ≡ c.pairs → Written R' ss gs → Ends p R' r
-  ends_refused : (y : Refusal) → r ≡ Err y → run_of p ≡ refused (broken_number y.broken) y.step y.place → sum_of p ≡ y.pairs → Ends p R' r
+  ends_refused : (y : Refusal) → r ≡ Err y → run_of p ≡ refused y.number y.step y.place → sum_of p ≡ y.pairs → Ends p R' r
 
 run_ends : {F : List ℕ} {S : Sections} {X R W R' W' K' : List ℕ} {r : Result Context Refusal} (p : Program) → IsFile widest F p → reading_within widest F ≡ Ok S
     → Runs F S X start (steps_of (program_of F S p.declarations)) R W R' W' K' r → Ends p R' r
@@ -105,8 +104,8 @@ ends_small {F} {r = r} p f h (ends_refused y q e o) = record {
   next = λ d i. absurd (let z : ◌≡◌ {A = ℕ} 0 1 = cc in omega arith);
   refused = λ x i.
       let same : y ≡ x = cc in
-      let (a, b, c) = refused_fits F p f (broken_number y.broken) y.step y.place e in
-      subst (λ x. (x.step < 65535) × (x.place < 65535) × (x.pairs ≤ 4294967295)) same (omega arith, omega arith, omega (arith, o, sum_fits p f h));
+      let (a, b, c) = refused_fits F p f y.number y.step y.place e in
+      subst (λ x. (x.number ≤ 16) × (x.step < 65535) × (x.place < 65535) × (x.pairs ≤ 4294967295)) same (omega arith, omega arith, omega arith, omega (arith, o, sum_fits p f h));
 }
 
 -- the answer and the rows
@@ -124,7 +123,7 @@ ends_answer {F} {S} {R'} p f e l (ends_next c ss gs q h o w) =
     (record { number = ap (λ a. a.number) is; step = ap (λ a. a.step) is; place = ap (λ a. a.place) is; pairs = ap (λ a. a.pairs) is; rows = rows ∙ ap (λ a. a.rows) is })
 ends_answer {F} {S} {R'} p f e l (ends_refused y q h o) =
     let long : length R' ≡ 2 * length p.tables.nodes = omega (arith, nodes_are p f e) in
-    let is = sym (check_is p (refused (broken_number y.broken) y.step y.place) y.pairs h o) in
+    let is = sym (check_is p (refused y.number y.step y.place) y.pairs h o) in
     subst (λ x. AnswersAs p (rows_after x R') (answer_of x)) (sym q)
     (record {
       number = ap (λ a. a.number) is;

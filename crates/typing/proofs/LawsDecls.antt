@@ -4,7 +4,7 @@ use mathlib.Core.List.{List, [], ◌∷◌}
 use Prim.Native.Nat.{ℕ, ◌+◌, ◌*◌, ◌≤◌, ◌<◌}
 use native.Mathlib.Omega.{arith}
 use lib.ListN.{length}
-use Rattle.std.specs.Prelude.{Result, Ok, Err}
+use Rattle.std.specs.Prelude.{Result, Ok}
 use Rattle.oat.specs.Tables.{Tables, node_at}
 use Rattle.oat.specs.Syntax.{Expr, Block, block, Decl, global, function, size_block, size_decl}
 use Rattle.oat.specs.Nodes.{DeclStands}

@@ -5,7 +5,7 @@ use Prim.Native.Nat.{ℕ, ◌+◌, ◌*◌, ◌≤◌, ◌<◌}
 use native.Mathlib.Nat.{add-mul}
 use native.Mathlib.Omega.{arith}
 use lib.ListN.{length, length-append}
-use Rattle.std.specs.Prelude.{Result, Ok, Err}
+use Rattle.std.specs.Prelude.{Result, Ok}
 use Rattle.oat.specs.Syntax.{Decl, size_decl, size_decls}
 use Rattle.typing_rules.specs.Steps.{Step}
 use Rattle.typing_rules.proofs.LawsPairs.{step_nodes}

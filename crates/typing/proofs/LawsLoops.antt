@@ -4,7 +4,7 @@ use mathlib.Core.List.{List, []}
 use Prim.Native.Nat.{ℕ, ◌+◌, ◌≤◌, ◌<◌}
 use native.Mathlib.Omega.{arith}
 use lib.ListN.{length}
-use Rattle.std.specs.Prelude.{Result, Ok, Err}
+use Rattle.std.specs.Prelude.{Result, Ok}
 use Rattle.oat.specs.Basics.{tabulate}
 use Rattle.oat.proofs.LawsBasics.{tabulate_long}
 use Rattle.typing_rules.specs.Steps.{Step, struct_name, built_in, struct_fields}

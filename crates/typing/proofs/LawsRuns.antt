@@ -20,7 +20,6 @@ use Rattle.file_sections.specs.declared.Sections.{Sections}
 use Rattle.file_sections.specs.Layout.{tables_of}
 use Rattle.file_sections.specs.Frames.{Kept}
 use Rattle.file_sections.proofs.LawsFrames.{list_kept}
-use Rattle.answers.specs.Answers.{broken_number}
 use Rattle.steps.specs.declared.context.Context.{Context}
 use Rattle.steps.specs.declared.context.Refusal.{Refusal}
 use Rattle.steps.specs.Contract.{context_at, summing, after_step, refusal_at, Held, Stepping, accepts, refuses, Steps}
@@ -220,7 +219,7 @@ module _ {F : List ℕ} {S : Sections} {X : List ℕ} where
             written = written_next refl a.long a.rows written_none;
             kept = one_kept s a.kept;
           })
-      go o j e f (refuses b p q k n i) = stops (refusal_at (summing (c.pairs + k) c) b q) k i refl (one_stop F S W c s (broken_number b) q (e ∙ ap (λ x. no x q) (sym n))) (λ rest. one_counts_to F S W c s p q e rest ∙ f)
+      go o j e f (refuses p q k i) = stops (refusal_at (summing (c.pairs + k) c) p q) k i refl (one_stop F S W c s p q e) (λ rest. one_counts_to F S W c s p q e rest ∙ f)
 
   -- one run after another
   module _ {c : Context} {ss ts : List Step} {R W R₁ W₁ K₁ R₂ W₂ K₂ : List ℕ} where
@@ -246,7 +245,7 @@ module _ {F : List ℕ} {S : Sections} {X : List ℕ} where
         next : Runs F S X (summing (c.pairs + k) (after_steps ss c)) ts R₁ W₁ R₂ W₂ K₂ r → Runs F S X c (ss ++ ts) R W R₂ W₂ K₂ r
         next (goes hs j g n) = goes (gs ++ hs) (k + j) (g ∙ ap (λ x. Ok x) (after j)) (then_goes gs hs k j a m (run_summing (c.pairs + k) n))
         next (stops y j g h n o) =
-            stops y (k + j) g (h ∙ add_assoc c.pairs k j) (then_breaks (tables_of F S) c ss ts W W₁ gs (broken_number y.broken) y.step y.place m.on n)
+            stops y (k + j) g (h ∙ add_assoc c.pairs k j) (then_breaks (tables_of F S) c ss ts W W₁ gs y.number y.step y.place m.on n)
             (then_counts_to (tables_of F S) c ss ts W W₁ k j m.counts o)
 
   -- a refused run stays refused, whatever follows
@@ -254,7 +253,7 @@ module _ {F : List ℕ} {S : Sections} {X : List ℕ} where
       → Runs F S X c ss R W R₁ W₁ K₁ r → Runs F S X c (ss ++ ts) R W R₂ W₂ K₂ r
   runs_stop ts e (goes gs k f m) = absurd (e.never _ f)
   runs_stop {c} {ss} {W = W} ts e (stops y k f h n o) =
-      stops y k f h (breaks_still (tables_of F S) c ss ts W (broken_number y.broken) y.step y.place n) (counts_still (tables_of F S) c ss ts W k o)
+      stops y k f h (breaks_still (tables_of F S) c ss ts W y.number y.step y.place n) (counts_still (tables_of F S) c ss ts W k o)
 
   -- what an accepted run says
   pub runs_next : {c d : Context} {ss : List Step} {R W R₁ W₁ K₁ : List ℕ} {r : Result Context Refusal} → r ≡ Ok d → Runs F S X c ss R W R₁ W₁ K₁ r

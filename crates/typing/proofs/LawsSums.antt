@@ -5,7 +5,7 @@ use Prim.Native.Nat.{ℕ, ◌+◌, ◌*◌, ◌≤◌}
 use native.Mathlib.Omega.{arith}
 use lib.ListN.{length}
 use lib.Dec.{eqb}
-use Rattle.std.specs.Prelude.{Result, Ok, Err}
+use Rattle.std.specs.Prelude.{Result, Ok}
 use Rattle.oat.specs.Tables.{Tables, built_in_at}
 use Rattle.oat.specs.Types.{struct_of, structs_of}
 use Rattle.oat.proofs.LawsTypes.{TypesFormed, types-formed}

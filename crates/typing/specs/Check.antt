@@ -6,7 +6,6 @@ use Rattle.oat.specs.ProgramFile.{Limits, in_range, widest, Program, IsFile}
 use Rattle.typing_rules.specs.Check.{check_of}
 use Rattle.file_sections.specs.declared.Sections.{Sections}
 use Rattle.program_file.specs.Reading.{reading_within, reading_of}
-use Rattle.answers.specs.Answers.{broken_number}
 use Rattle.demand3.specs.CheckFile.{needed, Outcome, outcome, Checks}
 use Rattle.demand3.specs.Demand3.{Demand3}
 use Rattle.steps.specs.declared.context.Context.{Context}
@@ -40,7 +39,7 @@ pub record ToldSections (F : List ℕ) (S : Sections) (R W R' W' : List ℕ) (r 
 -- the answer after the last step, and the rows: a refusal fills them
 abbrev pub answer_of : Result Context Refusal → Answer
 answer_of (Ok c) = record { number = 0; step = c.steps; place = 0; pairs = c.pairs }
-answer_of (Err e) = record { number = broken_number e.broken; step = e.step; place = e.place; pairs = e.pairs }
+answer_of (Err e) = record { number = e.number; step = e.step; place = e.place; pairs = e.pairs }
 
 abbrev pub rows_after : Result Context Refusal → List ℕ → List ℕ
 rows_after (Ok c) R = R
@@ -49,7 +48,7 @@ rows_after (Err e) R = replicate (length R) 65535
 -- the numbers of the answer have 16 bits, with one to spare, and the sum of pairs has 32
 pub record Small (r : Result Context Refusal) : Type 0 where
   pub next : (c : Context) → r ≡ Ok c → (c.steps < 65535) × (c.pairs ≤ 4294967295)
-  pub refused : (e : Refusal) → r ≡ Err e → (e.step < 65535) × (e.place < 65535) × (e.pairs ≤ 4294967295)
+  pub refused : (e : Refusal) → r ≡ Err e → (e.number ≤ 16) × (e.step < 65535) × (e.place < 65535) × (e.pairs ≤ 4294967295)
 
 -- a readable file, whose rows and work are of the length needed
 pub record ReadyCheck (F : List ℕ) (S : Sections) (R W : List ℕ) : Type 0 where

@@ -16,7 +16,6 @@ use Rattle.type_index.specs.Index.{Indexed}
 use Rattle.bindings.specs.declared.Bindings.{Bindings}
 use Rattle.answers.specs.declared.answer.Walk.{Walk}
 use Rattle.answers.specs.declared.file.IndexedFile.{IndexedFile}
-use Rattle.answers.specs.Answers.{broken_number}
 use Rattle.expressions.specs.Contract.{Few}
 use Rattle.steps.specs.declared.context.Context.{Context}
 use Rattle.steps.specs.declared.context.Refusal.{Refusal}
@@ -75,13 +74,13 @@ pub record Run (F : List ℕ) (S : Sections) (X : List ℕ) (c : Context) (ss : 
 -- the answer r to the steps ss, from the context c on, is that of the definition
 pub data Runs (F : List ℕ) (S : Sections) (X : List ℕ) (c : Context) (ss : List Step) (R W R' W' K' : List ℕ) (r : Result Context Refusal) : Type 0 where
   goes : (gs : List Segment) (k : ℕ) → r ≡ Ok (summing (c.pairs + k) (after_steps ss c)) → Run F S X c ss R W R' W' K' gs k → Runs F S X c ss R W R' W' K' r
-  stops : (e : Refusal) (k : ℕ) → r ≡ Err e → e.pairs ≡ c.pairs + k → Break (tables_of F S) c ss W (broken_number e.broken) e.step e.place → CountsTo (tables_of F S) c ss W k → Runs F S X c ss R W R' W' K' r
+  stops : (e : Refusal) (k : ℕ) → r ≡ Err e → e.pairs ≡ c.pairs + k → Break (tables_of F S) c ss W e.number e.step e.place → CountsTo (tables_of F S) c ss W k → Runs F S X c ss R W R' W' K' r
 
 -- the same of steps that bind no name, write no rows and compare nothing, those on struct names and struct fields: W is the stack before and
 -- after them, and their segments are written whatever the rows hold
 pub data AnsweringAll (T : Tables) (W : List ℕ) (c : Context) (ss : List Step) (r : Result Context Refusal) : Type 0 where
   all_next : (gs : List Segment) → r ≡ Ok (after_steps ss c) → GoOn T c ss W W gs → CountsOn T c ss W W 0 → ((R : List ℕ) → Written R ss gs) → AnsweringAll T W c ss r
-  all_refused : (e : Refusal) → r ≡ Err e → e.pairs ≡ c.pairs → Break T c ss W (broken_number e.broken) e.step e.place → CountsTo T c ss W 0 → AnsweringAll T W c ss r
+  all_refused : (e : Refusal) → r ≡ Err e → e.pairs ≡ c.pairs → Break T c ss W e.number e.step e.place → CountsTo T c ss W 0 → AnsweringAll T W c ss r
 
 -- whatever the stack holds: these steps depend on the file alone
 pub record AnsweredAll (F : List ℕ) (S : Sections) (c : Context) (ss : List Step) (r : Result Context Refusal) : Type 0 where

@@ -1,6 +1,5 @@
 // The check of a program file (document 01, 'Rows and answers').
 ghost use Rattle.std.specs.Prelude.{◌≡◌, ◌*◌, ◌≤◌, ◌<◌, length};
-ghost use Rattle.answers.specs.Answers.{broken_number};
 ghost use Rattle.answers.specs.Walks.{SameBuffers};
 ghost use Rattle.program_file.specs.Reading.{setting_of};
 ghost use Rattle.typing.specs.Runs.{ReadyRunAt, ToldFirstAt, ToldRunAt};
@@ -54,11 +53,11 @@ impl Answer {
 
     // To a refused one.
     fn refused(refusal: Refusal) -> Answer
-        requires { (refusal.step < 65535) × (refusal.place < 65535) × (refusal.pairs ≤ 4294967295) }
-        ensures { result ≡ record { number = broken_number refusal.broken; step = refusal.step; place = refusal.place; pairs = refusal.pairs } }
+        requires { (refusal.number ≤ 16) × (refusal.step < 65535) × (refusal.place < 65535) × (refusal.pairs ≤ 4294967295) }
+        ensures { result ≡ record { number = refusal.number; step = refusal.step; place = refusal.place; pairs = refusal.pairs } }
     {
         Answer {
-            number: refusal.broken.number(),
+            number: refusal.number as u16,
             step: refusal.step as u16,
             place: refusal.place as u16,
             pairs: refusal.pairs as u32,

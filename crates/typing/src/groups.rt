@@ -37,7 +37,8 @@ pub fn built_ins(
 {
     let mut c = context;
     for i in 0..file.sections.built_ins {
-        c = c.built_in_step(file, bindings, i)?;
+        let work = &mut *bindings.work;
+        c = c.built_in_step(file, &*work, &mut bindings.chains, i)?;
     }
     Ok(c)
 }

@@ -1,5 +1,6 @@
 -- `page` meets its contract. Assumes nothing.
 use Rattle.oat.proofs.LawsBlank.{these_meant}
+use Rattle.program_file.proofs.LawsReading.{number_told}
 use Rattle.program_file.proofs.Theorem.{bytes-of}
 use Rattle.typing.proofs.LawsCheck.{was_read}
 use Rattle.pages.proofs.LawsPage.{page_unread, page_refused, page_ready, page_short, page_printed}
@@ -7,7 +8,7 @@ use Rattle.pages.proofs.page.Goals as goal
 
 pub returns-in_default : goal.returns-in_default
 returns-in_default c =
-    page_unread c.read-read.ensures.value c.in_default.is c.number.ensures c.told.ensures
+    page_unread c.read-read.ensures.value c.in_default.is (number_told c.number.ensures) c.told.ensures
 
 pub check_sections-checked-requires : goal.check_sections-checked-requires
 check_sections-checked-requires c =

@@ -1,6 +1,7 @@
 -- `tally` meets its contract. Assumes nothing.
 use mathlib.Core.Path.{refl}
 use Rattle.oat.proofs.LawsBlank.{these_meant}
+use Rattle.program_file.proofs.LawsReading.{number_told}
 use Rattle.program_file.proofs.Theorem.{bytes-of}
 use Rattle.typing.proofs.LawsCheck.{was_read}
 use Rattle.tallies.proofs.LawsTally.{tally_unread, tally_refused, tally_ready, tally_short, tally_written}
@@ -8,7 +9,7 @@ use Rattle.tallies.proofs.tally.Goals as goal
 
 pub returns-in_default : goal.returns-in_default
 returns-in_default c =
-    tally_unread c.read-read.ensures.value c.in_default.is c.number.ensures c.bare.ensures
+    tally_unread c.read-read.ensures.value c.in_default.is (number_told c.number.ensures) c.bare.ensures
 
 pub check_sections-checked-requires : goal.check_sections-checked-requires
 check_sections-checked-requires c =

@@ -6,11 +6,11 @@ use Rattle.steps.proofs.context.Context.built_in_step.Goals as goal
 pub is_formed-requires : goal.is_formed-requires
 is_formed-requires c = search (built_in_entered, rules)
 
-pub returns-then-not-is_formed-clause-told : goal.returns-then-not-is_formed-clause-told
-returns-then-not-is_formed-clause-told c = search (built_in_unformed, rules)
+pub returns-then-not-is_formed : goal.returns-then-not-is_formed
+returns-then-not-is_formed c = search (built_in_unformed, rules)
 
-pub returns-then-not-is_new-clause-told : goal.returns-then-not-is_new-clause-told
-returns-then-not-is_new-clause-told c = search (built_in_known, rules)
+pub returns-then-not-is_new_in : goal.returns-then-not-is_new_in
+returns-then-not-is_new_in c = search (built_in_known, rules)
 
-pub returns-clause-told : goal.returns-clause-told
-returns-clause-told c = search (built_in_new, rules)
+pub returns : goal.returns
+returns c = search (built_in_new, rules)

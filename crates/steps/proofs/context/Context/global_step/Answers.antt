@@ -2,7 +2,7 @@
 use Rattle.std.proofs.lemmas.Bool.{not_from_true, not_from_false}
 use native.Mathlib.Omega.{arith}
 use borrow.Author.Rules.{rules}
-use Rattle.steps.proofs.LawsGlobal.{global_first, global_node, global_counts, global_no, global_some, global_bindable, global_fits, global_taken, global_ok, global_never}
+use Rattle.steps.proofs.LawsGlobal.{global_first, global_node, global_counts, global_no, global_some, global_bindable, global_fits, global_taken, global_ok, global_refused}
 use Rattle.steps.proofs.context.Context.global_step.Goals as goal
 
 pub overflow_add-at : goal.overflow_add-at
@@ -11,8 +11,13 @@ overflow_add-at c = omega (arith, (global_node c.requires).within, c.requires.he
 pub expression-value-requires : goal.expression-value-requires
 expression-value-requires c = global_first c.requires
 
-pub returns-in-Refused-clause-told : goal.returns-in-Refused-clause-told
-returns-in-Refused-clause-told c = global_no c.requires c.expression-value.ensures.told c.in-Refused.is c.summing-after.ensures c.refusal.ensures
+pub handed_up-requires : goal.handed_up-requires
+handed_up-requires c = global_refused c.requires c.expression-value.ensures.told c.in_default.not-Typed
+
+pub returns-in_default-clause-told : goal.returns-in_default-clause-told
+returns-in_default-clause-told c =
+    let refusal = global_refused c.requires c.expression-value.ensures.told c.in_default.not-Typed in
+    global_no c.requires c.expression-value.ensures.told refusal.is c.summing-after.ensures (c.handed_up.ensures.tells _ _ refusal.is)
 
 pub node_x-name-requires : goal.node_x-name-requires
 node_x-name-requires c = global_node c.requires
@@ -21,7 +26,7 @@ pub is_new-requires : goal.is_new-requires
 is_new-requires c = global_some c.requires c.expression-value.ensures.told c.in-Typed.is
 
 pub returns-then-not-is_new-clause-told : goal.returns-then-not-is_new-clause-told
-returns-then-not-is_new-clause-told c = global_taken c.requires c.expression-value.ensures.told c.in-Typed.is c.node_x-name.ensures.0 c.is_new.ensures (not_from_false _ c.if-not-is_new.true) c.summing-after.ensures c.refusal-then-not-is_new.ensures
+returns-then-not-is_new-clause-told c = global_taken c.requires c.expression-value.ensures.told c.in-Typed.is c.node_x-name.ensures.0 c.is_new.ensures (not_from_false _ c.if-not-is_new.true) c.summing-after.ensures c.refusal.ensures
 
 pub bind-requires : goal.bind-requires
 bind-requires c = global_bindable c.requires c.expression-value.ensures.told c.in-Typed.is
@@ -31,9 +36,6 @@ row-requires c = global_fits c.requires c.expression-value.ensures.told c.in-Typ
 
 pub returns-clause-told : goal.returns-clause-told
 returns-clause-told c = global_ok c.requires c.expression-value.ensures.told c.in-Typed.is c.node_x-name.ensures.0 c.is_new.ensures (not_from_true _ c.if-not-is_new.false) c.bind.ensures.bound c.row.ensures c.summing-after.ensures c.with_name.ensures
-
-pub unreachable-requires : goal.unreachable-requires
-unreachable-requires c = global_never c.requires c.expression-value.ensures.told c.in-GoesOn.is
 
 pub with_name-requires : goal.with_name-requires
 with_name-requires c = let counts = global_counts c.requires in search (rules, counts)

@@ -1,8 +1,0 @@
--- `Bindings::leave` meets its contract. The loop keeps: the buffers hold the scope of the height `position`. Assumes nothing.
-use mathlib.Core.Path.{◌≡◌}
-use Prim.Native.Nat.{◌≤◌}
-use Rattle.bindings.specs.Bindings.{Scoped}
-use Rattle.bindings.proofs.Bindings.leave.Given as goal
-
-abbrev pub invariant-loop-position : goal.invariant-loop-position
-invariant-loop-position l = (l.to ≤ l.position) × Scoped l.file l.sections l.self.work.now l.self.chains l.position × (l.self.work ≡ l.fn.self.work)
