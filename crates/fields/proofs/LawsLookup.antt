@@ -2,18 +2,22 @@
 use mathlib.Core.Path.{◌≡◌, refl, ap, ap₂, sym, subst, ◌∙◌}
 use mathlib.Core.Bool.{Bool, true, false}
 use mathlib.Core.List.{List}
-use Prim.Native.Nat.{ℕ, zero, suc, ◌+◌, ◌-◌, ◌≤◌, ◌<◌}
+use Prim.Native.Nat.{ℕ, zero, suc, ◌+◌, ◌-◌, ◌*◌, ◌≤◌, ◌<◌}
 use native.Mathlib.Omega.{arith}
-use lib.ListN.{length}
+use mir.Syntax.{w8}
+use mir.Val.{Fits}
+use lib.ListN.{length, get_or}
 use lib.Dec.{eqb, ltb}
 use borrow.Author.Tests.{ltb-true, ltb-false, lt-ltb, le-ltb, eq-eqb, ne_eqb}
 use Rattle.oat.specs.Basics.{pick}
-use Rattle.oat.specs.Tables.{Tables, field_at, struct_at}
+use Rattle.oat.specs.Tables.{FieldRecord, Tables, field_at, struct_at}
 use Rattle.oat.specs.Types.{struct_of, found, missing, lookup}
+use Rattle.oat.proofs.LawsBasics.{tabulate_at}
 use Rattle.oat.proofs.LawsTypes.{types-formed}
 use Rattle.oat.proofs.LawsTables.{tables_formed}
 use Rattle.file_sections.specs.declared.Sections.{Sections}
-use Rattle.file_sections.specs.Layout.{tables_of, GoodTables}
+use Rattle.file_sections.specs.Numbers.{number_at}
+use Rattle.file_sections.specs.Layout.{records_at, tables_of, GoodTables}
 use Rattle.file_sections.proofs.LawsRecords.{types_long, fields_long, structs_long}
 use Rattle.type_index.specs.Index.{declared, record_of}
 use Rattle.type_index.proofs.LawsIndex.{first_passes, first_fails, lookup_is}
@@ -63,6 +67,23 @@ module _ (T : Tables) (x first count : ℕ) where
   among_none i h a =
       let none : count - i ≡ 0 = omega arith in
       sym (ap (field_among T x (first + i)) none) ∙ a
+
+-- a number wider than 16 bits is no field's name
+module _ (s : List ℕ) (S : Sections) (b : (k : ℕ) → Fits w8 (get_or s k 0)) where
+  name_narrow : (i : ℕ) → i < S.fields → (field_at (tables_of s S) i).name < 65536
+  unfolding tables_of records_at number_at
+  name_narrow i h =
+      let is : (field_at (tables_of s S) i).name ≡ number_at s (S.fields_at + i * 2 + 0) = ap (λ (r : FieldRecord). r.name) (tabulate_at _ _ i _ h) in
+      let low = b ((S.fields_at + i * 2 + 0) * 2) in
+      let high = b ((S.fields_at + i * 2 + 0) * 2 + 1) in
+      omega (arith, is, low, high)
+
+  pub among_wide : (x first count : ℕ) → first + count ≤ S.fields → 65536 ≤ x → unknown ≡ field_among (tables_of s S) x first count
+  unfolding field_among
+  among_wide x first zero h w = refl
+  among_wide x first (suc count) h w =
+      let own = name_narrow first (omega (arith, h)) in
+      rw (ne_eqb (field_at (tables_of s S) first).name x (λ e. omega (arith, e, own, w)), among_wide x (suc first) count (omega (arith, h)) w) refl
 
 -- the struct record
 module _ (T : Tables) (r x : ℕ) where

@@ -7,7 +7,10 @@ ghost use Rattle.fields.specs.Lookup.{number_of, field_in};
 use file_sections::Sections;
 use file_sections::records::{field_name, field_type, struct_count, struct_first};
 
-// The type of the field `name` among `count` fields from `first` on; the first of that name.
+// The type of the field `name` among `count` fields from `first` on; the first of that name. (Names are compared as the 16 bits that they are in
+// the file, and in a function of its own, so that the loop is short and aligned: as part of a larger function it took 0.9 to 1.7 of the time, by
+// where a program was linked.)
+#[inline(never)]
 pub fn field_among(
     file: &[u8],
     sections: Sections,
@@ -18,8 +21,11 @@ pub fn field_among(
     requires { Laid file.now sections × (first + count ≤ sections.fields) }
     ensures { number_of result ≡ field_among (tables_of file.now sections) name first count }
 {
+    let Ok(narrow) = u16::try_from(name) else {
+        return None;
+    };
     for i in 0..count {
-        if field_name(file, sections, first + i) == name {
+        if field_name(file, sections, first + i) as u16 == narrow {
             return Some(field_type(file, sections, first + i));
         }
     }

@@ -6,7 +6,7 @@ use Prim.Native.Nat.{ℕ, zero, suc, ◌+◌, ◌<◌, ◌≤◌}
 use native.Mathlib.Omega.{arith}
 use lib.ListN.{length}
 use lib.Dec.{T, eqb, leb, ltb}
-use borrow.Author.Tests.{eqb-true, eqb-false, leb-true, ne_eqb, lt-leb}
+use borrow.Author.Tests.{eqb-true, eqb-false, leb-true, eq-eqb, ne_eqb, lt-leb}
 use Rattle.oat.specs.Basics.{pick}
 use Rattle.oat.specs.Tables.{Tables}
 use Rattle.oat.specs.TypeRules.{kind_at, is_reference_kind}
@@ -36,6 +36,13 @@ outside a k b h = go (leb a k) refl
     go : (t : Bool) → leb a k ≡ t → (t && leb k b) ≡ false
     go true e = lt-leb k b (h (leb-true a k e))
     go false e = refl
+
+-- a choice by whether two numbers are equal
+pub picked : {A : Type 0} (a b : ℕ) (x y : A) → a ≡ b → x ≡ pick (eqb a b) x y
+picked a b x y e = rw (eq-eqb a b e)
+
+pub not_picked : {A : Type 0} (a b : ℕ) (x y : A) → (a ≡ b → ⊥) → y ≡ pick (eqb a b) x y
+not_picked a b x y h = rw (ne_eqb a b h)
 
 -- the type t: its kind, where there is such a type, answers what is asked of it
 pub kind_asked : (T : Tables) (t r q : ℕ) → r ≡ kind_or T t → q < 65536 → eqb r q ≡ has_kind T t q

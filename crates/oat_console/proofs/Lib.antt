@@ -1,3 +1,4 @@
+pub mod LawsSame
 pub mod LawsSum
 pub mod LawsNumbers
 pub mod LawsInput

@@ -22,7 +22,7 @@ fn type_in_row(rows: &[u16], node: usize) -> usize
 }
 
 // The node is an expression.
-#[tactic(auto, using(crate::proofs::LawsWalk::kind_tells))]
+#[tactic(auto, using(crate::proofs::LawsWalk::kind_tells), unfolding(oat::specs::Nodes::is_expression_kind))]
 fn is_counted(file: &[u8], sections: Sections, node: usize) -> bool
     requires { Has file.now sections node sections.nodes }
     ensures { result ≡ is_expression (tables_of file.now sections) node }

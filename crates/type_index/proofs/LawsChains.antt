@@ -5,13 +5,14 @@ use mathlib.Core.Bool.{Bool, true, false≢true}
 use mathlib.Core.List.{List, ◌++◌}
 use mathlib.Core.Logic.{◌⊎◌, inl, inr, ⊎_elim}
 use Prim.Native.Nat.{ℕ, ◌+◌, ◌*◌, ◌%◌, ◌≤◌, ◌<◌}
-use native.Mathlib.Nat.{mod-lt}
+use native.Mathlib.Nat.{not-suc-le-zero, mod-lt}
 use native.Mathlib.Omega.{arith}
 use lib.ListN.{length, get_or, set, take, drop, replicate, length-set}
 use borrow.Rule.Slice.PartMut.{put_mid, post_of}
 use Rattle.std.proofs.lemmas.List.{length-take-le, length-drop, length-replicate, get_or-append_right, get_or_append_left, get_or-replicate}
-use lib.Seq.{get_or-set_other}
+use lib.Seq.{get_or-set_same, get_or-set_other}
 use lib.Dec.{eqb}
+use borrow.Author.Count.{below_more}
 use Rattle.oat.specs.Basics.{pick}
 use Rattle.oat.specs.Tables.{Tables, type_at}
 use Rattle.oat.specs.TypeRules.{kind_at}
@@ -193,7 +194,19 @@ module _ (s : List ℕ) (S : Sections) (i k : ℕ) (R : GoodTables s S) (h : i <
     pub base_chained : Chained index (tables_of s S) i → Chained index' (tables_of s S) (i + 1)
     base_chained C = one_chained s S index index' i i S.structs 1 k true R h is C (ek ∙ bucket_base s S i R h (omega (arith, own, four))) base_low
 
--- no type yet
+-- no type yet: head by head, and all at once
+pub cleared_none : (index : List ℕ) → Cleared index 0
+cleared_none index = record { heads = λ h l. absurd (not-suc-le-zero l) }
+
+pub cleared_more : (index index₀ : List ℕ) (n : ℕ) → n < 64 → length index ≡ length index₀ → 2624 ≤ length index₀ → Cleared index n → Cleared (set index (2048 + n) 0) (n + 1)
+cleared_more index index₀ n l same long c = record {
+  heads = below_more
+      (λ h. get_or (set index (2048 + n) 0) (2048 + h) 0 ≡ 0)
+      n
+      (λ h k. get_or-set_other index (2048 + n) (2048 + h) 0 0 (λ x. omega arith) ∙ c.heads h k)
+      (get_or-set_same index (2048 + n) 0 0 (omega arith));
+}
+
 pub cleared_all : (index part : List ℕ) → 2624 ≤ length index → part ≡ replicate (length (take 64 (drop 2048 index))) 0 → Cleared (put_mid 2048 64 index part) 64
 cleared_all index part long e =
     let before : length (take 2048 index) ≡ 2048 = length-take-le 2048 index (omega arith) in
