@@ -159,8 +159,10 @@ fn function_below(file: &[u8], sections: Sections, index: &[u16], a: usize, b: u
     returns.after(1 + params.pairs)
 }
 
-// `count` parameters of a, from the entry p on, against those of b, from q on, one by one, up to the first that is not below.
+// `count` parameters of a, from the entry p on, against those of b, from q on, one by one, up to the first that is not below. (A function of its
+// own: as part of `below` a question on the deepest types took 1.35 times the stack.)
 #[cycle(below_by_kinds_function_below_kind_below_params_below)]
+#[inline(never)]
 fn params_below(
     file: &[u8],
     sections: Sections,
