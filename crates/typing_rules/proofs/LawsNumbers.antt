@@ -28,11 +28,11 @@ pub data InRange {A : Type 0} (Q : ℕ → Type 0) : Out A → Type 0 where
 
 -- the parts of the definitions keep to the numbers
 module _ {A : Type 0} {Q : ℕ → Type 0} where
-  needs_in : (b : Bool) (q p : ℕ) {o : Out A} → Q p → InRange Q o → InRange Q (needs b p q o)
+  pub needs_in : (b : Bool) (q p : ℕ) {o : Out A} → Q p → InRange Q o → InRange Q (needs b p q o)
   needs_in true q p h r = r
   needs_in false q p h r = no_in p h
 
-  then_in : {B : Type 0} {o : Out B} {k : B → List (Label ℕ) → Out A} → InRange Q o → ((b : B) (L : List (Label ℕ)) → InRange Q (k b L)) → InRange Q (and_then o k)
+  pub then_in : {B : Type 0} {o : Out B} {k : B → List (Label ℕ) → Out A} → InRange Q o → ((b : B) (L : List (Label ℕ)) → InRange Q (k b L)) → InRange Q (and_then o k)
   then_in ok_in f = f _ _
   then_in (no_in p h) f = no_in p h
 
@@ -229,20 +229,65 @@ module _ {Q : ℕ → Type 0} (p8 : Q 8) (p9 : Q 9) (p10 : Q 10) (p11 : Q 11) (p
         needs_in (eqb p 1) n 14 p14 ok_in)
 
 -- the number of a premise
-record Premise (m : ℕ) : Type 0 where
-  least : 7 ≤ m
-  most : m ≤ 16
+pub record Premise (m : ℕ) : Type 0 where
+  pub least : 7 ≤ m
+  pub most : m ≤ 16
 
 premise : (m : ℕ) → 7 ≤ m → m ≤ 16 → Premise m
 premise m h k = record { least = h; most = k }
 
--- a step is refused under 7 to 16
-in-range : (T : Tables) (C : Context ℕ) (s : CheckStep) → InRange Premise (run_step T C s)
-in-range T C s =
-    check_in (premise 8 (omega arith) (omega arith)) (premise 9 (omega arith) (omega arith)) (premise 10 (omega arith) (omega arith))
-    (premise 11 (omega arith) (omega arith)) (premise 12 (omega arith) (omega arith)) (premise 13 (omega arith) (omega arith))
-    (premise 16 (omega arith) (omega arith)) T C (premise 7 (omega arith) (omega arith)) (premise 14 (omega arith) (omega arith))
-    (premise 15 (omega arith) (omega arith)) s
+p7 : Premise 7
+p7 = premise 7 (omega arith) (omega arith)
+
+p8 : Premise 8
+p8 = premise 8 (omega arith) (omega arith)
+
+p9 : Premise 9
+p9 = premise 9 (omega arith) (omega arith)
+
+p10 : Premise 10
+p10 = premise 10 (omega arith) (omega arith)
+
+p11 : Premise 11
+p11 = premise 11 (omega arith) (omega arith)
+
+p12 : Premise 12
+p12 = premise 12 (omega arith) (omega arith)
+
+p13 : Premise 13
+p13 = premise 13 (omega arith) (omega arith)
+
+p14 : Premise 14
+p14 = premise 14 (omega arith) (omega arith)
+
+p15 : Premise 15
+p15 = premise 15 (omega arith) (omega arith)
+
+p16 : Premise 16
+p16 = premise 16 (omega arith) (omega arith)
+
+-- a step is refused under 7 to 16, and so are its parts
+module _ (T : Tables) (C : Context ℕ) where
+  pub expr_in_range : (e : Expr) (n : ℕ) (Γ : Scope ℕ) → InRange Premise (judge T C e n Γ)
+  expr_in_range = expr-in p8 p9 p10 p11 p12 p13 p16 T C
+
+  pub exprs_in_range : (es : Exprs) (n : ℕ) (Γ : Scope ℕ) → InRange Premise (judges T C es n Γ)
+  exprs_in_range = exprs_in p8 p9 p10 p11 p12 p13 p16 T C
+
+  pub condition_in_range : (c : Condition) (m n : ℕ) (Γ : Scope ℕ) → InRange Premise (judge_condition T C c m n Γ)
+  condition_in_range = condition-in p8 p9 p10 p11 p12 p13 p16 T C
+
+  pub vars_in_range : (vs : Vars) (n : ℕ) (Γ : Scope ℕ) → InRange Premise (execute_vars T C vs n Γ)
+  vars_in_range = vars-in p8 p9 p10 p11 p12 p13 p16 T C p7
+
+  pub stmt_in_range : (rt : ℕ) (last : Bool) (s : Stmt) (n : ℕ) (Γ : Scope ℕ) → InRange Premise (execute T C rt last s n Γ)
+  stmt_in_range = stmt-in p8 p9 p10 p11 p12 p13 p16 T C p7 p14 p15
+
+  pub block_in_range : (rt : ℕ) (b : Block) (n : ℕ) (Γ : Scope ℕ) → InRange Premise (execute_block T C rt b n Γ)
+  block_in_range = in_block p8 p9 p10 p11 p12 p13 p16 T C p7 p14 p15
+
+  pub step_in_range : (s : CheckStep) → InRange Premise (run_step T C s)
+  step_in_range = check_in p8 p9 p10 p11 p12 p13 p16 T C p7 p14 p15
 
 -- an expression is refused under 8 to 13 or 16 alone, and so is a condition; the vars of a for besides under 7
 abbrev pub is_of_expression : ℕ → Bool
@@ -283,7 +328,7 @@ on_in k (no_in p h) f = refused_in h
 run_in : (T : Tables) (ss : List CheckStep) (C : Context ℕ) (k : ℕ) → RanInRange (run T C ss k)
 unfolding run
 run_in T [] C k = accepted_in
-run_in T (s ∷ ss) C k = on_in k (in-range T C s) λ E L. segment_in _ (run_in T ss E (suc k))
+run_in T (s ∷ ss) C k = on_in k (step_in_range T C s) λ E L. segment_in _ (run_in T ss E (suc k))
 
 -- what that says of a refusal
 number_in : {m j q : ℕ} → RanInRange (refused m j q) → (7 ≤ m) × (m ≤ 16)
